@@ -1,0 +1,15 @@
+pub mod Cut
+pub mod Lines
+pub mod Name
+pub mod Tree
+pub mod Siblings
+pub mod PyxLine
+pub mod PyxEvent
+pub mod Pyx
+pub mod Plain
+pub mod Body
+pub mod Script
+pub mod Flat
+pub mod Page
+pub mod Desk
+pub mod Transcript

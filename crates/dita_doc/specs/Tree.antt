@@ -1,0 +1,63 @@
+-- The tree of a document and its preorder. An element has a name, attributes and content; a text has characters.
+-- Each node knows in which of the document's origins, and an element in which line, it was written.
+use Rattle.std.specs.Prelude.{◌≡◌, ◌+◌, ◌-◌, ◌^◌, ℕ, zero, suc, Bool, true, false, List, [], ◌∷◌, ◌++◌, length, take, drop, if◌then◌else◌}
+use Rattle.dita_doc.specs.declared.doc.Attribute.{Attribute}
+use Rattle.dita_doc.specs.declared.doc.Node.{Node}
+use Rattle.dita_doc.specs.declared.doc.NodeKind.{NodeKind}
+use Rattle.dita_doc.specs.declared.doc.NodeKind.TheVariants as kinds
+
+-- what an element holds: nothing more; a text and more; or an element, with what it holds, and more
+pub data Content : Type 0 where
+  End : Content
+  Chars : (text : List ℕ) (origin line : ℕ) (rest : Content) → Content
+  Element : (name : List ℕ) (attributes : List Attribute) (origin line : ℕ) (inside rest : Content) → Content
+
+-- the node of an element whose subtree ends before the place `end`, and that of a text
+abbrev pub element_node : List ℕ → List Attribute → ℕ → ℕ → ℕ → Node
+element_node name attributes origin line end = record { kind = kinds.Element; text = name; attributes = attributes; origin = origin; line = line; end = end }
+
+abbrev pub chars_node : List ℕ → ℕ → ℕ → ℕ → Node
+chars_node text origin line end = record { kind = kinds.Chars; text = text; attributes = []; origin = origin; line = line; end = end }
+
+-- how many nodes it has
+abbrev pub size_of : Content → ℕ
+size_of End = 0
+size_of (Chars text origin line rest) = 1 + size_of rest
+size_of (Element name attributes origin line inside rest) = 1 + (size_of inside + size_of rest)
+
+-- the nodes in preorder, the first of them at this place; each tells the place just past its subtree
+abbrev pub nodes_of : Content → ℕ → List Node
+nodes_of End place = []
+nodes_of (Chars text origin line rest) place = chars_node text origin line (place + 1) ∷ nodes_of rest (place + 1)
+nodes_of (Element name attributes origin line inside rest) place =
+    let end = place + 1 + size_of inside in
+    element_node name attributes origin line end ∷ (nodes_of inside (place + 1) ++ nodes_of rest end)
+
+-- the content that at most so many nodes, from this place on, are the preorder of
+abbrev pub is_element : NodeKind → Bool
+is_element kinds.Element = true
+is_element kinds.Chars = false
+
+abbrev pub content_within : ℕ → List Node → ℕ → Content
+content_within zero nodes place = End
+content_within (suc n) [] place = End
+content_within (suc n) (node ∷ nodes) place =
+    let count = node.end - (place + 1) in
+    if is_element node.kind
+    then Element node.text node.attributes node.origin node.line (content_within n (take count nodes) (place + 1)) (content_within n (drop count nodes) node.end)
+    else Chars node.text node.origin node.line (content_within n nodes (place + 1))
+
+-- the content whose preorder the nodes are, where they are one
+abbrev pub content_of : List Node → ℕ → Content
+content_of nodes place = content_within (length nodes) nodes place
+
+-- the nodes are the preorder of a content
+abbrev pub ArePreorder : List Node → ℕ → Type 0
+ArePreorder nodes place = nodes ≡ nodes_of (content_of nodes place) place
+
+-- the tree of a document
+abbrev pub tree_of : List Node → Content
+tree_of nodes = content_of nodes 0
+
+abbrev pub node_limit : ℕ
+node_limit = 2 ^ 32

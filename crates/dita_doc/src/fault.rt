@@ -1,0 +1,73 @@
+//! Faults of texts and of builds.
+
+use crate::list::Text;
+use crate::name::Name;
+
+/// Why a text is no PYX text. The numbers are those of `docs/RULES.md`.
+#[derive(Clone, Copy, Debug, PartialEq, Eq)]
+pub enum PyxCode {
+    BadLine = 1,
+    Entity = 2,
+    AttributePlace = 3,
+    AttributeTwice = 4,
+    Unclosed = 5,
+    CloseMismatch = 6,
+    NoRoot = 7,
+    SecondRoot = 8,
+    TextOutside = 9,
+    TooDeep = 10,
+    TooLong = 11,
+    NotUtf8 = 12,
+}
+
+/// The first faulty line of a text, counted from 1, and its first fault.
+#[derive(Clone, Copy, Debug, PartialEq, Eq)]
+pub struct PyxFault {
+    pub code: PyxCode,
+    pub line: u32,
+}
+
+/// What a build finds wrong in its sources, and goes on. The numbers are those of `docs/RULES.md`.
+#[derive(Clone, Copy, Debug, PartialEq, Eq)]
+pub enum FaultCode {
+    NoClass = 1,
+    BadClass = 2,
+    BadReference = 3,
+    MapMissing = 4,
+    MapCycle = 5,
+    TopicMissing = 6,
+    NotTopic = 7,
+    MapConref = 8,
+    GroupValue = 9,
+    DitavalMissing = 10,
+    DitavalTwice = 11,
+    BadAction = 12,
+    CopyTo = 13,
+    Chunk = 14,
+    NameChanged = 15,
+    BadKeyName = 16,
+    BadScopeName = 17,
+    KeyUndefined = 18,
+    KeyCycle = 19,
+    KeyNoText = 20,
+    ConrefMissing = 21,
+    ConrefType = 22,
+    ConrefCycle = 23,
+    ConrefDepth = 24,
+    RangeEnd = 25,
+    PushPlace = 26,
+    PushTwice = 27,
+    TooManyResolved = 28,
+    LinkNoPage = 29,
+    PageTooLarge = 30,
+    Foreign = 31,
+}
+
+/// A fault of a build, at the document and line of the element as it was written.
+#[derive(Debug, PartialEq, Eq, Drop)]
+pub struct Fault {
+    pub name: Name,
+    pub line: u32,
+    pub code: FaultCode,
+    pub detail: Text,
+}
