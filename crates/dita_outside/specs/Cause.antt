@@ -1,0 +1,23 @@
+-- Why a call on an object of the outside failed: its count of faults rose.
+use Rattle.std.specs.Prelude.{◌+◌, ◌-◌, ◌^◌, ◌≤◌, ℕ, Result, OnErr, IfErr, min}
+use Rattle.dita_doc.specs.declared.stop.Stop.{Stop}
+use Rattle.dita_doc.specs.declared.stop.Stop.TheVariants.{Fault, NoMemory}
+
+-- the count rose, or it stands at the last value of a counter
+abbrev pub Rose : ℕ → ℕ → Type 0
+Rose before now = min (before + 1) (2 ^ 64 - 1) ≤ now
+
+-- the count never falls, and a call fails only where it rose
+pub record HasCause {T E : Type 0} (before now : ℕ) (result : Result T E) : Type 0 where
+  pub later : before ≤ now
+  pub failed : OnErr result (Rose before now)
+
+-- a fact for a fault, and nothing for want of memory
+abbrev pub OnFault : {E : Type 0} → Stop E → Type 0 → Type 0
+OnFault (Fault fault) P = P
+OnFault NoMemory P = Unit {0}
+
+-- the same where memory may be wanting too, which needs no cause
+pub record HasCauseOrNoMemory {T E : Type 0} (before now : ℕ) (result : Result T (Stop E)) : Type 0 where
+  pub later : before ≤ now
+  pub failed : IfErr result (λ stop. OnFault stop (Rose before now))

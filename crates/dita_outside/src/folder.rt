@@ -1,0 +1,68 @@
+//! A folder of the system as an outlet.
+
+ghost use Rattle.std.specs.Prelude.{ℕ, None};
+
+use crate::{Failed, Outlet};
+use dita_doc::{Name, Stop};
+use std::alloc::Global;
+use std::path::Path;
+use std::rt::Files;
+use std::{fs, io};
+
+/// A folder that takes pages as files. It tells no pages, and counts each error of the system.
+///
+/// The folders of a name are made. A file that holds the page's bytes already is left as it is, so that a
+/// rebuild does not touch what did not change. Another page is written beside its place and renamed, so
+/// that no reader sees half of one. Pages of earlier runs stay.
+#[derive(Debug, Drop)]
+pub struct FolderOutlet<R: Files + AllocGlobal + Drop> {
+    rt: R,
+    folder: String,
+    faults: u64,
+}
+
+impl<R: Files + AllocGlobal + Drop> FolderOutlet<R> {
+    pub fn new(rt: R, folder: String) -> FolderOutlet<R> {
+        FolderOutlet {
+            rt,
+            folder,
+            faults: 0,
+        }
+    }
+
+    fn write(&self, path: Path<'_>, beside: &str, bytes: &[u8]) -> io::Result<()> {
+        if let Some(parent) = path.parent() {
+            fs::create_dir_all(&self.rt, parent)?;
+        }
+        fs::write(&self.rt, beside, bytes)?;
+        fs::rename(&self.rt, beside, path)
+    }
+
+    fn holds(&self, path: Path<'_>, bytes: &[u8]) -> bool {
+        match fs::read(&self.rt, path) {
+            Ok(old) => old.as_slice() == bytes,
+            Err(_) => false,
+        }
+    }
+}
+
+impl<R: Files + AllocGlobal + Drop> Outlet for FolderOutlet<R> {
+    ghost pages = { λ _. None };
+
+    ghost faults = { λ o. o.faults };
+
+    fn put_page(&mut self, alloc: Global, name: &Name, bytes: &[u8]) -> Result<(), Stop<Failed>> {
+        let folder = self.folder.as_str();
+        if let Ok(text) = str::from_utf8(name.as_slice()) {
+            let path = format!(in alloc; "{folder}/{text}")?;
+            // A name has no space, so no page stands where this one is written.
+            let beside = format!(in alloc; "{folder}/{text} new")?;
+            let path = Path::new(path.as_str());
+            if self.holds(path, bytes) || self.write(path, beside.as_str(), bytes).is_ok() {
+                return Ok(());
+            }
+        }
+        self.faults = self.faults.saturating_add(1);
+        Err(Stop::Fault(Failed))
+    }
+}

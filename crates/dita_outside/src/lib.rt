@@ -1,0 +1,21 @@
+//! The outside as the program sees it: sources, sinks and outlets, each with a count of its faults.
+//!
+//! What is used above it: a call answers `Failed` only where the object's count rose in it, and then, as
+//! with `NoMemory`, nothing was taken. What an object holds is told by its forms in memory alone.
+#![tactic(auto)]
+
+mod folder;
+mod outlet;
+mod sink;
+mod source;
+#[cfg(test)]
+mod tests;
+
+pub use folder::FolderOutlet;
+pub use outlet::{MemOutlet, Outlet, SureOutlet};
+pub use sink::{MemSink, Sink, StdSink, SureSink};
+pub use source::{MemSource, Source, StdSource, SureSource};
+
+/// The one answer of an object that failed.
+#[derive(Clone, Copy, Debug, PartialEq, Eq)]
+pub struct Failed;

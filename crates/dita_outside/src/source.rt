@@ -1,0 +1,155 @@
+//! Where bytes come from.
+
+ghost use Rattle.std.specs.Prelude.{◌≡◌, ◌≤◌, ℕ, List, Option, None, length};
+ghost use Rattle.std.specs.Io.{ReadsAtMost};
+ghost use Rattle.std.specs.Io.KnownBytes.{ReadConsumes};
+ghost use Rattle.dita_outside.specs.Cause.{HasCause};
+
+use crate::Failed;
+use dita_doc::List as Items;
+use std::io::Read;
+
+/// A source of bytes.
+pub trait Source {
+    /// The bytes that are left, where it tells them.
+    ghost left: { Self → Option (List ℕ) };
+
+    /// How often it failed. The count stands still at the last value of a counter.
+    ghost faults: { Self → ℕ };
+
+    /// Reads some bytes into the buffer, and answers how many. 0 for a buffer that is not empty is the end.
+    fn read(&mut self, into: &mut [u8]) -> Result<usize, Failed>
+        ensures bound { ReadsAtMost result into.new }
+        ensures bytes { ReadConsumes (left self.old) (left self.new) result into.new }
+        ensures cause { HasCause (faults self.old) (faults self.new) result };
+}
+
+/// A source in memory that fails at the calls listed, which are counted from 1.
+#[derive(Debug, Drop)]
+pub struct MemSource {
+    bytes: Items<u8>,
+    place: usize,
+    failing: Items<u32>,
+    calls: u32,
+    faults: u64,
+    ghost inside: { place ≤ length bytes },
+}
+
+impl MemSource {
+    ghost use Rattle.dita_outside.specs.Forms.{source_bytes};
+
+    /// A source of these bytes, which takes no memory.
+    pub fn new(bytes: Items<u8>, failing: Items<u32>) -> MemSource
+        ensures { source_bytes result ≡ bytes }
+    {
+        MemSource {
+            bytes,
+            place: 0,
+            failing,
+            calls: 0,
+            faults: 0,
+        }
+    }
+}
+
+impl Source for MemSource {
+    ghost use Rattle.std.specs.Prelude.{IsTrue, IsErr, ◌↔◌, Some};
+    ghost use Rattle.std.specs.Io.{ReadsAtMost};
+    ghost use Rattle.std.specs.Io.KnownBytes.{ReadConsumes};
+    ghost use Rattle.dita_outside.specs.Cause.{HasCause};
+    ghost use Rattle.dita_outside.specs.Forms.{source_bytes, source_fails};
+
+    ghost left = { λ s. Some (source_bytes s) };
+
+    ghost faults = { λ s. s.faults };
+
+    fn read(&mut self, into: &mut [u8]) -> Result<usize, Failed>
+        ensures bound { ReadsAtMost result into.new }
+        ensures bytes { ReadConsumes (Some (source_bytes self.old)) (Some (source_bytes self.new)) result into.new }
+        ensures cause { HasCause self.old.faults self.new.faults result }
+        // It fails at the calls listed, and at no other.
+        ensures listed { IsErr result ↔ IsTrue (source_fails self.old) }
+    {
+        self.calls = self.calls.saturating_add(1);
+        if self.failing.as_slice().contains(&self.calls) {
+            self.faults = self.faults.saturating_add(1);
+            return Err(Failed);
+        }
+        let mut rest = &self.bytes.as_slice()[self.place..];
+        match rest.read(into) {
+            Ok(count) => {
+                self.place += count;
+                Ok(count)
+            }
+            Err(_) => unreachable!(),
+        }
+    }
+}
+
+/// A source in memory that never fails.
+#[derive(Debug, Drop)]
+pub struct SureSource {
+    bytes: Items<u8>,
+    place: usize,
+    ghost inside: { place ≤ length bytes },
+}
+
+impl SureSource {
+    ghost use Rattle.dita_outside.specs.Forms.{sure_source_bytes};
+
+    /// A source of these bytes, which takes no memory.
+    pub fn new(bytes: Items<u8>) -> SureSource
+        ensures { sure_source_bytes result ≡ bytes }
+    {
+        SureSource { bytes, place: 0 }
+    }
+}
+
+impl Source for SureSource {
+    ghost use Rattle.std.specs.Prelude.{Some};
+    ghost use Rattle.dita_outside.specs.Forms.{sure_source_bytes};
+
+    ghost left = { λ s. Some (sure_source_bytes s) };
+
+    ghost faults = { λ _. 0 };
+
+    fn read(&mut self, into: &mut [u8]) -> Result<usize, Failed> {
+        let mut rest = &self.bytes.as_slice()[self.place..];
+        match rest.read(into) {
+            Ok(count) => {
+                self.place += count;
+                Ok(count)
+            }
+            Err(_) => unreachable!(),
+        }
+    }
+}
+
+/// A reader of the system as a source: it tells no bytes, and counts each error of the reader.
+#[derive(Debug, Drop)]
+pub struct StdSource<R: Read> {
+    reader: R,
+    faults: u64,
+}
+
+impl<R: Read> StdSource<R> {
+    pub fn new(reader: R) -> StdSource<R> {
+        StdSource { reader, faults: 0 }
+    }
+}
+
+impl<R: Read> Source for StdSource<R> {
+    ghost left = { λ _. None };
+
+    ghost faults = { λ s. s.faults };
+
+    fn read(&mut self, into: &mut [u8]) -> Result<usize, Failed> {
+        match self.reader.read(into) {
+            Ok(count) => Ok(count),
+            Err(_) => {
+                self.faults = self.faults.saturating_add(1);
+                Err(Failed)
+            }
+        }
+    }
+}
