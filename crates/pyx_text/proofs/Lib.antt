@@ -1,0 +1,5 @@
+pub mod Lists
+pub mod Made
+pub mod Steps
+pub mod Said
+pub mod Bytes

@@ -1,0 +1,124 @@
+-- The nodes and the open places that some events make, the last event first, and what a machine holds after them.
+use Rattle.std.specs.Prelude.{◌≡◌, ◌+◌, ◌-◌, ◌==◌, ℕ, zero, suc, Bool, List, [], ◌∷◌, ◌++◌, Option, Some, None, Result, Ok, Err, length, take, is_some, slice_index, slice_get, bytes_eq, if◌then◌else◌}
+use Rattle.std.specs.List.{before_first, after_first, list_any}
+use Rattle.dita_doc.specs.declared.doc.Attribute.{Attribute}
+use Rattle.dita_doc.specs.declared.doc.Node.{Node}
+use Rattle.dita_doc.specs.declared.stop.Stop.{Stop}
+use Rattle.dita_doc.specs.declared.stop.Stop.TheVariants.{Fault, NoMemory}
+use Rattle.dita_doc.specs.declared.fault.PyxCode.{PyxCode}
+use Rattle.dita_doc.specs.Tree.{element_node, chars_node}
+use Rattle.dita_doc.specs.PyxLine.{Line, Gives, with_name, unescaped, is_space}
+use Rattle.dita_doc.specs.PyxEvent.{Event, Open, Give, Text, Close, given_names, has_root}
+use Rattle.pyx_text.specs.declared.machine.Machine.{Machine}
+
+-- what an `A` line of these bytes says
+abbrev pub attribute_line : List ℕ → Line
+attribute_line bytes = with_name (before_first is_space bytes) (Gives (before_first is_space bytes) (unescaped (after_first is_space bytes)))
+
+-- what one byte behind a backslash stands for, together with it
+abbrev pub escape : ℕ → List ℕ
+escape b =
+    if b == 110 then 10 ∷ []
+    else if b == 116 then 9 ∷ []
+    else if b == 92 then 92 ∷ []
+    else 92 ∷ b ∷ []
+
+-- the nodes with a text put behind them, unless it is empty
+abbrev pub with_text : List ℕ → List Node → List Node
+with_text [] nodes = nodes
+with_text (b ∷ text) nodes = nodes ++ chars_node (b ∷ text) 0 0 (length nodes + 1) ∷ []
+
+-- the nodes with an element put behind them, whose end is not known yet
+abbrev pub with_element : List ℕ → ℕ → List Node → List Node
+with_element name line nodes = nodes ++ element_node name [] 0 line 0 ∷ []
+
+-- the nodes with one of them changed
+abbrev pub changed_at : ℕ → (Node → Node) → List Node → List Node
+changed_at place change [] = []
+changed_at zero change (node ∷ nodes) = change node ∷ nodes
+changed_at (suc place) change (node ∷ nodes) = node ∷ changed_at place change nodes
+
+abbrev pub giving : Attribute → Node → Node
+giving attribute node = record node { attributes = node.attributes ++ attribute ∷ [] }
+
+abbrev pub ending : ℕ → Node → Node
+ending end node = record node { end = end }
+
+-- the nodes with an attribute given to the last of them
+abbrev pub with_attribute : Attribute → List Node → List Node
+with_attribute attribute nodes = changed_at (length nodes - 1) (giving attribute) nodes
+
+-- the nodes where the subtree of the one at this place is all that stands behind it
+abbrev pub with_end : ℕ → List Node → List Node
+with_end place nodes = changed_at place (ending (length nodes)) nodes
+
+-- the attributes of the last of the nodes, and whether one of them has this name
+abbrev pub attributes_of : Option Node → List Attribute
+attributes_of None = []
+attributes_of (Some node) = node.attributes
+
+abbrev pub attributes_at_hand : List Node → List Attribute
+attributes_at_hand nodes = attributes_of (slice_get nodes (length nodes - 1))
+
+abbrev pub has_name : List ℕ → List Attribute → Bool
+has_name name attributes = list_any (λ a. bytes_eq name a.name) attributes
+
+-- the last of the open places, and those before it
+abbrev pub innermost : List ℕ → ℕ
+innermost places = slice_index places (length places - 1)
+
+abbrev pub outer : List ℕ → List ℕ
+outer places = take (length places - 1) places
+
+-- what some lines have made: nodes, and the places of the elements that are open, the innermost last
+pub record Made : Type 0 where
+  pub nodes : List Node
+  pub places : List ℕ
+
+abbrev pub made_by : List Event → Made
+made_by [] = record { nodes = []; places = [] }
+made_by (Open name line ∷ before) =
+    let made = made_by before in
+    record { nodes = with_element name line made.nodes; places = made.places ++ length made.nodes ∷ [] }
+made_by (Give name value ∷ before) =
+    let made = made_by before in
+    record { nodes = with_attribute (record { name = name; value = value }) made.nodes; places = made.places }
+made_by (Text text ∷ before) =
+    let made = made_by before in
+    record { nodes = with_text text made.nodes; places = made.places }
+made_by (Close name ∷ before) =
+    let made = made_by before in
+    record { nodes = with_end (innermost made.places) made.nodes; places = outer made.places }
+
+-- the text at hand, and the events before it
+abbrev pub text_at : List Event → List ℕ
+text_at [] = []
+text_at (Open name line ∷ before) = []
+text_at (Give name value ∷ before) = []
+text_at (Text text ∷ before) = text
+text_at (Close name ∷ before) = []
+
+abbrev pub settled : List Event → List Event
+settled [] = []
+settled (Open name line ∷ before) = Open name line ∷ before
+settled (Give name value ∷ before) = Give name value ∷ before
+settled (Text text ∷ before) = before
+settled (Close name ∷ before) = Close name ∷ before
+
+-- what a machine holds after these events
+pub record HasRead (machine : Machine) (before : List Event) : Type 0 where
+  pub nodes : machine.nodes.items ≡ (made_by (settled before)).nodes
+  pub places : machine.places.items ≡ (made_by (settled before)).places
+  pub text : machine.text.items ≡ text_at before
+  pub fresh : machine.fresh ≡ is_some (given_names before)
+  pub rooted : machine.rooted ≡ has_root before
+
+-- a machine that has read some lines
+abbrev pub IsReading : Machine → Type 0
+IsReading machine = (before : List Event) × HasRead machine before
+
+-- a step is the first fault, where there is one, and else leads to what comes next
+abbrev pub StepsTo : Result Unit (Stop PyxCode) → Option PyxCode → Type 0 → Type 0
+StepsTo (Ok x) fault next = (fault ≡ None) × next
+StepsTo (Err (Fault code)) fault next = fault ≡ Some code
+StepsTo (Err NoMemory) fault next = Unit {0}

@@ -1,0 +1,158 @@
+//! Texts with what they stand for, derived by hand from the rules of PYX.
+
+use crate::{is_plain, read_pyx};
+use dita_doc::{Name, NodeKind, PyxCode, PyxFault, Stop, Text, is_name};
+use std::alloc::{AllocError, Global};
+use std::test::Fail;
+
+fn name(alloc: Global) -> Result<Name, AllocError> {
+    let bytes = b"t.dita".as_slice();
+    if is_name(bytes) {
+        Name::new(alloc, Text::from_slice(alloc, bytes)?)
+    } else {
+        Err(AllocError)
+    }
+}
+
+/// The fault of a text, if it has one.
+fn fault(alloc: Global, text: &[u8]) -> Result<Option<PyxFault>, AllocError> {
+    match read_pyx(alloc, &name(alloc)?, text) {
+        Ok(_) => Ok(None),
+        Err(Stop::Fault(fault)) => Ok(Some(fault)),
+        Err(Stop::NoMemory) => Err(AllocError),
+    }
+}
+
+fn at(code: PyxCode, line: u32) -> Option<PyxFault> {
+    Some(PyxFault { code, line })
+}
+
+#[test]
+fn each_fault_has_its_line(rt: HostRuntime) -> Result<(), Fail> {
+    let alloc = rt.alloc();
+    let rows = [
+        (b"(p\nxy\n".as_slice(), PyxCode::BadLine, 2),
+        (b"(p\n(a b\n".as_slice(), PyxCode::BadLine, 2),
+        (b"(p\n\n&lt;\n".as_slice(), PyxCode::Entity, 3),
+        (b"(p\n-\nAid x\n".as_slice(), PyxCode::AttributePlace, 3),
+        (
+            b"(p\nAid x\n?y\nAid z\n".as_slice(),
+            PyxCode::AttributeTwice,
+            4,
+        ),
+        (b"(p\n\n".as_slice(), PyxCode::Unclosed, 2),
+        (b"(p\n(q\n)p\n".as_slice(), PyxCode::CloseMismatch, 3),
+        (b")p".as_slice(), PyxCode::CloseMismatch, 1),
+        (b"".as_slice(), PyxCode::NoRoot, 0),
+        (b"\n\r".as_slice(), PyxCode::NoRoot, 1),
+        (b"(p\n)p\n(p\n)p\n".as_slice(), PyxCode::SecondRoot, 3),
+        (
+            b"- \\n\\t\n(p\n)p\n-x\n".as_slice(),
+            PyxCode::TextOutside,
+            4,
+        ),
+        (b"(p\n-\xff\n)p\n".as_slice(), PyxCode::NotUtf8, 2),
+    ];
+    for (text, code, line) in rows {
+        assert_eq!(rt; fault(alloc, text)?, at(code, line));
+    }
+    Ok(())
+}
+
+#[test]
+fn the_first_fault_of_a_line_counts(rt: HostRuntime) -> Result<(), Fail> {
+    let alloc = rt.alloc();
+    let rows = [
+        (b"x\xff".as_slice(), PyxCode::NotUtf8, 1),
+        (b"A x\n".as_slice(), PyxCode::BadLine, 1),
+        (b")\n".as_slice(), PyxCode::BadLine, 1),
+        (b"(p\n)p\n(\n".as_slice(), PyxCode::BadLine, 3),
+        (
+            b"(p\nAid x\n-a\nAid y\n".as_slice(),
+            PyxCode::AttributePlace,
+            4,
+        ),
+    ];
+    for (text, code, line) in rows {
+        assert_eq!(rt; fault(alloc, text)?, at(code, line));
+    }
+    Ok(())
+}
+
+#[test]
+fn depth_has_a_limit(rt: HostRuntime) -> Result<(), Fail> {
+    let alloc = rt.alloc();
+    let mut text = Vec::new(alloc);
+    for _ in 0..256 {
+        text.extend_from_slice(b"(p\n")?;
+    }
+    assert_eq!(rt; fault(alloc, &text)?, at(PyxCode::Unclosed, 256));
+    text.extend_from_slice(b"(p\n")?;
+    assert_eq!(rt; fault(alloc, &text)?, at(PyxCode::TooDeep, 257));
+    Ok(())
+}
+
+/// The longest text that is all line ends, then a CR and a byte that no text may hold: the CR is no
+/// line, and what comes behind the limit is too long before it is anything else.
+#[test]
+fn length_has_a_limit(rt: HostRuntime) -> Result<(), Fail> {
+    let alloc = rt.alloc();
+    let mut text = Vec::new(alloc);
+    text.push(b'\n')?;
+    for _ in 0..22 {
+        let half = text.clone()?;
+        text.extend_from_slice(&half)?;
+    }
+    text.extend_from_slice(b"\r\xff")?;
+    assert_eq!(rt; fault(alloc, &text)?, at(PyxCode::TooLong, 4_194_305));
+    Ok(())
+}
+
+#[test]
+fn a_text_is_read_as_its_tree(rt: HostRuntime) -> Result<(), Fail> {
+    let alloc = rt.alloc();
+    let text =
+        b"?xml\r\n(to\rpic\nAid a\\tb\nAempty\n-one\nCx\n[\\n two\\\\n\n\n(b\n-\n)b\n-\\q\\\n)topic";
+    let Ok(doc) = read_pyx(alloc, &name(alloc)?, text) else {
+        return Err(AllocError.into());
+    };
+    let nodes = doc.nodes.as_slice();
+    let rows = [
+        (NodeKind::Element, b"topic".as_slice(), 2, 4),
+        (NodeKind::Chars, b"one\n two\\n".as_slice(), 0, 2),
+        (NodeKind::Element, b"b".as_slice(), 9, 3),
+        (NodeKind::Chars, b"\\q\\".as_slice(), 0, 4),
+    ];
+    assert_eq!(rt; nodes.len(), 4);
+    for (node, (kind, text, line, end)) in nodes.iter().zip(rows) {
+        assert_eq!(rt; node.kind, kind);
+        assert_eq!(rt; node.text.as_slice(), text);
+        assert_eq!(rt; (node.origin, node.line, node.end), (0, line, end));
+    }
+    let attributes = nodes[0].attributes.as_slice();
+    assert_eq!(rt; attributes.len(), 2);
+    assert_eq!(rt; attributes[0].name.as_slice(), b"id".as_slice());
+    assert_eq!(rt; attributes[0].value.as_slice(), b"a\tb".as_slice());
+    assert_eq!(rt; attributes[1].name.as_slice(), b"empty".as_slice());
+    assert_eq!(rt; attributes[1].value.as_slice(), b"".as_slice());
+    assert_eq!(rt; doc.origins.as_slice().len(), 1);
+    Ok(())
+}
+
+#[test]
+fn the_plain_form_has_no_more_than_it_says(rt: HostRuntime) {
+    let rows = [
+        (b"(p\nAid x\n-a\n(b\n)b\n-c\n)p\n".as_slice(), true),
+        (b"(p\n)p".as_slice(), true),
+        (b"".as_slice(), true),
+        (b"(p\n\n)p\n".as_slice(), false),
+        (b"(p\nAid\n)p\n".as_slice(), false),
+        (b"(p\n-a\n-b\n)p\n".as_slice(), false),
+        (b"(p\n[a\n)p\n".as_slice(), false),
+        (b"(p\r\n)p\n".as_slice(), false),
+        (b"(p\n-\\n\n)p\n".as_slice(), false),
+    ];
+    for (text, plain) in rows {
+        assert_eq!(rt; is_plain(text), plain);
+    }
+}
