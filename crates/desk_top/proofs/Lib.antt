@@ -1,0 +1,9 @@
+pub mod EndsLaws
+pub mod EntryLaws
+pub mod FlatLaws
+pub mod PageLaws
+pub mod PagesLaws
+pub mod PlaceLaws
+pub mod PutsLaws
+pub mod RunLaws
+pub mod ScriptLaws

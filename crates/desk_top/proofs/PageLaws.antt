@@ -1,0 +1,25 @@
+-- Texts that are written piece by piece.
+use Rattle.std.specs.Prelude.{◌≡◌, ◌+◌, ◌<◌, ℕ, List, [], ◌∷◌, ◌++◌, Result, Ok, Err, length, take, map, codes, is_ok, OnOk, if◌then◌else◌}
+use Rattle.std.specs.List.{flat_map}
+use Rattle.std.proofs.Common.{refl, ◌∙◌, get_or, append_assoc}
+use Rattle.std.proofs.lemmas.List.{take_more, map-append, flat_map_more}
+use Rattle.dita_doc.specs.Page.{line, page_with}
+use Rattle.desk_top.specs.Topics.{page_start, page_end}
+
+-- the last piece, whose result is returned as it is
+pub appended_last : {T E : Type 0} → (result : Result T E) (old new joined whole : List ℕ) → new ≡ (if is_ok result then joined else old) → joined ≡ whole → OnOk result (new ≡ whole)
+appended_last (Ok done) old new joined whole e same = e ∙ same
+appended_last (Err error) old new joined whole e same = tt
+
+-- a piece more for each item
+pub piece_more : {X Y : Type 0} (f : Y → List ℕ) (see : X → Y) (before out new : List ℕ) (items : List X) (i : ℕ) (item : X)
+    → i < length items → item ≡ get_or items i item → out ≡ before ++ flat_map f (map see (take i items)) → new ≡ out ++ f (see item) → new ≡ before ++ flat_map f (map see (take (i + 1) items))
+piece_more f see before out new items i item within is so_far step =
+    rw (step, so_far, flat_map_more f before (map see (take i items)) (see item), take_more items i item within, ← is, map-append see (take i items) (item ∷ [])) refl
+
+regrouped : (start body break end : List ℕ) → start ++ body ++ (break ++ end) ≡ start ++ (body ++ break) ++ end
+regrouped start body break end = simp append_assoc
+
+-- a page is its start, its body and its end
+pub page_with-parts : (title body : List ℕ) → page_start title ++ body ++ page_end ≡ page_with title body
+page_with-parts title body = regrouped (page_start title) body (10 ∷ []) (line (codes "</body></html>"))

@@ -1,0 +1,45 @@
+-- What an outlet took, one part of the pages after another.
+use Rattle.std.specs.Prelude.{◌≤◌, ℕ, [], ◌++◌, Option, Some, None, Result, Ok, Err, IfErr}
+use Rattle.std.proofs.Common.{refl, ap, sym, ◌∙◌, append_assoc, append-nil, arith}
+use Rattle.dita_doc.specs.declared.stop.Stop.{Stop}
+use Rattle.dita_doc.specs.declared.stop.Stop.TheVariants.{Fault, NoMemory}
+use Rattle.dita_outside.specs.Cause.{Rose, OnFault, HasCauseOrNoMemory}
+use Rattle.dita_outside.specs.Pages.{Pages, TakesPages, TakesPagesFront}
+
+-- an outlet that stayed as it was took nothing
+pub takes_none : (a : Option Pages) → TakesPages a a []
+takes_none None = tt
+takes_none (Some a) = sym (append-nil a)
+
+-- pages, and then others
+pub takes_then : (a b c : Option Pages) (xs ys : Pages) → TakesPages a b xs → TakesPages b c ys → TakesPages a c (xs ++ ys)
+takes_then None b c xs ys p q = tt
+takes_then (Some a) None c xs ys p q = absurd p
+takes_then (Some a) (Some b) None xs ys p q = q
+takes_then (Some a) (Some b) (Some c) xs ys p q = q ∙ ap (λ zs. zs ++ ys) p ∙ append_assoc a xs ys
+
+-- the first of no pages, or of any
+pub front_none : (a : Option Pages) (xs : Pages) → TakesPagesFront a a xs
+front_none a xs = ([], xs, refl, takes_none a)
+
+-- all pages, where others were to come
+pub takes_front : (a b : Option Pages) (xs ys : Pages) → TakesPages a b xs → TakesPagesFront a b (xs ++ ys)
+takes_front a b xs ys p = (xs, ys, refl, p)
+
+-- the first of some pages, where others were to come
+pub front_more : (a b : Option Pages) (xs ys : Pages) → TakesPagesFront a b xs → TakesPagesFront a b (xs ++ ys)
+front_more a b xs ys f = (f.0, f.1 ++ ys, ap (λ zs. zs ++ ys) f.2 ∙ append_assoc f.0 f.1 ys, f.3)
+
+-- pages, and then the first of others
+pub takes_then_front : (a b c : Option Pages) (xs ys : Pages) → TakesPages a b xs → TakesPagesFront b c ys → TakesPagesFront a c (xs ++ ys)
+takes_then_front a b c xs ys p f = (xs ++ f.0, f.1, ap (λ zs. xs ++ zs) f.2 ∙ sym (append_assoc xs f.0 f.1), takes_then a b c xs f.0 p f.3)
+
+-- a count that rose from a later value rose from an earlier one too
+fault_from : {T E : Type 0} (a b c : ℕ) (result : Result T (Stop E)) → a ≤ b → IfErr result (λ stop. OnFault stop (Rose b c)) → IfErr result (λ stop. OnFault stop (Rose a c))
+fault_from a b c (Ok x) before f = tt
+fault_from a b c (Err NoMemory) before f = tt
+fault_from a b c (Err (Fault e)) before f = omega arith
+
+-- the cause of the last of several calls is one of them all
+pub cause_from : {T E : Type 0} (a b c : ℕ) (result : Result T (Stop E)) → a ≤ b → HasCauseOrNoMemory b c result → HasCauseOrNoMemory a c result
+cause_from a b c result before h = record { later = omega (arith, h.later); failed = fault_from a b c result before h.failed }

@@ -1,0 +1,26 @@
+use Rattle.std.proofs.Common.{◌+◌, ℕ, List, Some, drop, map, ap, sym, ◌∙◌}
+use Rattle.std.specs.Arc.{arc_value}
+use Rattle.dita_doc.specs.Desk.{entries_at}
+use Rattle.dita_doc.specs.Flat.{is_flat_href}
+use Rattle.dita_doc.specs.Page as pages
+use Rattle.desk_top.specs.declared.entry.Entry.{Entry}
+use Rattle.desk_top.specs.Stored.{state_seen}
+use Rattle.desk_top.specs.Topics.{entry_seen, topic_seen}
+use Rattle.desk_top.proofs.EntryLaws.{with_front, all_at, entry_found, entries_more, map-push}
+use Rattle.desk_top.proofs.desk.Desk.entries_at.Goals as goal
+
+pub invariant_of-push : goal.invariant_of-push
+invariant_of-push c = record {
+  flat = ap is_flat_href c.in_ok-href.ensures.cases ∙ all_at is_flat_href c.args.hrefs.now c.loop-href.href-index c.href-item.result c.requires c.loop-href-test.true c.href-item.is;
+}
+
+pub loop-href-preserved : goal.loop-href-preserved
+loop-href-preserved c =
+    let state = state_seen c.args.self.now in
+    let topic = topic_seen c.in-Some-2.topic in
+    let found = entry_found state c.href-item.result (arc_value c.in-Some.body.now.bytes) topic c.in-Some.ensures (rw c.in-Some-2.is at c.in_ok-topic.ensures)
+    ∙ ap (λ (href : List ℕ). Some (let e : pages.Entry = record { href = href; topic = topic } in e)) (sym c.in_ok-href.ensures.cases) in
+    let rest = entries_at state (drop (c.loop-href.href-index + 1) c.args.hrefs.now) in
+    ap (λ (items : List Entry). with_front (map entry_seen items) rest) c.in_ok-push.ensures.items
+    ∙ ap (λ (front : List pages.Entry). with_front front rest) (map-push entry_seen c.loop-href.entries.items _)
+    ∙ entries_more state (map entry_seen c.loop-href.entries.items) c.args.hrefs.now c.loop-href.href-index c.href-item.result _ _ c.loop-href-test.true c.href-item.is found c.loop-href.invariant

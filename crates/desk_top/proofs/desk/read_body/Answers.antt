@@ -1,0 +1,17 @@
+use Rattle.std.proofs.Common.{ap, sym, ◌∙◌, Ok, List, ℕ}
+use Rattle.dita_doc.specs.declared.doc.Doc.{Doc}
+use Rattle.dita_doc.specs.Body.{nodes_read}
+use Rattle.dita_doc.specs.Pyx.{document_of, nodes_or_fault}
+use Rattle.desk_top.proofs.EntryLaws.{nodes_read_ok, fault_read}
+use Rattle.desk_top.proofs.desk.read_body.Goals as goal
+use Rattle.desk_top.proofs.desk.read_body.Goals.{in-Ok+in_ok-new-in-Ok, in-Err-Fault}
+
+pub invariant_of-result : goal.invariant_of-result
+invariant_of-result c =
+    let kept = sym (ap (λ (bytes : List ℕ). nodes_or_fault (document_of bytes)) c.in_ok-bytes.ensures.ok) in
+    record {
+      reading = elim c.match-read_pyx.branch [
+        | in-Ok+in_ok-new-in-Ok w ↦ ap nodes_read w.read-is ∙ ap (λ (doc : Doc). Ok doc.nodes) w.in_ok-new-in-Ok.ensures.ok ∙ nodes_read_ok w.in-Ok.doc.nodes c.args.bytes (rw c.as_slice.ensures at w.in-Ok.ensures.tree) ∙ kept
+        | in-Err-Fault w ↦ ap nodes_read w.read-is ∙ fault_read w.in-Err-Fault.fault c.args.bytes (rw (c.as_slice.ensures, w.in-Err-Fault.field-0-is) at w.in-Err-Fault.ensures.fault) ∙ kept
+      ];
+    }

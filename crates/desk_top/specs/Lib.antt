@@ -1,0 +1,11 @@
+pub mod CleanRun
+pub mod Ends
+pub mod Lines
+pub mod Places
+pub mod Puts
+pub mod Reads
+pub mod Requests
+pub mod Status
+pub mod Stored
+pub mod Topics
+pub mod Words

@@ -1,0 +1,26 @@
+//! The runs of the program, from the bytes that come in to the pages and the transcript that go out.
+//!
+//! What is used above it: `desk_top` answers the status of the run of its words, and what the source, the
+//! sink and the outlet tell is then what that status says, by one relation.
+#![tactic(auto)]
+
+mod clean;
+mod deliver;
+mod desk;
+mod entry;
+mod flat;
+mod outside;
+mod page;
+mod place;
+mod run;
+mod script;
+mod status;
+#[cfg(test)]
+mod tests;
+mod top;
+mod transcript;
+mod words;
+
+pub use clean::{run_clean, sure_run};
+pub use status::Status;
+pub use top::desk_top;

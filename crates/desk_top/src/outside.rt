@@ -1,0 +1,59 @@
+//! Whole reads and writes over the objects of the outside.
+
+ghost use Rattle.std.specs.Prelude.{◌≡◌, IfOk, OnOk, OnErr, vec_len};
+ghost use Rattle.std.specs.Io.KnownBytes.{Appends};
+ghost use Rattle.dita_outside.specs.Cause.{HasCauseOrNoMemory};
+ghost use Rattle.desk_top.specs.Ends.{AppendsFront};
+ghost use Rattle.desk_top.specs.Reads.{Reads};
+
+use dita_doc::{List as Items, Stop};
+use dita_outside::{Failed, Sink, Source};
+use std::alloc::{AllocError, Global};
+
+// The bytes of one read.
+const PIECE: usize = 65536;
+
+/// Reads a source to its end, or so many bytes of it.
+pub fn read_all<S: Source>(
+    alloc: Global,
+    source: &mut S,
+    limit: usize,
+) -> Result<Items<u8>, Stop<Failed>>
+    ensures ok { IfOk result (λ input. Reads limit (S.left source.old) (S.left source.new) input) }
+    ensures cause { HasCauseOrNoMemory (S.faults source.old) (S.faults source.new) result }
+{
+    let mut buffer = zeros(alloc, PIECE)?;
+    let mut input = Items::new(alloc);
+    while input.len() < limit {
+        let room = buffer.len().min(limit - input.len());
+        let piece = &mut buffer.as_mut_slice()[..room];
+        let count = match source.read(piece) {
+            Ok(count) => count,
+            Err(failed) => return Err(Stop::Fault(failed)),
+        };
+        if count == 0 {
+            return Ok(input);
+        }
+        input.append(&piece[..count])?;
+    }
+    Ok(input)
+}
+
+fn zeros(alloc: Global, count: usize) -> Result<Vec<u8>, AllocError>
+    ensures { IfOk result (λ bytes. vec_len bytes ≡ count) }
+{
+    vec![in alloc; 0u8; count]
+}
+
+/// Writes bytes whole.
+pub fn write_all<K: Sink>(sink: &mut K, bytes: &[u8]) -> Result<(), Stop<Failed>>
+    ensures ok { OnOk result (Appends (K.taken sink.old) (K.taken sink.new) bytes.now) }
+    ensures err { OnErr result (AppendsFront (K.taken sink.old) (K.taken sink.new) bytes.now) }
+    ensures cause { HasCauseOrNoMemory (K.faults sink.old) (K.faults sink.new) result }
+{
+    let mut done = 0;
+    while done < bytes.len() {
+        done += sink.write(&bytes[done..])?;
+    }
+    Ok(())
+}

@@ -1,0 +1,43 @@
+//! The program `dita_desk`: the words of the command, standard input as the source, standard output as the
+//! sink, and the folder `out` as the outlet. Its exit status is that of the run.
+#![tactic(auto)]
+
+use desk_top::{Status, desk_top};
+use dita_outside::{FolderOutlet, StdSink, StdSource};
+use std::alloc::AllocError;
+use std::env;
+use std::process::ExitCode;
+use thiserror::Error;
+
+/// A run that did not end as it should.
+#[derive(Debug, Drop, Error)]
+#[error("dita_desk: {0:?}")]
+struct Ended(Status);
+
+fn main(rt: HostRuntime) -> ExitCode {
+    let status = match run(&rt) {
+        Ok(status) => status,
+        Err(_) => Status::NoMemory,
+    };
+    if status != Status::Done {
+        // Where standard error can't be written, the exit status alone tells.
+        let _ = rt.eprintln(Ended(status));
+    }
+    ExitCode::from(status.number())
+}
+
+fn run(rt: &HostRuntime) -> Result<Status, AllocError> {
+    let alloc = rt.alloc();
+    let mut words = Vec::new(alloc);
+    let Ok(given) = env::args(rt) else {
+        return Err(AllocError);
+    };
+    for word in given {
+        words.push(word)?;
+    }
+    let folder = String::from_str(alloc, "out")?;
+    let mut source = StdSource::new(rt.stdin());
+    let mut sink = StdSink::new(rt.stdout());
+    let mut outlet = FolderOutlet::new(rt.clone()?, folder);
+    Ok(desk_top(alloc, words.as_slice(), &mut source, &mut sink, &mut outlet))
+}
