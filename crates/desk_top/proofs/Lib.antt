@@ -2,8 +2,8 @@ pub mod EndsLaws
 pub mod EntryLaws
 pub mod FlatLaws
 pub mod PageLaws
-pub mod PagesLaws
 pub mod PlaceLaws
 pub mod PutsLaws
 pub mod RunLaws
 pub mod ScriptLaws
+pub mod TakesLaws

@@ -11,7 +11,7 @@ use Rattle.dita_outside.specs.Pages.{Pages}
 use Rattle.desk_top.specs.declared.entry.Entry.{Entry}
 use Rattle.desk_top.specs.Puts.{Puts, PutsFront}
 use Rattle.desk_top.specs.Topics.{entry_seen}
-use Rattle.desk_top.proofs.PagesLaws.{takes_none, takes_then, takes_front, front_more, takes_then_front}
+use Rattle.desk_top.proofs.TakesLaws.{takes_none, takes_then, takes_front, front_more, takes_then_front}
 
 -- nothing was put
 pub puts_none : (number : ℕ) (text : List ℕ) (a : Option Pages) → Puts number [] text text a a

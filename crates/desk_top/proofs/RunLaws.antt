@@ -10,7 +10,7 @@ use Rattle.dita_doc.specs.Page.{Entry, Page, pages_of, page_of, contents_page, l
 use Rattle.dita_doc.specs.Script.{Request}
 use Rattle.dita_doc.specs.Transcript.{entry_text, entries_text, page_line, pages_from, pages_of_reply, transcript_of}
 use Rattle.desk_top.specs.Puts.{Puts, PutsFront, Tells, TellsFront, Answers}
-use Rattle.desk_top.proofs.PagesLaws.{takes_then, takes_then_front, front_more, takes_none}
+use Rattle.desk_top.proofs.TakesLaws.{takes_then, takes_then_front, front_more, takes_none}
 
 -- a build has a page for each topic, and the contents page
 pub length-pages_of : (entries : List Entry) → length (pages_of entries) ≡ length entries + 1

@@ -5,12 +5,26 @@ ghost use Rattle.dita_doc.specs.Tree.{ArePreorder, node_limit};
 
 use crate::list::{List, Text};
 use crate::name::Name;
+use std::alloc::AllocError;
 
 /// An attribute as it was written. An element has no two of one name.
 #[derive(Debug, PartialEq, Eq, Drop)]
 pub struct Attribute {
     pub name: Text,
     pub value: Text,
+}
+
+impl Clone for Attribute {
+    ghost use Rattle.std.specs.Prelude.{◌≡◌};
+
+    ghost is_clone = { λ attribute copy. copy ≡ attribute };
+
+    fn clone(&self) -> Result<Attribute, AllocError> {
+        Ok(Attribute {
+            name: self.name.copy()?,
+            value: self.value.copy()?,
+        })
+    }
 }
 
 #[derive(Clone, Copy, Debug, PartialEq, Eq)]

@@ -32,10 +32,11 @@ pub struct MemOutlet {
 }
 
 impl MemOutlet {
-    ghost use Rattle.dita_outside.specs.Forms.{outlet_pages};
+    ghost use Rattle.dita_outside.specs.Forms.{not_called, outlet_failing, outlet_pages};
 
     pub fn new(alloc: Global, failing: Items<u32>) -> MemOutlet
-        ensures { outlet_pages result ≡ [] }
+        ensures pages { outlet_pages result ≡ [] }
+        ensures failing { outlet_failing result ≡ not_called failing }
     {
         MemOutlet {
             content: Items::new(alloc),
@@ -55,9 +56,9 @@ impl MemOutlet {
 
 impl Outlet for MemOutlet {
     ghost use Rattle.std.specs.Prelude.{◌≡◌, IsTrue, OnOk, IfErr, false, Some};
-    ghost use Rattle.dita_outside.specs.Cause.{HasCauseOrNoMemory, OnFault};
+    ghost use Rattle.dita_outside.specs.Cause.{HasCauseOrNoMemory, OnFault, is_fault};
     ghost use Rattle.dita_outside.specs.Pages.{PutsPage};
-    ghost use Rattle.dita_outside.specs.Forms.{outlet_pages, outlet_fails};
+    ghost use Rattle.dita_outside.specs.Forms.{after_call, is_listed, outlet_failing, outlet_pages};
 
     ghost pages = { λ o. Some (outlet_pages o) };
 
@@ -67,8 +68,9 @@ impl Outlet for MemOutlet {
         ensures page { PutsPage (Some (outlet_pages self.old)) (Some (outlet_pages self.new)) result (name.now, bytes.now) }
         ensures cause { HasCauseOrNoMemory self.old.faults self.new.faults result }
         // It fails at the calls listed, and at no other.
-        ensures failed { IfErr result (λ stop. OnFault stop (IsTrue (outlet_fails self.old))) }
-        ensures took { OnOk result (outlet_fails self.old ≡ false) }
+        ensures failed { IfErr result (λ stop. OnFault stop (IsTrue (is_listed (outlet_failing self.old)))) }
+        ensures took { OnOk result (is_listed (outlet_failing self.old) ≡ false) }
+        ensures counted { outlet_failing self.new ≡ after_call (is_fault result) (outlet_failing self.old) }
     {
         self.calls = self.calls.saturating_add(1);
         if self.failing.as_slice().contains(&self.calls) {

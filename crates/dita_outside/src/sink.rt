@@ -1,6 +1,6 @@
 //! Where output goes.
 
-ghost use Rattle.std.specs.Prelude.{◌≡◌, ◌<◌, ℕ, List, [], Option, None, length, IfOk};
+ghost use Rattle.std.specs.Prelude.{◌≡◌, ◌<◌, ◌-◌, ◌^◌, ℕ, List, [], Option, None, length, IfOk};
 ghost use Rattle.std.specs.Io.{WritesAtMost};
 ghost use Rattle.std.specs.Io.KnownBytes.{WriteAppends};
 ghost use Rattle.dita_outside.specs.Cause.{HasCauseOrNoMemory};
@@ -37,11 +37,13 @@ pub struct MemSink {
 }
 
 impl MemSink {
-    ghost use Rattle.dita_outside.specs.Forms.{sink_bytes};
+    ghost use Rattle.dita_outside.specs.Forms.{not_called, sink_bytes, sink_failing, sink_room};
 
     /// A sink with room without end.
     pub fn new(alloc: Global, failing: Items<u32>) -> MemSink
-        ensures { sink_bytes result ≡ [] }
+        ensures bytes { sink_bytes result ≡ [] }
+        ensures failing { sink_failing result ≡ not_called failing }
+        ensures room { sink_room result ≡ 2 ^ 64 - 1 }
     {
         MemSink {
             content: Items::new(alloc),
@@ -54,7 +56,9 @@ impl MemSink {
 
     /// A sink that takes so many bytes in all, and then fails.
     pub fn with_room(alloc: Global, room: u64) -> MemSink
-        ensures { sink_bytes result ≡ [] }
+        ensures bytes { sink_bytes result ≡ [] }
+        ensures failing { sink_failing result ≡ not_called [] }
+        ensures room { sink_room result ≡ room }
     {
         MemSink {
             content: Items::new(alloc),
@@ -74,11 +78,11 @@ impl MemSink {
 }
 
 impl Sink for MemSink {
-    ghost use Rattle.std.specs.Prelude.{◌≡◌, ◌<◌, IsTrue, IfOk, IfErr, length, true, false, Some};
+    ghost use Rattle.std.specs.Prelude.{◌≡◌, ◌+◌, ◌<◌, IsTrue, IfOk, IfErr, length, true, false, Some};
     ghost use Rattle.std.specs.Io.{WritesAtMost};
     ghost use Rattle.std.specs.Io.KnownBytes.{WriteAppends};
-    ghost use Rattle.dita_outside.specs.Cause.{HasCauseOrNoMemory, OnFault};
-    ghost use Rattle.dita_outside.specs.Forms.{sink_bytes, sink_fails};
+    ghost use Rattle.dita_outside.specs.Cause.{HasCauseOrNoMemory, OnFault, is_fault};
+    ghost use Rattle.dita_outside.specs.Forms.{after_call, sink_bytes, sink_failing, sink_fails, sink_room};
 
     ghost taken = { λ s. Some (sink_bytes s) };
 
@@ -91,7 +95,8 @@ impl Sink for MemSink {
         ensures cause { HasCauseOrNoMemory self.old.faults self.new.faults result }
         // It fails where a call is listed or the room is full, and nowhere else.
         ensures failed { IfErr result (λ stop. OnFault stop (IsTrue (sink_fails self.old bytes.now))) }
-        ensures took { IfOk result (λ _. sink_fails self.old bytes.now ≡ false) }
+        ensures took { IfOk result (λ count. (sink_fails self.old bytes.now ≡ false) × (sink_room self.new + count ≡ sink_room self.old)) }
+        ensures counted { sink_failing self.new ≡ after_call (is_fault result) (sink_failing self.old) }
     {
         self.calls = self.calls.saturating_add(1);
         let is_listed = self.failing.as_slice().contains(&self.calls);

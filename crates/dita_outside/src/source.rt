@@ -36,11 +36,12 @@ pub struct MemSource {
 }
 
 impl MemSource {
-    ghost use Rattle.dita_outside.specs.Forms.{source_bytes};
+    ghost use Rattle.dita_outside.specs.Forms.{not_called, source_bytes, source_failing};
 
     /// A source of these bytes, which takes no memory.
     pub fn new(bytes: Items<u8>, failing: Items<u32>) -> MemSource
-        ensures { source_bytes result ≡ bytes }
+        ensures bytes { source_bytes result ≡ bytes }
+        ensures failing { source_failing result ≡ not_called failing }
     {
         MemSource {
             bytes,
@@ -53,11 +54,11 @@ impl MemSource {
 }
 
 impl Source for MemSource {
-    ghost use Rattle.std.specs.Prelude.{IsTrue, IsErr, ◌↔◌, Some};
+    ghost use Rattle.std.specs.Prelude.{◌≡◌, is_err, Some};
     ghost use Rattle.std.specs.Io.{ReadsAtMost};
     ghost use Rattle.std.specs.Io.KnownBytes.{ReadConsumes};
     ghost use Rattle.dita_outside.specs.Cause.{HasCause};
-    ghost use Rattle.dita_outside.specs.Forms.{source_bytes, source_fails};
+    ghost use Rattle.dita_outside.specs.Forms.{after_call, is_listed, source_bytes, source_failing};
 
     ghost left = { λ s. Some (source_bytes s) };
 
@@ -68,7 +69,8 @@ impl Source for MemSource {
         ensures bytes { ReadConsumes (Some (source_bytes self.old)) (Some (source_bytes self.new)) result into.new }
         ensures cause { HasCause self.old.faults self.new.faults result }
         // It fails at the calls listed, and at no other.
-        ensures listed { IsErr result ↔ IsTrue (source_fails self.old) }
+        ensures listed { is_err result ≡ is_listed (source_failing self.old) }
+        ensures counted { source_failing self.new ≡ after_call (is_err result) (source_failing self.old) }
     {
         self.calls = self.calls.saturating_add(1);
         if self.failing.as_slice().contains(&self.calls) {

@@ -1,4 +1,5 @@
 pub mod Lists
+pub mod Names
 pub mod Made
 pub mod Steps
 pub mod Said

@@ -1,15 +1,12 @@
 -- What events make: the places are of the elements that are open, and the last node has the attributes given last.
-use Rattle.std.proofs.Common.{◌≡◌, ℕ, zero, suc, ◌+◌, ◌-◌, ◌<◌, ◌≤◌, Bool, true, false, ◌||◌, List, [], ◌∷◌, ◌++◌, Option, Some, None, length, drop, slice_get, bytes_eq, sym, refl, ap, ◌∙◌, subst, arith}
+use Rattle.std.proofs.Common.{◌≡◌, ℕ, zero, suc, ◌+◌, ◌-◌, ◌<◌, ◌≤◌, Bool, true, false, List, [], ◌∷◌, ◌++◌, Some, None, length, drop, sym, refl, ap, ◌∙◌, subst, arith}
 use Rattle.std.specs.Prelude.{if◌then◌else◌}
-use Rattle.std.specs.List.{list_any}
 use Rattle.std.proofs.lemmas.List.{append-nil, length_push, length-take, length-append}
-use Rattle.std.proofs.lemmas.List.Folds.{list_any-append}
-use Rattle.dita_doc.specs.declared.doc.Attribute.{Attribute}
 use Rattle.dita_doc.specs.declared.doc.Node.{Node}
 use Rattle.dita_doc.specs.Tree.{chars_node, element_node}
 use Rattle.dita_doc.specs.PyxLine.{Line, Opens, Gives, Says, Closes, Passes, Breaks}
-use Rattle.dita_doc.specs.PyxEvent.{Event, Open, Give, Text, Close, add_text, open_names, given_names, one_more, has_root, after, is_outside}
-use Rattle.pyx_text.specs.Machine.{made_by, with_text, with_element, with_attribute, changed_at, giving, ending, innermost, outer, attributes_of, attributes_at_hand, has_name, text_at, settled}
+use Rattle.dita_doc.specs.PyxEvent.{Event, Open, Give, Text, Close, add_text, open_names, given_names, has_root, after, is_outside}
+use Rattle.pyx_text.specs.Machine.{made_by, with_text, changed_at, giving, ending, innermost, outer, text_at, settled}
 use Rattle.pyx_text.proofs.Lists.{length-changed, innermost_push, outer_push}
 
 -- the name of the element at a place
@@ -98,68 +95,6 @@ settled-open before =
 
 pub settled-depth : (before : List Event) → length (open_names before) ≡ length (made_by (settled before)).places
 settled-depth before = AreAt-length _ (open_names before) _ (settled-open before)
-
--- the attributes of the last node
-slice_get-push : (nodes : List Node) (node : Node) → slice_get (nodes ++ node ∷ []) (length nodes) ≡ Some node
-slice_get-push [] node = refl
-slice_get-push (first ∷ nodes) node = slice_get-push nodes node
-
-attributes-push : (nodes : List Node) (node : Node) → attributes_at_hand (nodes ++ node ∷ []) ≡ node.attributes
-attributes-push nodes node =
-    let at : length (nodes ++ node ∷ []) - 1 ≡ length nodes = omega (arith, length_push nodes node) in
-    ap (λ k. attributes_of (slice_get (nodes ++ node ∷ []) k)) at ∙ ap attributes_of (slice_get-push nodes node)
-
-attributes_at-given : (attribute : Attribute) (nodes : List Node) (place : ℕ) → place < length nodes → attributes_of (slice_get (changed_at place (giving attribute) nodes) place) ≡ attributes_of (slice_get nodes place) ++ attribute ∷ []
-attributes_at-given attribute [] place inside = absurd (omega arith)
-attributes_at-given attribute (node ∷ nodes) zero inside = refl
-attributes_at-given attribute (node ∷ nodes) (suc place) inside = attributes_at-given attribute nodes place (omega arith)
-
-attributes-given : (attribute : Attribute) (nodes : List Node) → 0 < length nodes → attributes_at_hand (with_attribute attribute nodes) ≡ attributes_at_hand nodes ++ attribute ∷ []
-attributes-given attribute nodes some =
-    let at : length (with_attribute attribute nodes) - 1 ≡ length nodes - 1 = omega (arith, length-changed nodes (length nodes - 1) (giving attribute)) in
-    ap (λ k. attributes_of (slice_get (with_attribute attribute nodes) k)) at ∙ attributes_at-given attribute nodes (length nodes - 1) (omega arith)
-
--- the names given so far are those of the last node's attributes
-pub record AreGiven (nodes : List Node) (names : List (List ℕ)) : Type 0 where
-  pub some : 0 < length nodes
-  pub same : (name : List ℕ) → list_any (bytes_eq name) names ≡ has_name name (attributes_at_hand nodes)
-
-AreGiven-open : (name : List ℕ) (line : ℕ) (nodes : List Node) → AreGiven (with_element name line nodes) []
-AreGiven-open name line nodes = record {
-  some = omega (arith, length_push nodes (element_node name [] 0 line 0));
-  same = λ n. ap (has_name n) (sym (attributes-push nodes (element_node name [] 0 line 0)));
-}
-
-or-swap : (a b : Bool) → (a || b) ≡ (b || (a || false))
-or-swap true true = refl
-or-swap true false = refl
-or-swap false true = refl
-or-swap false false = refl
-
-AreGiven-give : (attribute : Attribute) (nodes : List Node) (names : List (List ℕ)) → AreGiven nodes names → AreGiven (with_attribute attribute nodes) (attribute.name ∷ names)
-AreGiven-give attribute nodes names given = record {
-  some = omega (arith, length-changed nodes (length nodes - 1) (giving attribute), given.some);
-  same = λ n.
-      ap (λ rest. bytes_eq n attribute.name || rest) (given.same n)
-      ∙ or-swap (bytes_eq n attribute.name) (has_name n (attributes_at_hand nodes))
-      ∙ sym (list_any-append (λ a. bytes_eq n a.name) (attributes_at_hand nodes) (attribute ∷ []))
-      ∙ ap (has_name n) (sym (attributes-given attribute nodes given.some));
-}
-
-one_more-some : (name : List ℕ) (given : Option (List (List ℕ))) (names : List (List ℕ)) → one_more name given ≡ Some names → (before : List (List ℕ)) × (given ≡ Some before) × (name ∷ before ≡ names)
-one_more-some name None names is = absurd (cc)
-one_more-some name (Some before) names is = (before, refl, cc)
-
-pub made-given : (before : List Event) (names : List (List ℕ)) → given_names before ≡ Some names → AreGiven (made_by before).nodes names
-made-given [] names is = absurd (cc)
-made-given (Open name line ∷ before) [] is = AreGiven-open name line (made_by before).nodes
-made-given (Open name line ∷ before) (n ∷ names) is = absurd (cc)
-made-given (Give name value ∷ before) names is =
-    let more = one_more-some name (given_names before) names is in
-    let attribute : Attribute = record { name = name; value = value } in
-    subst (AreGiven (with_attribute attribute (made_by before).nodes)) more.2 (AreGiven-give attribute (made_by before).nodes more.0 (made-given before more.0 more.1))
-made-given (Text text ∷ before) names is = absurd (cc)
-made-given (Close name ∷ before) names is = absurd (cc)
 
 -- where an attribute may come, no text is at hand
 pub given-settled : (before : List Event) (names : List (List ℕ)) → given_names before ≡ Some names → (settled before ≡ before) × (text_at before ≡ [])

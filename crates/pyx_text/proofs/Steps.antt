@@ -1,7 +1,11 @@
 -- The steps of a machine: where a line is faulty, and what the machine holds after one that is not.
 use Rattle.std.proofs.Common.{◌≡◌, ℕ, zero, suc, ◌<◌, ◌≤◌, Bool, true, false, List, [], ◌∷◌, ◌++◌, Option, Some, None, Ok, Err, ◌⊎◌, inl, inr, length, get_or, bytes_eq, sym, refl, ap, ◌∙◌, subst, arith}
-use Rattle.std.specs.Prelude.{if◌then◌else◌, is_some}
+use Rattle.std.specs.Prelude.{Vec, ◌||◌, if◌then◌else◌, is_some}
 use Rattle.std.specs.List.{list_any}
+use Rattle.std.specs.Ordering.{nat_cmp}
+use Rattle.std.specs.Cmp.Lexicographic.{slice_cmp}
+use Rattle.std.specs.BTreeMap.{is_at}
+use Rattle.std.specs.BTreeSet.{BTreeSet}
 use Rattle.std.proofs.lemmas.Bool.Decides.{nat_tests}
 use Rattle.dita_doc.specs.declared.doc.Attribute.{Attribute}
 use Rattle.dita_doc.specs.declared.doc.Node.{Node}
@@ -10,8 +14,8 @@ use Rattle.dita_doc.specs.PyxLine.{Line, Opens, Gives, Says, Closes, Breaks, is_
 use Rattle.dita_doc.specs.PyxEvent.{Event, add_text, open_names, given_names, one_more, has_root, fault_of, fault_of_open, fault_of_give, fault_of_close, after, is_outside, is_blank}
 use Rattle.dita_doc.specs.Pyx.{ends, is_none_open}
 use Rattle.pyx_text.specs.declared.machine.Machine.{Machine}
-use Rattle.pyx_text.specs.Machine.{made_by, with_text, with_element, with_attribute, with_end, innermost, outer, attributes_at_hand, has_name, settled, HasRead}
-use Rattle.pyx_text.proofs.Made.{AreAt, name_at, settled-open, settled-depth, made-given, given-settled, made-settled, text_at-add, settled-add, given-add, has_root-add}
+use Rattle.pyx_text.specs.Machine.{made_by, with_text, with_element, with_attribute, with_end, innermost, outer, has_name, HasGiven, settled, HasRead}
+use Rattle.pyx_text.proofs.Made.{AreAt, name_at, settled-open, settled-depth, given-settled, made-settled, text_at-add, settled-add, given-add, has_root-add}
 
 -- how many elements are open
 depth_read : (m : Machine) (before : List Event) → HasRead m before → length (open_names before) ≡ length m.places.items
@@ -49,8 +53,8 @@ inner_element m before name read some within = fault_of_inner (has_root before) 
 pub read-opens : (m n : Machine) (number : ℕ) (before : List Event) (name : List ℕ) → HasRead m before
     → n.nodes.items ≡ with_element name number (with_text m.text.items m.nodes.items)
     → n.places.items ≡ m.places.items ++ length (with_text m.text.items m.nodes.items) ∷ []
-    → n.text.items ≡ [] → n.fresh ≡ true → n.rooted ≡ true → HasRead n (after number before (Opens name))
-read-opens m n number before name read nodes places text fresh rooted =
+    → n.text.items ≡ [] → n.fresh ≡ true → n.given.keys ≡ [] → n.rooted ≡ true → HasRead n (after number before (Opens name))
+read-opens m n number before name read nodes places text fresh given rooted =
     let made = made-settled before in
     let put : with_text m.text.items m.nodes.items ≡ (made_by (add_text [] before)).nodes = cc in
     record {
@@ -58,6 +62,7 @@ read-opens m n number before name read nodes places text fresh rooted =
       places = places ∙ (cc);
       text = text;
       fresh = fresh;
+      given = λ other. ap (list_any (is_at (λ k. slice_cmp nat_cmp other k.items))) given;
       rooted = rooted;
     }
 
@@ -79,10 +84,10 @@ fault_of_given name (Some names) again some same = ap (λ b. if b then Some code
 nodes_given : (m : Machine) (before : List Event) (names : List (List ℕ)) → HasRead m before → given_names before ≡ Some names → m.nodes.items ≡ (made_by before).nodes
 nodes_given m before names read is = read.nodes ∙ ap (λ b. (made_by b).nodes) (given-settled before names is).0
 
-pub attribute_fault : (m : Machine) (before : List Event) (name value : List ℕ) (again : Bool) → HasRead m before → m.fresh ≡ true → again ≡ has_name name (attributes_at_hand m.nodes.items) → fault_of before (Gives name value) ≡ (if again then Some codes.AttributeTwice else None)
+pub attribute_fault : (m : Machine) (before : List Event) (name value : List ℕ) (again : Bool) → HasRead m before → m.fresh ≡ true → again ≡ has_name name m.given → fault_of before (Gives name value) ≡ (if again then Some codes.AttributeTwice else None)
 attribute_fault m before name value again read fresh is =
     fault_of_given name (given_names before) again (sym read.fresh ∙ fresh)
-    (λ names given. (made-given before names given).same name ∙ ap (λ nodes. has_name name (attributes_at_hand nodes)) (sym (nodes_given m before names read given)) ∙ sym is)
+    (λ names given. sym (subst (HasGiven m.given) given read.given name) ∙ sym is)
 
 fault_of_late : (name : List ℕ) (given : Option (List (List ℕ))) → is_some given ≡ false → fault_of_give name given ≡ Some codes.AttributePlace
 fault_of_late name None late = refl
@@ -99,10 +104,17 @@ is_some-more : (name : List ℕ) (given : Option (List (List ℕ))) → is_some 
 is_some-more name None = refl
 is_some-more name (Some names) = refl
 
+-- one more name is put where the element is given it
+given-more : {A : Type 0} (name : List ℕ) (old new : BTreeSet (Vec ℕ A)) (names : Option (List (List ℕ))) → HasGiven old names
+    → ((other : List ℕ) → has_name other new ≡ (bytes_eq other name || has_name other old)) → HasGiven new (one_more name names)
+given-more name old new None given more = tt
+given-more name old new (Some names) given more = λ other. more other ∙ ap (λ rest. bytes_eq other name || rest) (given other)
+
 pub read-gives : (m n : Machine) (number : ℕ) (before : List Event) (attribute : Attribute) → HasRead m before → m.fresh ≡ true
     → n.nodes.items ≡ with_attribute attribute m.nodes.items
-    → n.places ≡ m.places → n.text ≡ m.text → n.fresh ≡ m.fresh → n.rooted ≡ m.rooted → HasRead n (after number before (Gives attribute.name attribute.value))
-read-gives m n number before attribute read was nodes places text fresh rooted =
+    → n.places ≡ m.places → n.text ≡ m.text → n.fresh ≡ m.fresh → n.rooted ≡ m.rooted
+    → ((other : List ℕ) → has_name other n.given ≡ (bytes_eq other attribute.name || has_name other m.given)) → HasRead n (after number before (Gives attribute.name attribute.value))
+read-gives m n number before attribute read was nodes places text fresh rooted more =
     let given = some_given (given_names before) (sym read.fresh ∙ was) in
     let same = given-settled before given.0 given.1 in
     record {
@@ -110,6 +122,7 @@ read-gives m n number before attribute read was nodes places text fresh rooted =
       places = ap (λ p. p.items) places ∙ read.places ∙ ap (λ b. (made_by b).places) same.0;
       text = ap (λ t. t.items) text ∙ read.text ∙ same.1;
       fresh = fresh ∙ read.fresh ∙ sym (is_some-more attribute.name (given_names before));
+      given = given-more attribute.name m.given n.given (given_names before) read.given more;
       rooted = rooted ∙ read.rooted;
     }
 
@@ -138,6 +151,7 @@ read-says m n number before text read some nodes places more fresh rooted =
       places = ap (λ v. v.items) places ∙ read.places ∙ ap (λ b. (made_by b).places) (sym (settled-add text before));
       text = more ∙ ap (λ t. t ++ text) read.text ∙ sym (text_at-add text before);
       fresh = fresh ∙ ap is_some (sym (given-add text before));
+      given = subst (HasGiven n.given) (sym (given-add text before)) tt;
       rooted = rooted ∙ read.rooted ∙ sym (has_root-add text before);
     } in
     (rw inside refl, subst (λ b. HasRead n (if b then before else add_text text before)) (sym inside) next)
@@ -188,6 +202,7 @@ read-closes m n number before name read nodes places text fresh rooted =
       places = places ∙ ap outer same;
       text = text;
       fresh = fresh;
+      given = tt;
       rooted = rooted ∙ read.rooted ∙ sym (has_root-add [] before);
     }
 

@@ -1,6 +1,9 @@
 -- The nodes and the open places that some events make, the last event first, and what a machine holds after them.
-use Rattle.std.specs.Prelude.{◌≡◌, ◌+◌, ◌-◌, ◌==◌, ℕ, zero, suc, Bool, List, [], ◌∷◌, ◌++◌, Option, Some, None, Result, Ok, Err, length, take, is_some, slice_index, slice_get, bytes_eq, if◌then◌else◌}
+use Rattle.std.specs.Prelude.{Vec, ◌≡◌, ◌+◌, ◌-◌, ◌==◌, ℕ, zero, suc, Bool, List, [], ◌∷◌, ◌++◌, Option, Some, None, Result, Ok, Err, length, take, is_some, slice_index, bytes_eq, if◌then◌else◌}
 use Rattle.std.specs.List.{before_first, after_first, list_any}
+use Rattle.std.specs.Ordering.{nat_cmp}
+use Rattle.std.specs.Cmp.Lexicographic.{slice_cmp}
+use Rattle.std.specs.BTreeSet.{BTreeSet, contains_by}
 use Rattle.dita_doc.specs.declared.doc.Attribute.{Attribute}
 use Rattle.dita_doc.specs.declared.doc.Node.{Node}
 use Rattle.dita_doc.specs.declared.stop.Stop.{Stop}
@@ -52,16 +55,14 @@ with_attribute attribute nodes = changed_at (length nodes - 1) (giving attribute
 abbrev pub with_end : ℕ → List Node → List Node
 with_end place nodes = changed_at place (ending (length nodes)) nodes
 
--- the attributes of the last of the nodes, and whether one of them has this name
-abbrev pub attributes_of : Option Node → List Attribute
-attributes_of None = []
-attributes_of (Some node) = node.attributes
+-- whether a name is one of a set's
+abbrev pub has_name : {A : Type 0} → List ℕ → BTreeSet (Vec ℕ A) → Bool
+has_name name set = contains_by (λ k. slice_cmp nat_cmp name k.items) set
 
-abbrev pub attributes_at_hand : List Node → List Attribute
-attributes_at_hand nodes = attributes_of (slice_get nodes (length nodes - 1))
-
-abbrev pub has_name : List ℕ → List Attribute → Bool
-has_name name attributes = list_any (λ a. bytes_eq name a.name) attributes
+-- where an attribute may come, a set has the names that the element has so far
+abbrev pub HasGiven : {A : Type 0} → BTreeSet (Vec ℕ A) → Option (List (List ℕ)) → Type 0
+HasGiven set None = Unit {0}
+HasGiven set (Some names) = (name : List ℕ) → has_name name set ≡ list_any (bytes_eq name) names
 
 -- the last of the open places, and those before it
 abbrev pub innermost : List ℕ → ℕ
@@ -111,6 +112,7 @@ pub record HasRead (machine : Machine) (before : List Event) : Type 0 where
   pub places : machine.places.items ≡ (made_by (settled before)).places
   pub text : machine.text.items ≡ text_at before
   pub fresh : machine.fresh ≡ is_some (given_names before)
+  pub given : HasGiven machine.given (given_names before)
   pub rooted : machine.rooted ≡ has_root before
 
 -- a machine that has read some lines

@@ -1,14 +1,15 @@
 //! Nodes from lines: a machine that takes one line after the other.
 
-ghost use Rattle.std.specs.Prelude.{◌≡◌, [], ◌<◌, ◌+◌, ◌^◌, ℕ, List, Ok, length, OnOk, IfOk};
+ghost use Rattle.std.specs.Prelude.{◌≡◌, [], ◌<◌, ◌+◌, ◌^◌, ◌||◌, ℕ, List, Ok, length, bytes_eq, not, OnOk, IfOk};
 ghost use Rattle.dita_doc.specs.PyxLine.{Opens, Gives, Says, Closes, line_of, with_name, unescaped};
 ghost use Rattle.dita_doc.specs.PyxEvent.{Event, fault_of, after};
 ghost use Rattle.dita_doc.specs.Pyx.{ends, goes_on};
-ghost use Rattle.pyx_text.specs.Machine.{HasRead, IsReading, StepsTo, with_text, with_element, with_attribute, with_end, has_name, attributes_at_hand, attribute_line};
+ghost use Rattle.pyx_text.specs.Machine.{HasRead, IsReading, StepsTo, with_text, with_element, with_attribute, with_end, has_name, attribute_line};
 
 use crate::line::{append_unescaped, is_blank, is_line_name, is_utf8, split_at_space, unescape};
 use dita_doc::{Attribute, List as Items, Node, NodeKind, PyxCode, Stop, Text};
 use std::alloc::{AllocError, Global};
+use std::collections::BTreeSet;
 use std::mem;
 
 /// How many elements may be open within one another.
@@ -24,6 +25,9 @@ pub struct Machine {
     text: Vec<u8>,
     /// Whether an attribute of the last node may come.
     fresh: bool,
+    /// The names of the attributes of the element opened last. A walk over the attributes at each of
+    /// them would take a time that is quadratic in their number.
+    given: BTreeSet<Vec<u8>>,
     /// Whether the root was opened.
     rooted: bool,
 }
@@ -37,6 +41,7 @@ impl Machine {
             places: Vec::new(alloc),
             text: Vec::new(alloc),
             fresh: false,
+            given: BTreeSet::new(alloc),
             rooted: false,
         }
     }
@@ -86,6 +91,7 @@ impl Machine {
         self.settle(alloc)?;
         self.places.push(self.nodes.len())?;
         put_element(alloc, &mut self.nodes, number, name)?;
+        self.given.clear();
         self.fresh = true;
         self.rooted = true;
         Ok(())
@@ -105,7 +111,8 @@ impl Machine {
         if !self.fresh {
             return Err(Stop::Fault(PyxCode::AttributePlace));
         }
-        if has_attribute(&self.nodes, name) {
+        let is_new = put_name(alloc, &mut self.given, name)?;
+        if !is_new {
             return Err(Stop::Fault(PyxCode::AttributeTwice));
         }
         let attribute = Attribute {
@@ -232,23 +239,13 @@ fn put_element(
     Ok(())
 }
 
-/// Whether the last node has an attribute of this name.
-fn has_attribute(nodes: &[Node], name: &[u8]) -> bool
-    ensures { result ≡ has_name name.now (attributes_at_hand nodes.now) }
+/// Puts a name among others, and says whether it is new there.
+fn put_name(alloc: Global, names: &mut BTreeSet<Vec<u8>>, name: &[u8]) -> Result<bool, AllocError>
+    ensures added { IfOk result (λ is_new. is_new ≡ not (has_name name.now names.old)) }
+    ensures names { OnOk result ((other : List ℕ) → has_name other names.new ≡ (bytes_eq other name.now || has_name other names.old)) }
 {
-    match nodes.last() {
-        Some(node) => is_given(node.attributes.as_slice(), name),
-        None => false,
-    }
-}
-
-/// Whether one of the attributes has this name.
-fn is_given(attributes: &[Attribute], name: &[u8]) -> bool
-    ensures { result ≡ has_name name.now attributes.now }
-{
-    attributes
-        .iter()
-        .any(|attribute| name == attribute.name.as_slice())
+    let is_new = names.insert(Vec::from_slice(alloc, name)?)?;
+    Ok(is_new)
 }
 
 /// Gives the last node an attribute.

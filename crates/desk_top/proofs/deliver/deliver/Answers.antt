@@ -1,6 +1,6 @@
 use Rattle.std.proofs.Common.{Err, ◌∙◌, arith}
 use Rattle.std.proofs.lemmas.Result.{err_from_is_err_and}
-use Rattle.desk_top.proofs.PagesLaws.{cause_from}
+use Rattle.desk_top.proofs.TakesLaws.{cause_from}
 use Rattle.desk_top.proofs.PutsLaws.{puts_none, puts_then, next_page, first_is_front, next_is_front, last_put, last_not_put}
 use Rattle.desk_top.proofs.deliver.deliver.Goals as goal
 

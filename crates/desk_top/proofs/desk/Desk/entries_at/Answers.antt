@@ -6,7 +6,7 @@ use Rattle.dita_doc.specs.Page as pages
 use Rattle.desk_top.specs.declared.entry.Entry.{Entry}
 use Rattle.desk_top.specs.Stored.{state_seen}
 use Rattle.desk_top.specs.Topics.{entry_seen, topic_seen}
-use Rattle.desk_top.proofs.EntryLaws.{with_front, all_at, entry_found, entries_more, map-push}
+use Rattle.desk_top.proofs.EntryLaws.{with_front, all_at, entry_found, entries_more, entries_stop, entry_absent, map-push}
 use Rattle.desk_top.proofs.desk.Desk.entries_at.Goals as goal
 
 pub invariant_of-push : goal.invariant_of-push
@@ -24,3 +24,8 @@ loop-href-preserved c =
     ap (λ (items : List Entry). with_front (map entry_seen items) rest) c.in_ok-push.ensures.items
     ∙ ap (λ (front : List pages.Entry). with_front front rest) (map-push entry_seen c.loop-href.entries.items _)
     ∙ entries_more state (map entry_seen c.loop-href.entries.items) c.args.hrefs.now c.loop-href.href-index c.href-item.result _ _ c.loop-href-test.true c.href-item.is found c.loop-href.invariant
+
+pub returns-in_default : goal.returns-in_default
+returns-in_default c =
+    let state = state_seen c.args.self.now in
+    entries_stop state (map entry_seen c.loop-href.entries.items) c.args.hrefs.now c.loop-href.href-index c.href-item.result _ c.loop-href-test.true c.href-item.is (entry_absent state c.href-item.result c.in_default.ensures) c.loop-href.invariant

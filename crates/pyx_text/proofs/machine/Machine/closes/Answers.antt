@@ -75,7 +75,7 @@ pub returns : goal.returns
 returns c number before read =
     let m = c.args.self.now in
     let name = c.args.name.now in
-    let n : Machine = record { nodes = c.put_end.new.nodes; places = c.pop.new.self; text = c.settle.new.self.text; fresh = false; rooted = c.settle.new.self.rooted } in
+    let n : Machine = record { nodes = c.put_end.new.nodes; places = c.pop.new.self; text = c.settle.new.self.text; fresh = false; given = c.settle.new.self.given; rooted = c.settle.new.self.rooted } in
     let good : is_line_name name ≡ true = search rules in
     let found : slice_get m.places.items (length m.places.items - 1) ≡ Some c.in-Some.place = search rules in
     let last = some_last m.places.items c.in-Some.place found in

@@ -26,7 +26,7 @@ returns c before read =
     let m = c.args.self.now in
     let name = c.args.name.now in
     let number = c.args.number in
-    let n : Machine = record { nodes = c.put_element.new.nodes; places = c.push.new.self; text = c.settle.new.self.text; fresh = true; rooted = true } in
+    let n : Machine = record { nodes = c.put_element.new.nodes; places = c.push.new.self; text = c.settle.new.self.text; fresh = true; given = c.clear.new.self; rooted = true } in
     let may : ((length m.places.items ≡ 0) × (m.rooted ≡ false)) ⊎ ((0 < length m.places.items) × (length m.places.items < 256)) =
     elim c.if-is_empty.branch [
       | then-is_empty+else-self w ↦ inl (grind (arith, nat_tests), w.if-self.false)
@@ -37,4 +37,4 @@ returns c before read =
     let text : n.text.items ≡ [] = search rules in
     subst (λ line. (fault_of before line ≡ None) × HasRead n (after number before line))
     (sym (named name (Opens name) (sym c.is_line_name.ensures ∙ c.if-not-is_line_name.false)))
-    (may_open m before name read may, read-opens m n number before name read nodes places text refl refl)
+    (may_open m before name read may, read-opens m n number before name read nodes places text refl c.clear.ensures.empty refl)
