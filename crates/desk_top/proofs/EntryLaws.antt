@@ -56,13 +56,6 @@ stored_at-seen documents name =
     ∙ ap (option_map (λ (stored : Stored). stored.bytes)) (find-map stored_seen (λ stored. bytes_eq stored.name name) (reverse documents))
     ∙ twice (find (λ (d : Document). bytes_eq d.name name) (reverse documents))
 
--- nodes that were read are those of the text's document
-pub nodes_read_ok : (nodes : List Node) (text : List ℕ) → AreRead nodes text → Ok nodes ≡ nodes_or_fault (document_of text)
-nodes_read_ok nodes text r = ap Ok r.2 ∙ sym (ap nodes_or_fault (document_of_stands text r.0 r.1))
-
-pub fault_read : (fault : PyxFault) (text : List ℕ) → IsFaultOf (stops.Fault fault) text → Err fault ≡ nodes_or_fault (document_of text)
-fault_read fault text r = sym (ap (λ r. nodes_or_fault (tree_built r)) r)
-
 -- what is found is the newest document's
 pub bytes_found : (documents : List Document) (name : List ℕ) (found : Option Document) → found ≡ find (λ (d : Document). bytes_eq d.name name) (reverse documents)
     → option_map (λ (d : Document). arc_value d.body.bytes) found ≡ option_map (λ (stored : Stored). stored.bytes) (stored_at (map stored_seen documents) name)

@@ -10,10 +10,9 @@ ghost use Rattle.dita_doc.specs.Script.{Put};
 
 use crate::entry::Entry;
 use crate::flat::{flat_map, flat_topic};
-use dita_doc::{Body, Name, NoMemory, Stop, Text};
-use pyx_text::{is_plain, read_pyx};
+use dita_doc::{Body, Name, NoMemory, Text};
+use pyx_text::{is_plain, read_body};
 use std::alloc::{AllocError, Global};
-use std::sync::Arc;
 
 /// The documents that are stored, the newest last. Of one name the newest counts.
 #[derive(Debug, Drop)]
@@ -131,17 +130,4 @@ fn newest<'a>(stored: &'a [Document], name: &Name) -> Option<&'a Document>
     ensures { option_copied result ≡ find (λ document. bytes_eq document.name name.now) (reverse stored.now) }
 {
     stored.iter().rev().find(|document| document.name == *name)
-}
-
-// A body with its reading.
-fn read_body(alloc: Global, name: &Name, bytes: Text) -> Result<Body, NoMemory>
-    ensures { IfOk result (λ body. arc_value body.bytes ≡ bytes) }
-{
-    let read = match read_pyx(alloc, name, bytes.as_slice()) {
-        Ok(doc) => Ok(Arc::new(alloc, doc)?),
-        Err(Stop::Fault(fault)) => Err(fault),
-        Err(Stop::NoMemory) => return Err(NoMemory),
-    };
-    let bytes = Arc::new(alloc, bytes)?;
-    Ok(Body { bytes, read })
 }

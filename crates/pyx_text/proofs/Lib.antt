@@ -3,4 +3,11 @@ pub mod Names
 pub mod Made
 pub mod Steps
 pub mod Said
+pub mod BodyLaws
 pub mod Bytes
+pub mod Utf8
+pub mod Escapes
+pub mod Sound
+pub mod Writable
+pub mod WrittenLines
+pub mod Again

@@ -9,17 +9,21 @@ ghost use Rattle.dita_doc.specs.Tree.{Content};
 ghost use Rattle.dita_doc.specs.Pyx.{StandsFor, document_of};
 ghost use Rattle.pyx_text.specs.Read.{AreRead, IsFaultOf};
 
+mod body;
 mod line;
 mod machine;
 mod plain;
 mod reader;
 #[cfg(test)]
 mod tests;
+mod write;
 
 use crate::reader::Reader;
+pub use body::read_body;
 use dita_doc::{Doc, List as Items, Name, PyxFault, Stop};
 pub use plain::is_plain;
 use std::alloc::Global;
+pub use write::{write_pyx, written_again};
 
 /// Reads a text of PYX lines, of at most 4,194,304 bytes. The document's one origin is `name`.
 ///

@@ -1,6 +1,6 @@
 //! Texts with what they stand for, derived by hand from the rules of PYX.
 
-use crate::{is_plain, read_pyx};
+use crate::{is_plain, read_pyx, write_pyx};
 use dita_doc::{Name, NodeKind, PyxCode, PyxFault, Stop, Text, is_name};
 use std::alloc::{AllocError, Global};
 use std::test::Fail;
@@ -136,6 +136,17 @@ fn a_text_is_read_as_its_tree(rt: HostRuntime) -> Result<(), Fail> {
     assert_eq!(rt; attributes[1].name.as_slice(), b"empty".as_slice());
     assert_eq!(rt; attributes[1].value.as_slice(), b"".as_slice());
     assert_eq!(rt; doc.origins.as_slice().len(), 1);
+    Ok(())
+}
+
+#[test]
+fn a_canonical_text_is_written_as_it_was_read(rt: HostRuntime) -> Result<(), Fail> {
+    let alloc = rt.alloc();
+    let text = b"(topic\nAid a\\tb\nAempty \n(title\n-Hello\n)title\n-x\\ny\n)topic\n".as_slice();
+    let Ok(doc) = read_pyx(alloc, &name(alloc)?, text) else {
+        return Err(AllocError.into());
+    };
+    assert_eq!(rt; write_pyx(alloc, &doc)?.as_slice(), text);
     Ok(())
 }
 

@@ -2,9 +2,9 @@ use Rattle.std.proofs.Common.{ap, sym, ◌∙◌, Ok, List, ℕ}
 use Rattle.dita_doc.specs.declared.doc.Doc.{Doc}
 use Rattle.dita_doc.specs.Body.{nodes_read}
 use Rattle.dita_doc.specs.Pyx.{document_of, nodes_or_fault}
-use Rattle.desk_top.proofs.EntryLaws.{nodes_read_ok, fault_read}
-use Rattle.desk_top.proofs.desk.read_body.Goals as goal
-use Rattle.desk_top.proofs.desk.read_body.Goals.{in-Ok+in_ok-new-in-Ok, in-Err-Fault}
+use Rattle.pyx_text.proofs.BodyLaws.{nodes_read_ok, fault_read}
+use Rattle.pyx_text.proofs.body.read_body.Goals as goal
+use Rattle.pyx_text.proofs.body.read_body.Goals.{in-Ok+in_ok-new-in-Ok, in-Err-Fault}
 
 pub invariant_of-result : goal.invariant_of-result
 invariant_of-result c =
