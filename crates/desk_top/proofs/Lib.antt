@@ -1,9 +1,7 @@
+pub mod AnswerLaws
+pub mod DeliverLaws
 pub mod EndsLaws
-pub mod EntryLaws
-pub mod FlatLaws
-pub mod PageLaws
+pub mod OneHistoryLaws
 pub mod PlaceLaws
-pub mod PutsLaws
 pub mod RunLaws
-pub mod ScriptLaws
 pub mod TakesLaws

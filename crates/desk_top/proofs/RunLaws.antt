@@ -1,40 +1,19 @@
 -- What a run tells of its requests, one after another.
-use Rattle.std.proofs.Common.{◌≡◌, ◌+◌, ◌<◌, ℕ, List, [], ◌∷◌, ◌++◌, Option, length, map, refl, ap, sym, ◌∙◌, arith, append_assoc, append-nil, length-append, subst, suc}
-use Rattle.std.specs.Prelude.{codes}
-use Rattle.std.specs.Fmt.{decimal}
-use Rattle.std.specs.List.{flat_map}
-use Rattle.std.proofs.lemmas.List.{length-map}
+use Rattle.std.proofs.Common.{◌≡◌, ◌+◌, ◌≤◌, ℕ, List, [], ◌∷◌, ◌++◌, Option, length, refl, ap, sym, ◌∙◌, arith, append_assoc, append-nil, length-append, subst, suc}
+use Rattle.std.specs.List.{flat_map, All}
+use Rattle.std.proofs.lemmas.List.Sums.{sum-map, sum_by-cons}
 use Rattle.dita_outside.specs.Pages.{Pages, TakesPages, TakesPagesFront}
-use Rattle.dita_doc.specs.Desk.{Reply, Built, State, next, reply_to, replies_from}
-use Rattle.dita_doc.specs.Page.{Entry, Page, pages_of, page_of, contents_page, line}
-use Rattle.dita_doc.specs.Script.{Request}
-use Rattle.dita_doc.specs.Transcript.{entry_text, entries_text, page_line, pages_from, pages_of_reply, transcript_of}
-use Rattle.desk_top.specs.Puts.{Puts, PutsFront, Tells, TellsFront, Answers}
+use Rattle.dita_doc.specs.Desk.{State, next}
+use Rattle.dita_doc.specs.History.{Entry, sources, history_size}
+use Rattle.dita_doc.specs.Page.{line}
+use Rattle.dita_doc.specs.Request.{text_size}
+use Rattle.dita_doc.specs.Script.{Step, script_limit}
+use Rattle.dita_doc.specs.Transcript.{EntryShown, Totals, entry_text, head_text, end_head, transcript_text}
+use Rattle.std.proofs.lemmas.List.Elements.{All-cons, All-tail, All-append}
+use Rattle.dita_doc.proofs.HistoryLaws.{sources_push, size_push}
+use Rattle.desk_top.specs.Answers.{Answer, answers_from, answer_shown, answers_shown, transcript_of, pages_of_answer, pages_of_answers}
+use Rattle.desk_top.specs.Runs.{IsUtf8Step, IsUtf8Entry, FitsDesk, HasRoom, Answers, AnswersFront, answer_behind, steps_size}
 use Rattle.desk_top.proofs.TakesLaws.{takes_then, takes_then_front, front_more, takes_none}
-
--- a build has a page for each topic, and the contents page
-pub length-pages_of : (entries : List Entry) → length (pages_of entries) ≡ length entries + 1
-length-pages_of entries = omega (arith, length-append (map page_of entries) ((codes "index.html", contents_page entries) ∷ []), length-map entries page_of)
-
--- a page for each thing, seen so, and one more
-pub length-pages_seen : {A : Type 0} (seen : A → Entry) (things : List A) (count : ℕ) → count ≡ length things → count + 1 ≡ length (pages_of (map seen things))
-length-pages_seen seen things count size = omega (arith, length-pages_of (map seen things), length-map things seen)
-
--- what the entry of a reply says, where this is said of the reply
-abbrev pub said : ℕ → List ℕ → List ℕ
-said place words = line (codes "entry " ++ decimal place ++ codes " 1 " ++ decimal (place + 1) ++ codes " " ++ words)
-
--- a build whose entry was said, and whose pages were put
-pub built_told : (place count number : ℕ) (pages : List Page) (reply : Reply) (before told after : List ℕ) (old new : Option Pages) → Built pages ≡ reply → count ≡ length pages → number ≡ place + 1
-    → told ≡ before ++ said place (codes "built " ++ decimal count ++ codes " 0") → Puts number pages told after old new → Tells place reply before after old new
-built_told place count number pages reply before told after old new is size n entry puts = subst (λ (r : Reply). Tells place r before after old new) is (record {
-  told = puts.told ∙ ap (λ text. text ++ flat_map page_line pages) (entry ∙ ap (λ (k : ℕ). before ++ said place (codes "built " ++ decimal k ++ codes " 0")) size) ∙ append_assoc before (said place (codes "built " ++ decimal (length pages) ++ codes " 0")) (flat_map page_line pages);
-  taken = subst (λ (k : ℕ). TakesPages old new (pages_of_reply k (Built pages))) n puts.taken;
-})
-
--- the first of its pages
-pub built_front : (place number : ℕ) (pages : List Page) (reply : Reply) (old new : Option Pages) → Built pages ≡ reply → number ≡ place + 1 → PutsFront number pages old new → TellsFront place reply old new
-built_front place number pages reply old new is n front = subst (λ (r : Reply). TellsFront place r old new) is (subst (λ (k : ℕ). PutsFront k pages old new) n front)
 
 -- what was taken so far of all pages, and what is left of them
 pub record HasTaken (old now : Option Pages) (left all : Pages) : Type 0 where
@@ -63,44 +42,94 @@ taken_front old now new some left all before front = subst (TakesPagesFront old 
 pub all_taken : (old now : Option Pages) (all : Pages) → HasTaken old now [] all → TakesPages old now all
 all_taken old now all before = subst (TakesPages old now) (sym (append-nil before.done) ∙ sym before.whole) before.taken
 
--- a reply to each request
-pub length-replies_from : (state : State) (place : ℕ) (requests : List Request) → length (replies_from state place requests) ≡ length requests
-length-replies_from state place [] = refl
-length-replies_from state place (request ∷ requests) = ap (λ n. suc n) (length-replies_from (next state request) (place + 1) requests)
+-- the answers to what is left behind a history
+abbrev pub answers_behind : List Entry → List Step → List Answer
+answers_behind history left = answers_from (sources history (length history)) (length history) left
 
--- the first requests were answered, and these are left; what was told before them and what is told of them is the whole
-pub record HasAnswered (all : List Request) (place : ℕ) (state : State) (left : List Request) (text : List ℕ) (old now : Option Pages) : Type 0 where
-  pub counted : place + length left ≡ length all
-  pub told : text ++ entries_text place (replies_from state place left) ≡ line (codes "dita transcript 1") ++ entries_text 0 (replies_from [] 0 all)
-  pub taken : HasTaken old now (pages_from place (replies_from state place left)) (pages_from 0 (replies_from [] 0 all))
+-- an answer to each step
+pub length-answers_from : (state : State) (place : ℕ) (steps : List Step) → length (answers_from state place steps) ≡ length steps
+length-answers_from state place [] = refl
+length-answers_from state place (step ∷ steps) = ap (λ n. suc n) (length-answers_from (next state place step.request) (place + 1) steps)
+
+-- behind one entry more
+length_push : (history : List Entry) (entry : Entry) → length (history ++ entry ∷ []) ≡ length history + 1
+length_push history entry = omega (arith, length-append history (entry ∷ []))
+
+pub state_push : (history : List Entry) (entry : Entry) → sources (history ++ entry ∷ []) (length (history ++ entry ∷ [])) ≡ next (sources history (length history)) (length history) entry.request
+state_push history entry = ap (sources (history ++ entry ∷ [])) (length_push history entry) ∙ sources_push history entry
+
+answers_push : (history : List Entry) (entry : Entry) (left : List Step)
+    → answers_behind (history ++ entry ∷ []) left ≡ answers_from (next (sources history (length history)) (length history) entry.request) (length history + 1) left
+answers_push history entry left =
+    ap (λ state. answers_from state (length (history ++ entry ∷ [])) left) (state_push history entry)
+    ∙ ap (λ place. answers_from (next (sources history (length history)) (length history) entry.request) place left) (length_push history entry)
+
+-- the first requests were answered, which are the history, and these are left; what was told before them and what is told of
+-- them is the whole
+pub record HasAnswered (all : List Step) (history : List Entry) (left : List Step) (text : List ℕ) (old now : Option Pages) : Type 0 where
+  pub counted : length history + length left ≡ length all
+  pub told : text ++ flat_map entry_text (answers_shown (length history) (answers_behind history left)) ≡ head_text ++ flat_map entry_text (answers_shown 0 (answers_from [] 0 all))
+  pub taken : HasTaken old now (pages_of_answers (answers_behind history left)) (pages_of_answers (answers_from [] 0 all))
+  pub size : history_size history + steps_size left ≤ script_limit
+  pub utf8 : All IsUtf8Entry history
+  pub rest : All IsUtf8Step left
+
+-- one step more
+pub steps_size_cons : (step : Step) (left : List Step) → steps_size (step ∷ left) ≡ text_size step.request + steps_size left
+steps_size_cons step left =
+    let bytes : Step → ℕ = λ step. text_size step.request in
+    sum-map bytes (step ∷ left) ∙ sum_by-cons bytes step left ∙ ap (λ n. bytes step + n) (sym (sum-map bytes left))
 
 -- none was answered
-pub none_answered : (all : List Request) (text : List ℕ) (old : Option Pages) → text ≡ line (codes "dita transcript 1") → HasAnswered all 0 [] all text old old
-none_answered all text old head = record {
+pub none_answered : (all : List Step) (text : List ℕ) (old : Option Pages) → FitsDesk all → text ≡ head_text → HasAnswered all [] all text old old
+none_answered all text old fits head = record {
   counted = omega arith;
-  told = ap (λ text. text ++ entries_text 0 (replies_from [] 0 all)) head;
-  taken = nothing_taken old (pages_from 0 (replies_from [] 0 all));
+  told = ap (λ text. text ++ flat_map entry_text (answers_shown 0 (answers_from [] 0 all))) head;
+  taken = nothing_taken old (pages_of_answers (answers_from [] 0 all));
+  size = omega (arith, fits.size);
+  utf8 = λ k d within. absurd (omega arith);
+  rest = fits.utf8;
 }
 
--- the place of one that is left
-pub place_within : (all : List Request) (place : ℕ) (state : State) (request : Request) (left : List Request) (text : List ℕ) (old now : Option Pages) → HasAnswered all place state (request ∷ left) text old now → place < length all
-place_within all place state request left text old now before = let c = before.counted in omega arith
+-- there is room for one that is left
+pub room_left : (all : List Step) (history : List Entry) (step : Step) (left : List Step) (text : List ℕ) (old now : Option Pages)
+    → FitsDesk all → HasAnswered all history (step ∷ left) text old now → HasRoom history step
+room_left all history step left text old now fits before = record {
+  few = omega (arith, before.counted, fits.few);
+  size = omega (arith, before.size, steps_size_cons step left);
+  utf8 = before.utf8;
+  this = before.rest 0 step (omega arith);
+}
 
 -- one request more
-pub one_answered : (all : List Request) (place : ℕ) (state later : State) (request : Request) (left : List Request) (text longer : List ℕ) (old now new : Option Pages)
-    → HasAnswered all place state (request ∷ left) text old now → Answers place request state later text longer now new → HasAnswered all (place + 1) later left longer old new
-one_answered all place state later request left text longer old now new before a = subst (λ (s : State). HasAnswered all (place + 1) s left longer old new) (sym a.changed) (record {
-  counted = (let c = before.counted in omega arith);
-  told = ap (λ told. told ++ entries_text (place + 1) (replies_from (next state request) (place + 1) left)) a.told.told
-      ∙ append_assoc text (entry_text place (reply_to state place request)) (entries_text (place + 1) (replies_from (next state request) (place + 1) left)) ∙ before.told;
-  taken = taken_more old now new (pages_of_reply (place + 1) (reply_to state place request)) (pages_from (place + 1) (replies_from (next state request) (place + 1) left)) (pages_from 0 (replies_from [] 0 all)) before.taken a.told.taken;
-})
+pub one_answered : (all : List Step) (history later : List Entry) (step : Step) (left : List Step) (text longer : List ℕ) (old now new : Option Pages)
+    → HasAnswered all history (step ∷ left) text old now → Answers history later step text longer now new → HasAnswered all later left longer old new
+one_answered all history later step left text longer old now new before a =
+    let entry = (answer_behind history step).entry in
+    let next_answers = answers_from (next (sources history (length history)) (length history) step.request) (length history + 1) left in
+    let same : answers_behind (history ++ entry ∷ []) left ≡ next_answers = answers_push history entry left in
+    let longer_by : length (history ++ entry ∷ []) ≡ length history + 1 = length_push history entry in
+    subst (λ (h : List Entry). HasAnswered all h left longer old new) (sym a.grown) (record {
+      counted = omega (arith, before.counted, longer_by);
+      told =
+          ap (λ (place : ℕ). longer ++ flat_map entry_text (answers_shown place (answers_behind (history ++ entry ∷ []) left))) longer_by
+          ∙ ap (λ (answers : List Answer). longer ++ flat_map entry_text (answers_shown (length history + 1) answers)) same
+          ∙ ap (λ told. told ++ flat_map entry_text (answers_shown (length history + 1) next_answers)) a.told
+          ∙ append_assoc text (entry_text (answer_shown (length history) (answer_behind history step))) (flat_map entry_text (answers_shown (length history + 1) next_answers))
+          ∙ before.told;
+      taken = subst (λ (answers : List Answer). HasTaken old new (pages_of_answers answers) (pages_of_answers (answers_from [] 0 all))) (sym same)
+          (taken_more old now new (pages_of_answer (answer_behind history step)) (pages_of_answers next_answers) (pages_of_answers (answers_from [] 0 all)) before.taken a.taken);
+      size = (let more : history_size (history ++ entry ∷ []) ≡ history_size history + text_size step.request = size_push history entry in omega (arith, before.size, more, steps_size_cons step left));
+      utf8 = All-append IsUtf8Entry history (entry ∷ []) before.utf8 (All-cons IsUtf8Entry entry [] (before.rest 0 step (omega arith)) (λ k d within. absurd (omega arith)));
+      rest = All-tail IsUtf8Step step left before.rest;
+    })
 
 -- the answer to one request more was begun
-pub answer_begun : (all : List Request) (place : ℕ) (state : State) (request : Request) (left : List Request) (text : List ℕ) (old now new : Option Pages)
-    → HasAnswered all place state (request ∷ left) text old now → TellsFront place (reply_to state place request) now new → TakesPagesFront old new (pages_from 0 (replies_from [] 0 all))
-answer_begun all place state request left text old now new before front =
-    taken_front old now new (pages_of_reply (place + 1) (reply_to state place request)) (pages_from (place + 1) (replies_from (next state request) (place + 1) left)) (pages_from 0 (replies_from [] 0 all)) before.taken front
+pub answer_begun : (all : List Step) (history : List Entry) (step : Step) (left : List Step) (text : List ℕ) (old now new : Option Pages)
+    → HasAnswered all history (step ∷ left) text old now → AnswersFront history step now new → TakesPagesFront old new (pages_of_answers (answers_from [] 0 all))
+answer_begun all history step left text old now new before front =
+    taken_front old now new (pages_of_answer (answer_behind history step)) (pages_of_answers (answers_from (next (sources history (length history)) (length history) step.request) (length history + 1) left))
+    (pages_of_answers (answers_from [] 0 all)) before.taken front
 
 -- nothing is left
 pub no_more : {A : Type 0} (xs : List A) (size : ℕ) → size ≡ length xs → size ≡ 0 → xs ≡ []
@@ -108,14 +137,19 @@ no_more [] size e none = refl
 no_more (x ∷ xs) size e none = absurd (omega arith)
 
 -- all were answered: their pages were taken
-pub all_answered : (all : List Request) (place : ℕ) (state : State) (text : List ℕ) (old now : Option Pages) → HasAnswered all place state [] text old now → TakesPages old now (pages_from 0 (replies_from [] 0 all))
-all_answered all place state text old now before = all_taken old now (pages_from 0 (replies_from [] 0 all)) before.taken
+pub all_answered : (all : List Step) (history : List Entry) (text : List ℕ) (old now : Option Pages) → HasAnswered all history [] text old now → TakesPages old now (pages_of_answers (answers_from [] 0 all))
+all_answered all history text old now before = all_taken old now (pages_of_answers (answers_from [] 0 all)) before.taken
+
+-- a transcript without rows
+no_rows : (entries : List EntryShown) (totals : Totals) → head_text ++ flat_map entry_text entries ++ line (end_head totals) ≡ transcript_text (record { entries = entries; rows = []; totals = totals })
+no_rows entries totals = ap (λ text. text ++ line (end_head totals)) (sym (append-nil (head_text ++ flat_map entry_text entries)))
 
 -- all were answered, and the end was told
-pub all_told : (all : List Request) (place : ℕ) (state : State) (text whole : List ℕ) (old now : Option Pages) → HasAnswered all place state [] text old now
-    → whole ≡ text ++ line (codes "end " ++ decimal place ++ codes " 0 0") → whole ≡ transcript_of (replies_from [] 0 all)
-all_told all place state text whole old now before end =
-    let count : place ≡ length (replies_from [] 0 all) = (let c = before.counted in omega (arith, length-replies_from [] 0 all)) in
-    let told : text ≡ line (codes "dita transcript 1") ++ entries_text 0 (replies_from [] 0 all) = sym (append-nil text) ∙ before.told in
-    end ∙ ap (λ (t : List ℕ). t ++ line (codes "end " ++ decimal place ++ codes " 0 0")) told
-    ∙ ap (λ (n : ℕ). line (codes "dita transcript 1") ++ entries_text 0 (replies_from [] 0 all) ++ line (codes "end " ++ decimal n ++ codes " 0 0")) count
+pub all_told : (all : List Step) (history : List Entry) (text whole : List ℕ) (count : ℕ) (old now : Option Pages) → HasAnswered all history [] text old now → count ≡ length history
+    → whole ≡ text ++ line (end_head (record { entries = count; made = 0; dropped = 0 })) → whole ≡ transcript_text (transcript_of (answers_from [] 0 all))
+all_told all history text whole count old now before counts end =
+    let many : count ≡ length (answers_from [] 0 all) = omega (arith, before.counted, length-answers_from [] 0 all) in
+    let told : text ≡ head_text ++ flat_map entry_text (answers_shown 0 (answers_from [] 0 all)) = sym (append-nil text) ∙ before.told in
+    end ∙ ap (λ (t : List ℕ). t ++ line (end_head (record { entries = count; made = 0; dropped = 0 }))) told
+    ∙ ap (λ (n : ℕ). (head_text ++ flat_map entry_text (answers_shown 0 (answers_from [] 0 all))) ++ line (end_head (record { entries = n; made = 0; dropped = 0 }))) many
+    ∙ no_rows (answers_shown 0 (answers_from [] 0 all)) (record { entries = length (answers_from [] 0 all); made = 0; dropped = 0 })

@@ -22,6 +22,10 @@ takes_then (Some a) (Some b) (Some c) xs ys p q = q ∙ ap (λ zs. zs ++ ys) p �
 pub front_none : (a : Option Pages) (xs : Pages) → TakesPagesFront a a xs
 front_none a xs = ([], xs, refl, takes_none a)
 
+-- all of them
+pub front_all : (a b : Option Pages) (xs : Pages) → TakesPages a b xs → TakesPagesFront a b xs
+front_all a b xs p = (xs, [], sym (append-nil xs), p)
+
 -- all pages, where others were to come
 pub takes_front : (a b : Option Pages) (xs ys : Pages) → TakesPages a b xs → TakesPagesFront a b (xs ++ ys)
 takes_front a b xs ys p = (xs, ys, refl, p)

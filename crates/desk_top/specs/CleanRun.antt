@@ -1,10 +1,13 @@
 -- What a run of the mode `clean` over some bytes ends with: a status, the pages and the output.
-use Rattle.std.specs.Prelude.{ℕ, List, [], Option, Some, None, codes}
-use Rattle.dita_doc.specs.Desk.{replies_from}
+use Rattle.std.specs.Prelude.{◌++◌, ℕ, List, [], Result, Ok, Err, codes}
+use Rattle.std.specs.Fmt.{decimal}
+use Rattle.dita_doc.specs.declared.fault.ScriptFault.{ScriptFault}
+use Rattle.dita_doc.specs.Faults.{script_code_text}
 use Rattle.dita_doc.specs.Page.{line}
-use Rattle.dita_doc.specs.Script.{Request, script_of}
-use Rattle.dita_doc.specs.Transcript.{pages_from, transcript_of}
+use Rattle.dita_doc.specs.Script.{Step, script_of}
+use Rattle.dita_doc.specs.Transcript.{transcript_text}
 use Rattle.dita_outside.specs.Pages.{Pages}
+use Rattle.desk_top.specs.Answers.{Answer, answers_from, transcript_of, pages_of_answers}
 use Rattle.desk_top.specs.declared.status.Status.{Status}
 use Rattle.desk_top.specs.declared.status.Status.TheVariants as statuses
 
@@ -15,12 +18,18 @@ pub record CleanRun : Type 0 where
 
 -- the bytes read at most: one more than a script has
 abbrev pub read_limit : ℕ
-read_limit = 1048577
+read_limit = 67108865
+
+abbrev pub script_line : ScriptFault → List ℕ
+script_line fault = line (codes "script " ++ script_code_text fault.code ++ codes " " ++ decimal fault.line)
+
+abbrev pub run_answered : List Answer → CleanRun
+run_answered answers = record { status = statuses.Done; pages = pages_of_answers answers; output = transcript_text (transcript_of answers) }
 
 -- a script is answered request by request, from a desk with nothing stored; other bytes are refused
-abbrev pub run_of : Option (List Request) → CleanRun
-run_of None = record { status = statuses.Script; pages = []; output = line (codes "script NotYet 0") }
-run_of (Some requests) = record { status = statuses.Done; pages = pages_from 0 (replies_from [] 0 requests); output = transcript_of (replies_from [] 0 requests) }
+abbrev pub run_of : Result (List Step) ScriptFault → CleanRun
+run_of (Ok steps) = run_answered (answers_from [] 0 steps)
+run_of (Err fault) = record { status = statuses.Script; pages = []; output = script_line fault }
 
-abbrev pub clean_run : List ℕ → CleanRun
+unfoldable pub clean_run : List ℕ → CleanRun
 clean_run input = run_of (script_of input)

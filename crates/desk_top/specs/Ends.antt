@@ -48,8 +48,8 @@ EndsClean old new statuses.Port = ⊥
 
 -- an output was written: whole, and then the status is that of the run; or its beginning, because the sink failed or
 -- memory was wanting
-abbrev pub IsWritten : Option (List ℕ) → Option (List ℕ) → ℕ → ℕ → List ℕ → Status → Status → Type 0
-IsWritten old new before now output status result =
+abbrev pub WritesLast : Option (List ℕ) → Option (List ℕ) → ℕ → ℕ → List ℕ → Status → Status → Type 0
+WritesLast old new before now output status result =
     (Appends old new output × (result ≡ status)) ⊎ (AppendsFront old new output × ((Rose before now × (result ≡ statuses.WriteFault)) ⊎ (result ≡ statuses.NoMemory)))
 
 -- no count rose, and none stands at the last value of a counter

@@ -1,11 +1,9 @@
+pub mod Answers
+pub mod Builds
 pub mod CleanRun
 pub mod Ends
-pub mod Lines
-pub mod Places
 pub mod Puts
 pub mod Reads
-pub mod Requests
+pub mod Runs
 pub mod Status
-pub mod Stored
-pub mod Topics
 pub mod Words

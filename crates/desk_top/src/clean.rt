@@ -1,22 +1,24 @@
 //! The mode `clean`: a script, on one thread, from bytes to pages.
 
-ghost use Rattle.std.specs.Prelude.{◌≡◌, IfOk, OnErr};
+ghost use Rattle.std.specs.Prelude.{◌≡◌, List, IfOk, OnErr};
 ghost use Rattle.dita_outside.specs.Cause.{HasCauseOrNoMemory};
 ghost use Rattle.dita_outside.specs.Pages.{TakesPages, TakesPagesFront};
-ghost use Rattle.desk_top.specs.CleanRun.{clean_run};
-ghost use Rattle.desk_top.specs.Ends.{Outside, EndsClean, IsWritten, NoneFailed, IsSure};
+ghost use Rattle.dita_doc.specs.Script.{Step};
+ghost use Rattle.desk_top.specs.Answers.{IsOneHistory};
+ghost use Rattle.desk_top.specs.CleanRun.{clean_run, script_line};
+ghost use Rattle.desk_top.specs.Ends.{Outside, EndsClean, WritesLast, NoneFailed, IsSure};
 ghost use Rattle.desk_top.specs.declared.status.Status.{Status};
 
 use crate::outside::{read_all, write_all};
 use crate::run::answer_all;
-use crate::script::{SCRIPT_LIMIT, read_script};
 use crate::status::Status;
-use dita_doc::{Stop, Text};
+use dita_doc::{ScriptFault, Stop, Text};
 use dita_outside::{Failed, Outlet, Sink, Source};
-use std::alloc::Global;
+use script_text::read_script;
+use std::alloc::{AllocError, Global};
 
 // One byte more than a script has.
-const READ_LIMIT: usize = SCRIPT_LIMIT + 1;
+const READ_LIMIT: usize = 67_108_865;
 
 /// Reads a script, answers its requests in order, puts the pages of each build into the outlet and writes
 /// the transcript.
@@ -68,18 +70,31 @@ fn answered<O: Outlet>(
     ensures err { OnErr result (TakesPagesFront (O.pages outlet.old) (O.pages outlet.new) (clean_run input.now).pages) }
     ensures cause { HasCauseOrNoMemory (O.faults outlet.old) (O.faults outlet.new) result }
 {
-    match read_script(alloc, input)? {
-        Some(requests) => Ok((Status::Done, answer_all(alloc, requests, outlet)?)),
-        None => Ok((
-            Status::Script,
-            Text::from_slice(alloc, b"script NotYet 0\n")?,
+    match read_script(alloc, input) {
+        Ok(script) => Ok((
+            Status::Done,
+            answer_all(alloc, script.steps.into_vec(), outlet)?,
         )),
+        Err(Stop::Fault(fault)) => Ok((Status::Script, refusal(alloc, fault)?)),
+        Err(Stop::NoMemory) => Err(Stop::NoMemory),
     }
+}
+
+// The one line of a script that is refused.
+fn refusal(alloc: Global, fault: ScriptFault) -> Result<Text, AllocError>
+    ensures { IfOk result (λ text. text ≡ script_line fault) }
+{
+    let code = fault.code.text();
+    let line = fault.line;
+    Text::from_slice(
+        alloc,
+        format!(in alloc; "script {code} {line}\n")?.as_bytes(),
+    )
 }
 
 // The status of a run whose output is written last.
 fn written<K: Sink>(sink: &mut K, output: &[u8], status: Status) -> Status
-    ensures { IsWritten (K.taken sink.old) (K.taken sink.new) (K.faults sink.old) (K.faults sink.new) output.now status result }
+    ensures { WritesLast (K.taken sink.old) (K.taken sink.new) (K.faults sink.old) (K.faults sink.new) output.now status result }
 {
     match write_all(sink, output) {
         Ok(()) => status,
@@ -91,4 +106,10 @@ fn written<K: Sink>(sink: &mut K, output: &[u8], status: Status) -> Status
 /// Over objects that do not fail, a run is done, refuses its script, or wants memory.
 pub fn sure_run()
     ensures { (old new : Outside) (status : Status) → NoneFailed old new → EndsClean old new status → IsSure status }
+{}
+
+/// The transcript of a finished run names one history: the requests in the script's order, each answered as
+/// the desk answers it at its place, and each build over what is stored there.
+pub fn one_history()
+    ensures { (steps : List Step) → IsOneHistory steps }
 {}

@@ -1,84 +1,54 @@
 //! The pages of a build, put into the outlet one by one.
 
-ghost use Rattle.std.specs.Prelude.{◌<◌, ◌^◌, ◌∷◌, [], map, OnOk, OnErr};
-ghost use Rattle.dita_doc.specs.Page.{page_of, pages_of};
+ghost use Rattle.std.specs.Prelude.{◌≤◌, ◌∷◌, [], OnOk, OnErr};
+ghost use Rattle.std.specs.Arc.{arc_value};
+ghost use Rattle.std.specs.List.{All};
+ghost use Rattle.clean_build.specs.Clean.{page_seen, HasPageName};
+ghost use Rattle.clean_build.specs.PageNames.{IsPageName};
+ghost use Rattle.dita_doc.specs.Script.{request_limit};
 ghost use Rattle.dita_outside.specs.Cause.{HasCauseOrNoMemory};
-ghost use Rattle.desk_top.specs.Places.{IsPageName};
-ghost use Rattle.desk_top.specs.Puts.{Puts, PutsFront};
-ghost use Rattle.desk_top.specs.Topics.{entry_seen};
+ghost use Rattle.dita_outside.specs.Pages.{TakesPages, TakesPagesFront, PutsPage};
+ghost use Rattle.desk_top.specs.Answers.{delivered};
+ghost use Rattle.desk_top.specs.Puts.{pages_put};
 
-use crate::entry::Entry;
-use crate::page::{contents_page, push_page_name, topic_page};
 use crate::place::page_place;
-use crate::transcript::push_page;
-use dita_doc::{Stop, Text};
+use dita_doc::{Html, Name, Stop};
 use dita_outside::{Failed, Outlet};
 use std::alloc::Global;
+use std::sync::Arc;
 
-/// Puts the pages of the request of this number in the map's order, the contents page last, and their
-/// lines behind the text. A page is made, put and let go before the next one is made.
+/// Puts the pages of the request of this number, in order.
 pub fn deliver<O: Outlet>(
     alloc: Global,
     number: u32,
-    entries: &[Entry<'_>],
+    pages: &[(Name, Arc<Html>)],
     outlet: &mut O,
-    text: &mut Text,
 ) -> Result<(), Stop<Failed>>
-    requires { number < 2 ^ 16 }
-    ensures ok { OnOk result (Puts number (pages_of (map entry_seen entries.now)) text.old text.new (O.pages outlet.old) (O.pages outlet.new)) }
-    ensures err { OnErr result (PutsFront number (pages_of (map entry_seen entries.now)) (O.pages outlet.old) (O.pages outlet.new)) }
+    requires number { number ≤ request_limit }
+    requires names { All HasPageName pages.now }
+    ensures ok { OnOk result (TakesPages (O.pages outlet.old) (O.pages outlet.new) (pages_put number pages.now)) }
+    ensures err { OnErr result (TakesPagesFront (O.pages outlet.old) (O.pages outlet.new) (pages_put number pages.now)) }
     ensures cause { HasCauseOrNoMemory (O.faults outlet.old) (O.faults outlet.new) result }
 {
-    for entry in entries {
-        put_entry(alloc, number, entry, outlet, text)?;
+    for page in pages {
+        put(alloc, number, &page.0, page.1.bytes.as_slice(), outlet)?;
     }
-    let page = contents_page(alloc, entries)?;
-    put(alloc, number, b"index.html", page.as_slice(), outlet, text)
+    Ok(())
 }
 
-// Puts the page of a topic.
-fn put_entry<O: Outlet>(
-    alloc: Global,
-    number: u32,
-    entry: &Entry<'_>,
-    outlet: &mut O,
-    text: &mut Text,
-) -> Result<(), Stop<Failed>>
-    requires { number < 2 ^ 16 }
-    ensures ok { OnOk result (Puts number (page_of (entry_seen entry.now) ∷ []) text.old text.new (O.pages outlet.old) (O.pages outlet.new)) }
-    ensures err { OnErr result (PutsFront number (page_of (entry_seen entry.now) ∷ []) (O.pages outlet.old) (O.pages outlet.new)) }
-    ensures cause { HasCauseOrNoMemory (O.faults outlet.old) (O.faults outlet.new) result }
-{
-    let page = topic_page(alloc, &entry.topic)?;
-    let mut name = Text::new(alloc);
-    push_page_name(&mut name, entry.href.as_slice())?;
-    put(
-        alloc,
-        number,
-        name.as_slice(),
-        page.as_slice(),
-        outlet,
-        text,
-    )
-}
-
-// Puts a page, and its line behind the text.
+// Puts a page under the folder of its request.
 fn put<O: Outlet>(
     alloc: Global,
     number: u32,
-    name: &[u8],
+    name: &Name,
     page: &[u8],
     outlet: &mut O,
-    text: &mut Text,
 ) -> Result<(), Stop<Failed>>
-    requires number { number < 2 ^ 16 }
+    requires number { number ≤ request_limit }
     requires name { IsPageName name.now }
-    ensures ok { OnOk result (Puts number ((name.now, page.now) ∷ []) text.old text.new (O.pages outlet.old) (O.pages outlet.new)) }
-    ensures err { OnErr result (PutsFront number ((name.now, page.now) ∷ []) (O.pages outlet.old) (O.pages outlet.new)) }
+    ensures page { PutsPage (O.pages outlet.old) (O.pages outlet.new) result (delivered number (name.now, page.now)) }
     ensures cause { HasCauseOrNoMemory (O.faults outlet.old) (O.faults outlet.new) result }
 {
     let place = page_place(alloc, number, name)?;
-    outlet.put_page(alloc, &place, page)?;
-    push_page(alloc, text, name, page.len())?;
-    Ok(())
+    outlet.put_page(alloc, &place, page)
 }

@@ -4,23 +4,18 @@
 //! sink and the outlet tell is then what that status says, by one relation.
 #![tactic(auto)]
 
+mod build;
 mod clean;
 mod deliver;
-mod desk;
-mod entry;
-mod flat;
 mod outside;
-mod page;
 mod place;
 mod run;
-mod script;
 mod status;
 #[cfg(test)]
 mod tests;
 mod top;
-mod transcript;
 mod words;
 
-pub use clean::{run_clean, sure_run};
+pub use clean::{one_history, run_clean, sure_run};
 pub use status::Status;
 pub use top::desk_top;

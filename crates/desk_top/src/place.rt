@@ -1,19 +1,20 @@
 //! Where the outlet keeps a page.
 
-ghost use Rattle.std.specs.Prelude.{◌≡◌, ◌<◌, ◌^◌, ◌++◌, IfOk, codes};
+ghost use Rattle.std.specs.Prelude.{◌≡◌, ◌≤◌, ◌++◌, IfOk, codes};
 ghost use Rattle.std.specs.Fmt.{decimal};
-ghost use Rattle.desk_top.specs.Places.{IsPageName};
+ghost use Rattle.clean_build.specs.PageNames.{IsPageName};
+ghost use Rattle.dita_doc.specs.Script.{request_limit};
 
 use dita_doc::{Name, Text};
 use std::alloc::{AllocError, Global};
 
 /// The name of a page under the folder of its build's request: `b7/index.html`, where the request's number is 7.
-pub fn page_place(alloc: Global, number: u32, page: &[u8]) -> Result<Name, AllocError>
-    requires number { number < 2 ^ 16 }
+pub fn page_place(alloc: Global, number: u32, page: &Name) -> Result<Name, AllocError>
+    requires number { number ≤ request_limit }
     requires page { IsPageName page.now }
     ensures { IfOk result (λ name. name ≡ codes "b" ++ decimal number ++ codes "/" ++ page.now) }
 {
-    let text = placed(alloc, number, page)?;
+    let text = placed(alloc, number, page.as_slice())?;
     Name::new(alloc, text)
 }
 

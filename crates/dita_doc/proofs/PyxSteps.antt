@@ -103,7 +103,7 @@ pub record IsRead (events : List Event) : Type 0 where
   pub rooted : has_root events ≡ true
 
 -- the last judgement, by its two tests
-abbrev ends_by : Bool → Bool → ℕ → List Event → Result (List Event) PyxFault
+abbrev pub ends_by : Bool → Bool → ℕ → List Event → Result (List Event) PyxFault
 ends_by closed rooted number events =
     if closed
     then (if rooted then Ok events else Err (record { code = codes.NoRoot; line = number }))
@@ -119,7 +119,7 @@ read_at_end number before events true false c r kept e = absurd cc
 read_at_end number before events false rooted c r kept e = absurd cc
 
 -- a line that is read on from is not faulty
-goes_on_ok : (fault : Option PyxCode) (number : ℕ) (rest : Result (List Event) PyxFault) (events : List Event) → goes_on fault number rest ≡ Ok events → (fault ≡ None) × (rest ≡ Ok events)
+pub goes_on_ok : (fault : Option PyxCode) (number : ℕ) (rest : Result (List Event) PyxFault) (events : List Event) → goes_on fault number rest ≡ Ok events → (fault ≡ None) × (rest ≡ Ok events)
 goes_on_ok None number rest events e = (refl, e)
 goes_on_ok (Some code) number rest events e = absurd cc
 

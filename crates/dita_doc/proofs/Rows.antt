@@ -6,7 +6,6 @@ use Rattle.dita_doc.specs.Name.{is_name}
 use Rattle.dita_doc.specs.Tree.{End, Chars, Element}
 use Rattle.dita_doc.specs.Lines.{lines_of}
 use Rattle.dita_doc.specs.PyxLine.{unescaped}
-use Rattle.dita_doc.specs.Plain.{is_plain}
 use Rattle.dita_doc.specs.Pyx.{document_of}
 use Rattle.dita_doc.specs.declared.fault.PyxCode.TheVariants as fault
 
@@ -49,9 +48,3 @@ never_closed = refl
 
 nothing : document_of [] ≡ Err (record { code = fault.NoRoot; line = 0 })
 nothing = refl
-
-plain_text : is_plain (codes "(p" ++ lf ++ codes "-a" ++ lf ++ codes ")p" ++ lf) ≡ true
-plain_text = refl
-
-two_texts : is_plain (codes "(p" ++ lf ++ codes "-a" ++ lf ++ codes "-b" ++ lf ++ codes ")p" ++ lf) ≡ false
-two_texts = refl

@@ -1,11 +1,15 @@
--- The script of a map with one topic, run by the definitions: in parts: requests, flat forms, and its two pages byte for byte.
+-- The definitions of builds and of the desk, run on small sources: the two pages of a map with one topic byte for byte, and
+-- replies that are known by hand.
 use Rattle.std.specs.Prelude.{◌≡◌, ℕ, List, [], ◌∷◌, ◌++◌, Some, None, length, refl, codes}
 use Rattle.std.specs.Str.{is_utf8, chars}
 use lib.Utf8.{encode}
 use Rattle.dita_doc.specs.Tree.{End, Element}
-use Rattle.dita_doc.specs.Script.{Put, Build, script_of}
 use Rattle.dita_doc.specs.Flat.{FlatTopic, flat_map_of}
-use Rattle.dita_doc.specs.Desk.{NoMap, replies_from}
+use Rattle.dita_doc.specs.declared.fault.PyxCode.TheVariants as fault
+use Rattle.dita_doc.specs.declared.plan.PlanStop.TheVariants as stops
+use Rattle.dita_doc.specs.Build.{Stopped, build_of}
+use Rattle.dita_doc.specs.Desk.{State, IsStored, IsRemoved, IsRefused, Bytes, NameList, Conflict, Absent, reply, next}
+use Rattle.dita_doc.specs.Request.{Put, PutIf, Remove, Get, Names}
 use Rattle.dita_doc.specs.Page.{folded, pages_of}
 
 abbrev lf : List ℕ
@@ -46,21 +50,47 @@ its_map = refl
 blanks_are_folded : folded (32 ∷ 97 ∷ 9 ∷ 32 ∷ 98 ∷ 32 ∷ []) ≡ codes "a b"
 blanks_are_folded = refl
 
-its_requests : script_of (codes "1 put a" ++ lf ++ codes "(p" ++ lf ++ codes ")p" ++ lf ++ codes "." ++ lf ++ codes "1 build a" ++ lf) ≡ Some (Put (codes "a") (codes "(p" ++ lf ++ codes ")p" ++ lf) ∷ Build (codes "a") ∷ [])
-unfolding is_utf8 chars encode
-its_requests = refl
-
-no_end_of_a_line : script_of (codes "1 build m.ditamap") ≡ None
-unfolding is_utf8 chars encode
-no_end_of_a_line = refl
-
-no_end_of_a_body : script_of (codes "1 put a" ++ lf) ≡ None
-unfolding is_utf8 chars encode
-no_end_of_a_body = refl
-
-other_session : script_of (codes "2 build a" ++ lf) ≡ None
-unfolding is_utf8 chars encode
-other_session = refl
-
-no_map : replies_from [] 0 (Build (codes "m.ditamap") ∷ []) ≡ NoMap ∷ []
+no_map : build_of [] (codes "m.ditamap") None ≡ Stopped stops.NoMap
 no_map = refl
+
+-- what is stored is not what was refused
+abbrev faulty : List ℕ
+faulty = codes "(p" ++ lf ++ codes ")q" ++ lf
+
+faulty_body : reply [] 0 (Put (codes "t.dita") faulty) ≡ IsRefused (record { code = fault.CloseMismatch; line = 2 })
+unfolding is_utf8 chars encode
+faulty_body = refl
+
+nothing_stored : next [] 0 (Put (codes "t.dita") faulty) ≡ []
+unfolding is_utf8 chars encode
+nothing_stored = refl
+
+nothing_found : reply [] 1 (Get (codes "t.dita")) ≡ Absent
+nothing_found = refl
+
+-- two that store under one name, each where nothing stands there
+abbrev good : List ℕ
+good = codes "(p" ++ lf ++ codes ")p" ++ lf
+
+abbrev first : State
+first = next [] 0 (PutIf 0 (codes "t.dita") good)
+
+first_stored : reply [] 0 (PutIf 0 (codes "t.dita") good) ≡ IsStored 1
+unfolding is_utf8 chars encode
+first_stored = refl
+
+second_conflict : reply first 1 (PutIf 0 (codes "t.dita") good) ≡ Conflict 1
+unfolding is_utf8 chars encode
+second_conflict = refl
+
+names_by_bytes : reply (next first 1 (Put (codes "a") good)) 2 Names ≡ NameList ((codes "a", 2) ∷ (codes "t.dita", 1) ∷ [])
+unfolding is_utf8 chars encode
+names_by_bytes = refl
+
+removed : reply (next first 1 (Put (codes "a") good)) 2 (Remove (codes "t.dita")) ≡ IsRemoved 1
+unfolding is_utf8 chars encode
+removed = refl
+
+got : reply first 1 (Get (codes "t.dita")) ≡ Bytes good
+unfolding is_utf8 chars encode
+got = refl

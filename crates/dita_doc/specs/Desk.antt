@@ -1,86 +1,120 @@
--- The desk: what is stored, and what each request is answered.
-use Rattle.std.specs.Prelude.{◌+◌, ◌==◌, ◌&&◌, ℕ, Bool, List, [], ◌∷◌, ◌++◌, Option, Some, None, Result, Ok, Err, if◌then◌else◌, bytes_eq, find, reverse, is_ok}
-use Rattle.std.specs.List.{list_any}
+-- The desk on one thread (own): what is stored, and what each request is answered. Requests have places 0, 1, 2 and so on. The
+-- version of what is stored is the place of the request that stored it, and 1; a name that is not stored has version 0.
+use Rattle.std.specs.Prelude.{◌≡◌, ◌+◌, ◌==◌, ◌&&◌, ℕ, Bool, not, List, [], ◌∷◌, Option, Some, None, Result, Ok, Err, length, nat_le, if◌then◌else◌, bytes_eq, find, filter, map, is_some}
+use Rattle.std.specs.Ordering.{nat_cmp}
+use Rattle.std.specs.Cmp.Lexicographic.{slice_cmp}
+use Rattle.std.specs.declared.cmp.Ordering.TheVariants.{Less, Equal, Greater}
+use Rattle.dita_doc.specs.declared.doc.Node.{Node}
 use Rattle.dita_doc.specs.declared.fault.PyxFault.{PyxFault}
-use Rattle.dita_doc.specs.Tree.{Content}
+use Rattle.dita_doc.specs.Tree.{Content, nodes_of}
 use Rattle.dita_doc.specs.Pyx.{document_of}
-use Rattle.dita_doc.specs.Plain.{is_plain}
-use Rattle.dita_doc.specs.Script.{Request, Put, Build}
-use Rattle.dita_doc.specs.Flat.{FlatTopic, flat_map_of, flat_topic_of, with_first}
-use Rattle.dita_doc.specs.Page.{Entry, Page, pages_of}
+use Rattle.dita_doc.specs.Request.{Request, Put, PutIf, Remove, Get, Names, Build}
 
--- a body that was stored under a name
+-- a stored document: its nodes in preorder, whose one origin is the name; the bytes as they were put; and its version
 pub record Stored : Type 0 where
   pub name : List ℕ
+  pub nodes : List Node
   pub bytes : List ℕ
+  pub version : ℕ
 
--- all that was stored, the newest last
+-- all that is stored, by the bytes of the names, each name once
 abbrev pub State : Type 0
 State = List Stored
 
--- what is stored under a name: the newest of it
-abbrev pub stored_at : State → List ℕ → Option Stored
-stored_at state name = find (λ stored. bytes_eq stored.name name) (reverse state)
+-- this name is below each of theirs
+abbrev pub IsBelowAll : List ℕ → State → Type 0
+IsBelowAll name [] = Unit {0}
+IsBelowAll name (stored ∷ state) = (slice_cmp nat_cmp name stored.name ≡ Less) × IsBelowAll name state
 
--- so far a body is taken where it is a plain text, and a tree stands for it
-abbrev pub is_taken : List ℕ → Bool
-is_taken body = is_plain body && is_ok (document_of body)
+-- each name is below all that follow it: the names rise by their bytes, and none stands twice
+abbrev pub IsSortedByName : State → Type 0
+IsSortedByName [] = Unit {0}
+IsSortedByName (stored ∷ state) = IsBelowAll stored.name state × IsSortedByName state
+
+abbrev pub is_named : List ℕ → Stored → Bool
+is_named name stored = bytes_eq stored.name name
+
+abbrev pub found : State → List ℕ → Option Stored
+found state name = find (is_named name) state
+
+abbrev pub version_of : Option Stored → ℕ
+version_of None = 0
+version_of (Some stored) = stored.version
+
+-- the version that stands under a name
+abbrev pub version_at : State → List ℕ → ℕ
+version_at state name = version_of (found state name)
+
+abbrev pub stored_limit : ℕ
+stored_limit = 10000
 
 pub data Reply : Type 0 where
   IsStored : (version : ℕ) → Reply
-  IsRefused : Reply
-  NoMap : Reply
-  NotYet : Reply
-  Built : (pages : List Page) → Reply
+  IsRemoved : (version : ℕ) → Reply
+  Bytes : (bytes : List ℕ) → Reply
+  NameList : (names : List (List ℕ × ℕ)) → Reply
+  IsRefused : PyxFault → Reply
+  Conflict : (version : ℕ) → Reply
+  Absent : Reply
+  TooManyNames : (limit : ℕ) → Reply
+  Begun : Reply
 
--- the flat topic that is stored under a name, with it
-abbrev pub entry_with : List ℕ → Option FlatTopic → Option Entry
-entry_with href None = None
-entry_with href (Some topic) = Some (record { href = href; topic = topic })
+-- a body that is a text is stored, unless the desk is full and has no such name
+abbrev pub store_reply : State → ℕ → List ℕ → Reply
+store_reply state place name =
+    if nat_le stored_limit (length state) && not (is_some (found state name)) then TooManyNames stored_limit else IsStored (place + 1)
 
-abbrev pub entry_of_stored : List ℕ → Option Stored → Option Entry
-entry_of_stored href None = None
-entry_of_stored href (Some stored) = entry_with href (flat_topic_of stored.bytes)
+-- the reply where a body is a text, or its fault
+abbrev pub unless_refused : Result Content PyxFault → Reply → Reply
+unless_refused (Ok tree) reply = reply
+unless_refused (Err fault) reply = IsRefused fault
 
-abbrev pub entry_at : State → List ℕ → Option Entry
-entry_at state href = entry_of_stored href (stored_at state href)
+abbrev pub get_reply : Option Stored → Reply
+get_reply None = Absent
+get_reply (Some stored) = Bytes stored.bytes
 
-abbrev pub entries_at : State → List (List ℕ) → Option (List Entry)
-entries_at state [] = Some []
-entries_at state (href ∷ hrefs) = with_first (entry_at state href) (entries_at state hrefs)
+abbrev pub remove_reply : Option Stored → Reply
+remove_reply None = Absent
+remove_reply (Some stored) = IsRemoved stored.version
 
--- the entries of a map that is flat, and whose hrefs all name stored flat topics
-abbrev pub entries_of_hrefs : State → Option (List (List ℕ)) → Option (List Entry)
-entries_of_hrefs state None = None
-entries_of_hrefs state (Some hrefs) = entries_at state hrefs
+abbrev pub listed : Stored → List ℕ × ℕ
+listed stored = (stored.name, stored.version)
 
-abbrev pub entries_of : State → Result Content PyxFault → Option (List Entry)
-entries_of state (Err fault) = None
-entries_of state (Ok tree) = entries_of_hrefs state (flat_map_of tree)
+-- the reply to the request at a place
+abbrev pub reply : State → ℕ → Request → Reply
+reply state place (Put name body) = unless_refused (document_of body) (store_reply state place name)
+reply state place (PutIf version name body) =
+    unless_refused (document_of body) (if version_at state name == version then store_reply state place name else Conflict (version_at state name))
+reply state place (Remove name) = remove_reply (found state name)
+reply state place (Get name) = get_reply (found state name)
+reply state place Names = NameList (map listed state)
+reply state place (Build map val) = Begun
 
-abbrev pub reply_with : Option (List Entry) → Reply
-reply_with None = NotYet
-reply_with (Some entries) = Built (pages_of entries)
+-- the nodes of the document that a body is
+abbrev pub nodes_in : Result Content PyxFault → List Node
+nodes_in (Ok tree) = nodes_of tree 0
+nodes_in (Err fault) = []
 
-abbrev pub is_slash : ℕ → Bool
-is_slash b = b == 47
+-- the state where this is stored, in the place of what stood under its name
+abbrev pub with_stored : Stored → State → State
+with_stored new [] = new ∷ []
+with_stored new (stored ∷ state) = elim (slice_cmp nat_cmp new.name stored.name) [
+  | Less ↦ new ∷ stored ∷ state
+  | Equal ↦ new ∷ state
+  | Greater ↦ stored ∷ with_stored new state
+]
 
--- a build, by what is stored under the map's name: NotYet comes where the form of the sources is not built so far
-abbrev pub build_of : State → List ℕ → Option Stored → Reply
-build_of state map None = NoMap
-build_of state map (Some stored) = if list_any is_slash map then NotYet else reply_with (entries_of state (document_of stored.bytes))
+-- the state where nothing is stored under this name
+abbrev pub without_name : List ℕ → State → State
+without_name name state = filter (λ stored. not (is_named name stored)) state
 
--- the reply to the request at a place. The version of what is stored is the place and 1
-abbrev pub reply_to : State → ℕ → Request → Reply
-reply_to state place (Put name body) = if is_taken body then IsStored (place + 1) else IsRefused
-reply_to state place (Build map) = build_of state map (stored_at state map)
+-- the state after a request that has this reply: only what was stored or removed changes it
+abbrev pub after_reply : State → Request → Reply → State
+after_reply state (Put name body) (IsStored version) = with_stored (record { name = name; nodes = nodes_in (document_of body); bytes = body; version = version }) state
+after_reply state (PutIf expected name body) (IsStored version) = with_stored (record { name = name; nodes = nodes_in (document_of body); bytes = body; version = version }) state
+after_reply state (Remove name) (IsRemoved version) = without_name name state
+after_reply state request answer = state
 
--- the state after a request
-abbrev pub next : State → Request → State
-next state (Put name body) = if is_taken body then state ++ record { name = name; bytes = body } ∷ [] else state
-next state (Build map) = state
-
--- the replies to requests in order, from this state and place on
-abbrev pub replies_from : State → ℕ → List Request → List Reply
-replies_from state place [] = []
-replies_from state place (request ∷ requests) = reply_to state place request ∷ replies_from (next state request) (place + 1) requests
+-- the state after the request at a place
+abbrev pub next : State → ℕ → Request → State
+next state place request = after_reply state request (reply state place request)

@@ -1,13 +1,11 @@
 -- Flat maps and flat topics, of which alone builds are made so far (own). The classes are those of DITA 1.3, 3.6
 -- "Specialization", written out; maps are of 3.2 "DITA maps", topics of 3.1 "DITA topics".
-use Rattle.std.specs.Prelude.{◌-◌, ◌==◌, ◌&&◌, ◌||◌, ℕ, Bool, true, false, not, List, [], ◌∷◌, Option, Some, None, Result, Ok, Err, length, take, drop, nat_le, if◌then◌else◌, codes, bytes_eq}
+use Rattle.std.specs.Prelude.{◌-◌, ◌==◌, ◌&&◌, ◌||◌, ℕ, Bool, true, false, not, List, [], ◌∷◌, Option, Some, None, length, take, drop, nat_le, if◌then◌else◌, codes, bytes_eq}
 use Rattle.std.specs.List.{list_all, list_any}
 use Rattle.dita_doc.specs.declared.doc.Attribute.{Attribute}
-use Rattle.dita_doc.specs.declared.fault.PyxFault.{PyxFault}
 use Rattle.dita_doc.specs.Name.{is_name}
 use Rattle.dita_doc.specs.Tree.{Content, End, Chars, Element}
 use Rattle.dita_doc.specs.PyxEvent.{is_blank}
-use Rattle.dita_doc.specs.Pyx.{document_of}
 
 -- the value of an attribute, where it is given
 abbrev pub value_of : List ℕ → List Attribute → Option (List ℕ)
@@ -137,13 +135,6 @@ root_topic End = None
 root_topic (Chars text origin line rest) = None
 root_topic (Element name attributes origin line inside rest) = topic_holding (id_of attributes) inside
 
+-- the bytes that the text of a flat topic has at most
 abbrev pub topic_bytes : ℕ
 topic_bytes = 2048
-
-abbrev pub topic_read : Result Content PyxFault → Option FlatTopic
-topic_read (Err fault) = None
-topic_read (Ok tree) = root_topic tree
-
--- the flat topic that a text is
-abbrev pub flat_topic_of : List ℕ → Option FlatTopic
-flat_topic_of text = if nat_le (length text) topic_bytes then topic_read (document_of text) else None

@@ -33,11 +33,11 @@ nodes_of (Element name attributes origin line inside rest) place =
     let end = place + 1 + size_of inside in
     element_node name attributes origin line end ∷ (nodes_of inside (place + 1) ++ nodes_of rest end)
 
--- the content that at most so many nodes, from this place on, are the preorder of
 abbrev pub is_element : NodeKind → Bool
 is_element kinds.Element = true
 is_element kinds.Chars = false
 
+-- the content that at most so many nodes, from this place on, are the preorder of
 abbrev pub content_within : ℕ → List Node → ℕ → Content
 content_within zero nodes place = End
 content_within (suc n) [] place = End

@@ -1,4 +1,4 @@
-//! Faults of texts and of builds.
+//! Faults of texts, of scripts and of builds.
 
 use crate::list::Text;
 use crate::name::Name;
@@ -20,10 +20,76 @@ pub enum PyxCode {
     NotUtf8 = 12,
 }
 
+impl PyxCode {
+    ghost use Rattle.std.specs.Prelude.{◌≡◌};
+    ghost use Rattle.dita_doc.specs.Faults.{pyx_code_text};
+
+    /// The code's name.
+    pub fn text(self) -> &'static str
+        ensures { result.now ≡ pyx_code_text self }
+    {
+        match self {
+            PyxCode::BadLine => "BadLine",
+            PyxCode::Entity => "Entity",
+            PyxCode::AttributePlace => "AttributePlace",
+            PyxCode::AttributeTwice => "AttributeTwice",
+            PyxCode::Unclosed => "Unclosed",
+            PyxCode::CloseMismatch => "CloseMismatch",
+            PyxCode::NoRoot => "NoRoot",
+            PyxCode::SecondRoot => "SecondRoot",
+            PyxCode::TextOutside => "TextOutside",
+            PyxCode::TooDeep => "TooDeep",
+            PyxCode::TooLong => "TooLong",
+            PyxCode::NotUtf8 => "NotUtf8",
+        }
+    }
+}
+
 /// The first faulty line of a text, counted from 1, and its first fault.
 #[derive(Clone, Copy, Debug, PartialEq, Eq)]
 pub struct PyxFault {
     pub code: PyxCode,
+    pub line: u32,
+}
+
+/// Why bytes are no script. The numbers are those of `docs/RULES.md`.
+#[derive(Clone, Copy, Debug, PartialEq, Eq)]
+pub enum ScriptCode {
+    BadCommand = 1,
+    BadNumber = 2,
+    BadName = 3,
+    NoEnd = 4,
+    TooManySessions = 5,
+    TooManyRequests = 6,
+    TooLong = 7,
+    NotUtf8 = 8,
+}
+
+impl ScriptCode {
+    ghost use Rattle.std.specs.Prelude.{◌≡◌};
+    ghost use Rattle.dita_doc.specs.Faults.{script_code_text};
+
+    /// The code's name.
+    pub fn text(self) -> &'static str
+        ensures { result.now ≡ script_code_text self }
+    {
+        match self {
+            ScriptCode::BadCommand => "BadCommand",
+            ScriptCode::BadNumber => "BadNumber",
+            ScriptCode::BadName => "BadName",
+            ScriptCode::NoEnd => "NoEnd",
+            ScriptCode::TooManySessions => "TooManySessions",
+            ScriptCode::TooManyRequests => "TooManyRequests",
+            ScriptCode::TooLong => "TooLong",
+            ScriptCode::NotUtf8 => "NotUtf8",
+        }
+    }
+}
+
+/// The first faulty line of a script, counted from 1, and its first fault.
+#[derive(Clone, Copy, Debug, PartialEq, Eq)]
+pub struct ScriptFault {
+    pub code: ScriptCode,
     pub line: u32,
 }
 
@@ -61,6 +127,50 @@ pub enum FaultCode {
     LinkNoPage = 29,
     PageTooLarge = 30,
     Foreign = 31,
+}
+
+impl FaultCode {
+    ghost use Rattle.std.specs.Prelude.{◌≡◌};
+    ghost use Rattle.dita_doc.specs.Faults.{fault_code_text};
+
+    /// The code's name.
+    pub fn text(self) -> &'static str
+        ensures { result.now ≡ fault_code_text self }
+    {
+        match self {
+            FaultCode::NoClass => "NoClass",
+            FaultCode::BadClass => "BadClass",
+            FaultCode::BadReference => "BadReference",
+            FaultCode::MapMissing => "MapMissing",
+            FaultCode::MapCycle => "MapCycle",
+            FaultCode::TopicMissing => "TopicMissing",
+            FaultCode::NotTopic => "NotTopic",
+            FaultCode::MapConref => "MapConref",
+            FaultCode::GroupValue => "GroupValue",
+            FaultCode::DitavalMissing => "DitavalMissing",
+            FaultCode::DitavalTwice => "DitavalTwice",
+            FaultCode::BadAction => "BadAction",
+            FaultCode::CopyTo => "CopyTo",
+            FaultCode::Chunk => "Chunk",
+            FaultCode::NameChanged => "NameChanged",
+            FaultCode::BadKeyName => "BadKeyName",
+            FaultCode::BadScopeName => "BadScopeName",
+            FaultCode::KeyUndefined => "KeyUndefined",
+            FaultCode::KeyCycle => "KeyCycle",
+            FaultCode::KeyNoText => "KeyNoText",
+            FaultCode::ConrefMissing => "ConrefMissing",
+            FaultCode::ConrefType => "ConrefType",
+            FaultCode::ConrefCycle => "ConrefCycle",
+            FaultCode::ConrefDepth => "ConrefDepth",
+            FaultCode::RangeEnd => "RangeEnd",
+            FaultCode::PushPlace => "PushPlace",
+            FaultCode::PushTwice => "PushTwice",
+            FaultCode::TooManyResolved => "TooManyResolved",
+            FaultCode::LinkNoPage => "LinkNoPage",
+            FaultCode::PageTooLarge => "PageTooLarge",
+            FaultCode::Foreign => "Foreign",
+        }
+    }
 }
 
 /// A fault of a build, at the document and line of the element as it was written.

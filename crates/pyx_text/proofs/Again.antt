@@ -12,7 +12,7 @@ use Rattle.dita_doc.specs.PyxLine.{Line, Opens, Gives, Says, Closes}
 use Rattle.dita_doc.specs.PyxEvent.{Event, Open, Give, Text, Close, add_text, open_names, has_root, given_names, depth_limit, fault_of, fault_of_open, fault_of_close}
 use Rattle.dita_doc.specs.Pyx.{StandsFor, reading, text_limit, lines_from, goes_on, ends, reads, says, give_all, begins_with_text, IsWritten, IsOneElement}
 use Rattle.dita_doc.proofs.PyxKeeps.{IsSome, EndsInNoText, open_names_add_text}
-use Rattle.pyx_text.specs.Canonical.{text_of, same_apart_from_lines}
+use Rattle.dita_doc.specs.Canonical.{text_of, same_apart_from_lines}
 use Rattle.pyx_text.proofs.Writable.{AreGiven, IsWritable, open_given, writable_tree}
 use Rattle.pyx_text.proofs.WrittenLines.{given_then, said_then, written_lines}
 

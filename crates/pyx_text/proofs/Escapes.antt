@@ -6,7 +6,7 @@ use Rattle.std.proofs.lemmas.Bool.{or_parts, or_from, eqb-true}
 use Rattle.std.proofs.lemmas.List.Folds.{list_any-append}
 use Rattle.dita_doc.specs.Cut.{Lacks}
 use Rattle.dita_doc.specs.PyxLine.{unescaped, unescaped_after}
-use Rattle.pyx_text.specs.Canonical.{escaped, escaped_byte}
+use Rattle.dita_doc.specs.Canonical.{escaped, escaped_byte}
 
 -- one byte, by what it is
 unescaped_byte : (b : ℕ) (rest : List ℕ) (feed tab slash : Bool) → (b == 10) ≡ feed → (b == 9) ≡ tab → (b == 92) ≡ slash → unescaped_after false (escaped_byte b ++ rest) ≡ b ∷ unescaped_after false rest

@@ -14,6 +14,7 @@ use Rattle.dita_doc.specs.PyxLine.{Line, Opens, Gives, Says, Closes, Passes, Bre
 use Rattle.dita_doc.specs.PyxEvent.{Event, Open, Give, Text, Close, add_text, open_names, has_root, given_names, is_outside, depth_limit, fault_of, fault_of_open, fault_of_give, after}
 use Rattle.dita_doc.specs.Pyx.{is_nothing, is_none_open, lines_from, goes_on, reads}
 use Rattle.dita_doc.proofs.PyxKeeps.{open_names_add_text}
+use Rattle.dita_doc.proofs.PyxSteps.{goes_on_ok, ends_by}
 use Rattle.pyx_text.proofs.Utf8.{utf8_behind, utf8_at_space, utf8_unescaped}
 use Rattle.pyx_text.proofs.Escapes.{lacks_append, lacks_take, lacks_drop, lacks_unescaped}
 
@@ -144,17 +145,7 @@ sound_after number before (Closes name) l e sound = sound_add_text [] before no_
 sound_after number before Passes l e sound = sound
 sound_after number before (Breaks code) l e sound = sound
 
-goes_on_ok : (fault : Option PyxCode) (number : ℕ) (rest : Result (List Event) PyxFault) (events : List Event) → goes_on fault number rest ≡ Ok events → (fault ≡ None) × (rest ≡ Ok events)
-goes_on_ok None number rest events e = (refl, e)
-goes_on_ok (Some code) number rest events e = absurd cc
-
--- the judgement at the end, by its two tests
-abbrev ends_by : Bool → Bool → ℕ → List Event → Result (List Event) PyxFault
-ends_by closed rooted number events =
-    if closed
-    then (if rooted then Ok events else Err (record { code = codes.NoRoot; line = number }))
-    else Err (record { code = codes.Unclosed; line = number })
-
+-- no fault at the end
 ends_ok : (number : ℕ) (before events : List Event) (closed rooted : Bool) → ends_by closed rooted number before ≡ Ok events → before ≡ events
 ends_ok number before events true true e = cc
 ends_ok number before events true false e = absurd cc

@@ -11,7 +11,7 @@ use Rattle.std.proofs.lemmas.List.Sums.{passes_at_first}
 use Rattle.std.proofs.lemmas.Str.{inside_one, encode_ascii, length-encode, len_utf8_bounds, IsUtf8-encode, IsUtf8-append, IsUtf8-nil, IsUtf8-drop, IsUtf8-take, IsUtf8-from_ascii, IsCharBoundary-after_ascii, IsCharBoundary-before_ascii}
 use Rattle.std.proofs.lemmas.Str.Ascii.{IsAscii-cons, IsAscii-nil}
 use Rattle.dita_doc.specs.PyxLine.{unescaped, unescaped_after, is_space}
-use Rattle.pyx_text.specs.Canonical.{escaped, escaped_byte}
+use Rattle.dita_doc.specs.Canonical.{escaped, escaped_byte}
 
 -- bytes of characters that are no ASCII
 abbrev pub AreHigh : List ℕ → Type 0

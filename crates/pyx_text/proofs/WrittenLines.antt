@@ -11,7 +11,7 @@ use Rattle.dita_doc.specs.Tree.{Content, End, Chars, Element}
 use Rattle.dita_doc.specs.Cut.{Lacks}
 use Rattle.dita_doc.specs.PyxLine.{Line, Opens, Gives, Says, Closes, is_line_name, is_gap, is_space, line_by_byte, line_of}
 use Rattle.dita_doc.specs.Pyx.{lines_from}
-use Rattle.pyx_text.specs.Canonical.{escaped, line_with, attribute_lines, text_of}
+use Rattle.dita_doc.specs.Canonical.{escaped, line_with, attribute_lines, text_of}
 use Rattle.pyx_text.proofs.Utf8.{utf8_cons, utf8_escaped}
 use Rattle.pyx_text.proofs.Escapes.{unescaped_escaped, lacks_append, escaped_lacks_feed, escaped_lacks_return}
 use Rattle.pyx_text.proofs.Sound.{IsReadName, IsReadText}

@@ -1,4 +1,3 @@
 pub mod Machine
 pub mod Reader
 pub mod Read
-pub mod Canonical

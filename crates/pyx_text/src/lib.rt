@@ -1,7 +1,8 @@
-//! Texts to documents: the reader of PYX, and what its plain form is.
+//! Texts of PYX to documents, and documents to texts.
 //!
-//! What is used above it: the contract of `read_pyx`. A document that it answers is the tree that the
-//! text stands for, and a fault is the first of the first faulty line.
+//! What is used above it: the contracts of `read_pyx` and `read_body`. A document that is answered is the
+//! tree that the text stands for, and a fault is the first of the first faulty line. The text that
+//! `write_pyx` gives is read as the same tree.
 #![tactic(auto)]
 
 ghost use Rattle.std.specs.Prelude.{◌≡◌, ℕ, List, [], ◌∷◌, Ok, IfOk, IfErr};
@@ -12,7 +13,6 @@ ghost use Rattle.pyx_text.specs.Read.{AreRead, IsFaultOf};
 mod body;
 mod line;
 mod machine;
-mod plain;
 mod reader;
 #[cfg(test)]
 mod tests;
@@ -21,7 +21,6 @@ mod write;
 use crate::reader::Reader;
 pub use body::read_body;
 use dita_doc::{Doc, List as Items, Name, PyxFault, Stop};
-pub use plain::is_plain;
 use std::alloc::Global;
 pub use write::{write_pyx, written_again};
 

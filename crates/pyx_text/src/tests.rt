@@ -1,6 +1,6 @@
 //! Texts with what they stand for, derived by hand from the rules of PYX.
 
-use crate::{is_plain, read_pyx, write_pyx};
+use crate::{read_body, read_pyx, write_pyx};
 use dita_doc::{Name, NodeKind, PyxCode, PyxFault, Stop, Text, is_name};
 use std::alloc::{AllocError, Global};
 use std::test::Fail;
@@ -151,19 +151,41 @@ fn a_canonical_text_is_written_as_it_was_read(rt: HostRuntime) -> Result<(), Fai
 }
 
 #[test]
-fn the_plain_form_has_no_more_than_it_says(rt: HostRuntime) {
-    let rows = [
-        (b"(p\nAid x\n-a\n(b\n)b\n-c\n)p\n".as_slice(), true),
-        (b"(p\n)p".as_slice(), true),
-        (b"".as_slice(), true),
-        (b"(p\n\n)p\n".as_slice(), false),
-        (b"(p\nAid\n)p\n".as_slice(), false),
-        (b"(p\n-a\n-b\n)p\n".as_slice(), false),
-        (b"(p\n[a\n)p\n".as_slice(), false),
-        (b"(p\r\n)p\n".as_slice(), false),
-        (b"(p\n-\\n\n)p\n".as_slice(), false),
-    ];
-    for (text, plain) in rows {
-        assert_eq!(rt; is_plain(text), plain);
-    }
+fn the_canonical_text_of_a_topic_is_its_text(rt: HostRuntime) -> Result<(), Fail> {
+    let alloc = rt.alloc();
+    let text =
+        b"(topic\nAclass - topic/topic \nAid t\n(title\nAclass - topic/title \n-Hello\n)title\n(body\nAclass - topic/body \n(p\nAclass - topic/p \n-A & B\n)p\n)body\n)topic\n".as_slice();
+    let Ok(doc) = read_pyx(alloc, &name(alloc)?, text) else {
+        return Err(AllocError.into());
+    };
+    assert_eq!(rt; write_pyx(alloc, &doc)?.as_slice(), text);
+    Ok(())
+}
+
+/// What the writing leaves out: a head, a comment, CRs, and how a text was cut into lines.
+#[test]
+fn a_text_of_many_forms_has_one_canonical_text(rt: HostRuntime) -> Result<(), Fail> {
+    let alloc = rt.alloc();
+    let text = b"?xml version=\"1.0\"\r\n(p\r\nAid\r\n-a\r\nC x\n[\\tb\\\n-\\q\n)p".as_slice();
+    let Ok(doc) = read_pyx(alloc, &name(alloc)?, text) else {
+        return Err(AllocError.into());
+    };
+    assert_eq!(rt;
+        write_pyx(alloc, &doc)?.as_slice(),
+        b"(p\nAid \n-a\\tb\\\\\\\\q\n)p\n".as_slice()
+    );
+    Ok(())
+}
+
+#[test]
+fn a_body_keeps_its_bytes_and_its_fault(rt: HostRuntime) -> Result<(), Fail> {
+    let alloc = rt.alloc();
+    let text = b"(p\n)q\n".as_slice();
+    let Ok(body) = read_body(alloc, &name(alloc)?, Text::from_slice(alloc, text)?) else {
+        return Err(AllocError.into());
+    };
+    assert_eq!(rt; body.bytes.as_slice(), text);
+    assert!(rt; body.read.is_err());
+    assert_eq!(rt; body.read.err(), at(PyxCode::CloseMismatch, 2));
+    Ok(())
 }

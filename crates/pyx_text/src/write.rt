@@ -4,7 +4,7 @@ ghost use Rattle.std.specs.Prelude.{◌≡◌, ◌≤◌, ◌++◌, ◌∷◌, �
 ghost use Rattle.dita_doc.specs.Tree.{Content, tree_of};
 ghost use Rattle.dita_doc.specs.Pyx.{StandsFor, text_limit};
 ghost use Rattle.dita_doc.specs.Siblings.{content};
-ghost use Rattle.pyx_text.specs.Canonical.{escaped_byte, escaped, line_with, attribute_lines, text_of, same_apart_from_lines};
+ghost use Rattle.dita_doc.specs.Canonical.{escaped_byte, escaped, line_with, attribute_lines, text_of, same_apart_from_lines};
 
 use dita_doc::{Attribute, Doc, First, List as Items, Siblings, Text};
 use std::alloc::{AllocError, Global};

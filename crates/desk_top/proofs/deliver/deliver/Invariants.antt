@@ -1,11 +1,10 @@
-use Rattle.std.proofs.Common.{◌≤◌, take, map}
-use Rattle.dita_doc.specs.Page.{page_of}
-use Rattle.desk_top.specs.Puts.{Puts}
-use Rattle.desk_top.specs.Topics.{entry_seen}
+use Rattle.std.proofs.Common.{◌≤◌, take}
+use Rattle.dita_outside.specs.Pages.{TakesPages}
+use Rattle.desk_top.specs.Puts.{pages_put}
 use Rattle.desk_top.proofs.deliver.deliver.Given as goal
 
-abbrev pub invariant-loop-entry : goal.invariant-loop-entry
-invariant-loop-entry g l = record {
-  put : Puts l.number (map page_of (map entry_seen (take l.entry-index l.entries))) l.fn.text l.text (g.O.Outlet.pages l.fn.outlet) (g.O.Outlet.pages l.outlet);
+abbrev pub invariant-loop-page : goal.invariant-loop-page
+invariant-loop-page g l = record {
+  taken : TakesPages (g.O.Outlet.pages l.fn.outlet) (g.O.Outlet.pages l.outlet) (pages_put l.number (take l.page-index l.pages));
   counted : g.O.Outlet.faults l.fn.outlet ≤ g.O.Outlet.faults l.outlet;
 }

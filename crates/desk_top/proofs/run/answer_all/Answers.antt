@@ -1,53 +1,42 @@
-use Rattle.std.proofs.Common.{◌++◌, ℕ, List, ap, ◌∙◌, arith, map, length}
+use Rattle.std.proofs.Common.{◌++◌, ℕ, List, ap, ◌∙◌, arith, map, length, subst}
+use Rattle.std.specs.List.{All}
 use Rattle.std.specs.Vec.Iter.{into_iter_items}
-use Rattle.std.proofs.lemmas.Result.{err_from_is_err_and}
-use Rattle.std.proofs.lemmas.List.{length-map}
-use Rattle.desk_top.specs.Requests.{request_seen}
-use Rattle.desk_top.proofs.RunLaws.{none_answered, one_answered, answer_begun, all_answered, all_told, no_more, place_within}
+use Rattle.std.proofs.lemmas.List.Elements.{All-tail}
+use Rattle.dita_doc.specs.declared.request.Request as given
+use Rattle.script_text.specs.Read.{step_seen}
+use Rattle.desk_top.specs.Runs.{IsOwnStep}
+use Rattle.desk_top.proofs.EndsLaws.{on_err}
+use Rattle.desk_top.proofs.RunLaws.{HasAnswered, one_answered, room_left, answer_begun, all_told, no_more}
 use Rattle.desk_top.proofs.run.answer_all.Goals as goal
 
-pub loop-request-init : goal.loop-request-init
-loop-request-init g c =
-    let items = c.into_iter-request-iterator.ensures.into_iter_gives.0 in
-    let size = c.into_iter-request-iterator.ensures.into_iter_gives.1 in
-    let head = c.in_ok-push_head.ensures ∙ ap (λ (text : List ℕ). text ++ _) c.new-text.ensures in
-    record {
-      size = omega (arith, ap length items, size, c.args.requests.ok.0);
-      answered = rw (items, c.new-desk.ensures) (none_answered (map request_seen c.args.requests.items) c.push_head.new.out (g.O.Outlet.pages c.args.outlet.now) head);
-      counted = omega arith;
-    }
+pub answer-requires-clause-origin : goal.answer-requires-clause-origin
+answer-requires-clause-origin g c =
+    (subst (All IsOwnStep) c.in-Some.ensures.steps.0 c.loop-session.invariant.own) 0 (c.in-Some.session, c.in-Some.request) (omega arith)
 
-pub answer-requires : goal.answer-requires
-answer-requires g c =
-    let before = rw c.in-Some.ensures.steps.0 at c.loop-request.invariant.answered in
-    let within = place_within _ _ _ _ _ _ _ _ before in
-    let few = c.requires in
-    omega (arith, within, length-map c.args.requests.items request_seen, c.args.requests.ok.0)
+pub answer-requires-clause-room : goal.answer-requires-clause-room
+answer-requires-clause-room g c =
+    room_left (map step_seen c.args.steps.items) c.loop-session.store.history (step_seen (c.in-Some.session, c.in-Some.request)) (map step_seen (into_iter_items c.next.new.self)) c.loop-session.text _ _ c.requires.fits
+    (subst (λ (left : List (ℕ × given.Request)). HasAnswered (map step_seen c.args.steps.items) c.loop-session.store.history (map step_seen left) c.loop-session.text (g.O.Outlet.pages c.args.outlet.now) (g.O.Outlet.pages c.loop-session.outlet)) c.in-Some.ensures.steps.0 c.loop-session.invariant.answered)
 
-pub loop-request-preserved : goal.loop-request-preserved
-loop-request-preserved g c =
-    let items = c.in-Some.ensures.steps.0 in
-    let before = rw items at c.loop-request.invariant.answered in
+pub loop-session-preserved : goal.loop-session-preserved
+loop-session-preserved g c =
+    let before = subst (λ (left : List (ℕ × given.Request)). HasAnswered (map step_seen c.args.steps.items) c.loop-session.store.history (map step_seen left) c.loop-session.text (g.O.Outlet.pages c.args.outlet.now) (g.O.Outlet.pages c.loop-session.outlet)) c.in-Some.ensures.steps.0 c.loop-session.invariant.answered in
     record {
-      size = omega (arith, c.in-Some.ensures.steps.1, c.loop-request.invariant.size, ap length items);
-      answered = one_answered _ _ _ _ _ _ _ _ _ _ _ before c.in_ok-answer.ensures.ok;
+      size = omega (arith, c.in-Some.ensures.steps.1, c.loop-session.invariant.size, ap length c.in-Some.ensures.steps.0);
+      own = All-tail IsOwnStep _ _ (subst (All IsOwnStep) c.in-Some.ensures.steps.0 c.loop-session.invariant.own);
+      desk = c.in_ok-answer.ensures.desk;
+      answered = one_answered _ _ _ _ _ _ _ _ _ _ before c.in_ok-answer.ensures.ok;
       counted = omega (arith, c.in_ok-answer.ensures.cause.later);
     }
 
 pub returns-in_err-answer-clause-err : goal.returns-in_err-answer-clause-err
 returns-in_err-answer-clause-err g c =
-    let p = err_from_is_err_and c.from_residual-in_err-answer.result c.from_residual-in_err-answer.ensures.1 in
-    let before = rw c.in-Some.ensures.steps.0 at c.loop-request.invariant.answered in
-    rw p.1 (answer_begun _ _ _ _ _ _ _ _ _ before c.in_err-answer.ensures.err)
+    let before = subst (λ (left : List (ℕ × given.Request)). HasAnswered (map step_seen c.args.steps.items) c.loop-session.store.history (map step_seen left) c.loop-session.text (g.O.Outlet.pages c.args.outlet.now) (g.O.Outlet.pages c.loop-session.outlet)) c.in-Some.ensures.steps.0 c.loop-session.invariant.answered in
+    on_err c.from_residual-in_err-answer.result _ (answer_begun _ _ _ _ _ _ _ _ before c.in_err-answer.ensures.err)
 
 pub returns-clause-text : goal.returns-clause-text
 returns-clause-text g c =
-    let none = no_more (into_iter_items c.loop-request.request-iterator) _ c.loop-request.invariant.size c.in-None.ensures.steps.0 in
-    let before = rw none at c.loop-request.invariant.answered in
-    all_told (map request_seen c.args.requests.items) c.loop-request.place _ c.loop-request.text _ _ _ before c.in_ok-push_end.ensures
-
-pub returns-clause-pages : goal.returns-clause-pages
-returns-clause-pages g c =
-    let none = no_more (into_iter_items c.loop-request.request-iterator) _ c.loop-request.invariant.size c.in-None.ensures.steps.0 in
-    let before = rw none at c.loop-request.invariant.answered in
-    all_answered _ _ _ _ _ _ before
+    let none = no_more (into_iter_items c.loop-session.session-iterator) _ c.loop-session.invariant.size c.in-None.ensures.steps.0 in
+    let before = subst (λ (left : List (ℕ × given.Request)). HasAnswered (map step_seen c.args.steps.items) c.loop-session.store.history (map step_seen left) c.loop-session.text (g.O.Outlet.pages c.args.outlet.now) (g.O.Outlet.pages c.loop-session.outlet)) none c.loop-session.invariant.answered in
+    all_told (map step_seen c.args.steps.items) c.loop-session.store.history c.loop-session.text c.append.new.self c.entries.result _ _ before c.entries.ensures.value
+    (c.in_ok-append.ensures ∙ ap (λ (more : List ℕ). c.loop-session.text ++ more) (c.as_slice.ensures ∙ c.in_ok-end.ensures))

@@ -1,7 +1,7 @@
 use Rattle.std.proofs.Common.{◌≡◌, ◌≤◌, ◌++◌}
 use Rattle.dita_doc.specs.Tree.{size_of}
 use Rattle.dita_doc.specs.Siblings.{content}
-use Rattle.pyx_text.specs.Canonical.{text_of}
+use Rattle.dita_doc.specs.Canonical.{text_of}
 use Rattle.pyx_text.proofs.write.+put_content.Given as goal
 
 abbrev pub invariant-loop-node : goal.invariant-loop-node

@@ -1,5 +1,5 @@
 use Rattle.std.proofs.Common.{◌≡◌, ◌++◌, drop}
-use Rattle.pyx_text.specs.Canonical.{escaped}
+use Rattle.dita_doc.specs.Canonical.{escaped}
 use Rattle.pyx_text.proofs.write.append_escaped.Given as goal
 
 abbrev pub invariant-loop-byte : goal.invariant-loop-byte

@@ -1,5 +1,5 @@
 use Rattle.std.proofs.Common.{◌≡◌, ◌++◌, drop}
-use Rattle.pyx_text.specs.Canonical.{attribute_lines}
+use Rattle.dita_doc.specs.Canonical.{attribute_lines}
 use Rattle.pyx_text.proofs.write.put_attributes.Given as goal
 
 abbrev pub invariant-loop-attribute : goal.invariant-loop-attribute

@@ -1,0 +1,51 @@
+-- What stored documents are, in the words of `Desk`: an `Arc` is what it holds.
+use Rattle.std.specs.Prelude.{◌≡◌, ℕ, List, [], ◌∷◌, ◌++◌, length, Option, option_map}
+use Rattle.std.specs.Arc.{arc_value}
+use Rattle.std.specs.Borrow.{Bor}
+use Rattle.std.specs.Ordering.{nat_cmp}
+use Rattle.std.specs.Cmp.Lexicographic.{slice_cmp}
+use Rattle.std.specs.declared.cmp.Ordering.TheVariants.{Less}
+use Rattle.std.specs.declared.sync.Arc.{Arc}
+use Rattle.std.specs.declared.alloc.Global.{Global}
+use Rattle.dita_doc.specs.declared.doc.Doc.{Doc}
+use Rattle.dita_doc.specs.declared.doc.Node.{Node}
+use Rattle.dita_doc.specs.declared.sources.Document.{Document}
+use Rattle.dita_doc.specs.Desk.{Stored, State, IsBelowAll}
+
+abbrev pub document_seen : Document → Stored
+document_seen document = record { name = document.name; nodes = (arc_value document.doc).nodes; bytes = arc_value document.bytes; version = document.version }
+
+abbrev pub found_seen : Option (Bor Document) → Option Stored
+found_seen found = option_map (λ document. document_seen document.now) found
+
+-- a version, and the nodes of the document that has it
+abbrev pub got_seen : Option (ℕ × Bor (Arc Doc Global)) → Option (ℕ × List Node)
+got_seen got = option_map (λ (pair : ℕ × Bor (Arc Doc Global)). (pair.0, (arc_value pair.1.now).nodes)) got
+
+abbrev pub version_and_nodes : Stored → ℕ × List Node
+version_and_nodes stored = (stored.version, stored.nodes)
+
+-- each of their names is below this one
+abbrev pub AreBelow : State → List ℕ → Type 0
+AreBelow [] name = Unit {0}
+AreBelow (stored ∷ state) name = (slice_cmp nat_cmp stored.name name ≡ Less) × AreBelow state name
+
+-- the name stands at this place, behind the lower ones and before the higher ones
+pub record IsAt (state : State) (name : List ℕ) (at : ℕ) : Type 0 where
+  pub front : State
+  pub stored : Stored
+  pub back : State
+  pub whole : state ≡ front ++ stored ∷ back
+  pub place : length front ≡ at
+  pub below : AreBelow front name
+  pub same : stored.name ≡ name
+  pub above : IsBelowAll name back
+
+-- the name stands nowhere: its place would be this one, behind the lower ones and before the higher ones
+pub record IsGapFor (state : State) (name : List ℕ) (at : ℕ) : Type 0 where
+  pub front : State
+  pub back : State
+  pub whole : state ≡ front ++ back
+  pub place : length front ≡ at
+  pub below : AreBelow front name
+  pub above : IsBelowAll name back

@@ -1,0 +1,64 @@
+//! Finished parts of builds, and the rows that keep them.
+
+use crate::fault::Fault;
+use crate::list::List;
+use crate::name::Name;
+use crate::plan::{Plan, PlanStop};
+use crate::request::Read;
+use std::sync::Arc;
+
+/// A page's bytes, with the faults that were met on the way.
+#[derive(Debug, Drop)]
+pub struct Html {
+    pub bytes: List<u8>,
+    pub faults: List<Fault>,
+}
+
+/// A part of a build.
+#[derive(Clone, Copy, Debug, PartialEq, Eq)]
+pub enum Part {
+    Plan,
+    /// The page of this index.
+    Page(u32),
+    Contents,
+}
+
+/// What a fact is about.
+#[derive(Debug, Drop)]
+pub struct FactKey {
+    pub map: Name,
+    pub val: Option<Name>,
+    pub part: Part,
+}
+
+/// What a part of a build is.
+#[derive(Debug, Drop)]
+pub enum FactValue {
+    Planned(Arc<Plan>),
+    Stopped(PlanStop),
+    Made(Arc<Html>),
+}
+
+/// A part of a build, with the versions that it was made from.
+#[derive(Debug, Drop)]
+pub struct Fact {
+    pub key: FactKey,
+    pub reads: List<Read>,
+    pub value: FactValue,
+}
+
+/// A fact that is kept for later builds.
+#[derive(Debug, Drop)]
+pub struct Row {
+    /// Rows and claims have numbers from 1, drawn when they are claimed.
+    pub serial: u64,
+    /// How many entries there were, up to and with the last one that had changed the sources.
+    pub stamp: u64,
+    /// How many rows were kept, up to and with this one.
+    pub rank: u64,
+    /// The greatest serial that was drawn when the row was kept.
+    pub mark: u64,
+    /// What the row counts for in the table.
+    pub bytes: u64,
+    pub fact: Arc<Fact>,
+}

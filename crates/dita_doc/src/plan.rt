@@ -1,0 +1,117 @@
+//! The plan of a build: the nodes of its map, its scopes and its pages.
+
+use crate::doc::Attribute;
+use crate::fault::Fault;
+use crate::list::{List, Text};
+use crate::name::Name;
+
+/// The three parts of a reference; a part that is not there is empty.
+#[derive(Debug, PartialEq, Eq, Drop)]
+pub struct Reference {
+    pub file: Text,
+    pub topic: Text,
+    pub element: Text,
+}
+
+/// What a branch copy puts before and after the names of its pages.
+#[derive(Debug, PartialEq, Eq, Drop)]
+pub struct Affix {
+    pub prefix: Text,
+    pub suffix: Text,
+}
+
+/// What a node of a map stands for.
+#[derive(Clone, Copy, Debug, PartialEq, Eq)]
+pub enum PlanKind {
+    Map,
+    Reference,
+    Included,
+    DitavalRef,
+    Group,
+    RelTable,
+    RelRow,
+    RelCell,
+}
+
+/// A node of a map, in preorder. Its element stands at `place` of the document `doc`; a group has none.
+#[derive(Debug, Drop)]
+pub struct PlanNode {
+    pub kind: PlanKind,
+    pub doc: Name,
+    pub place: u32,
+    pub line: u32,
+    /// How many maps are included around it.
+    pub level: u32,
+    /// The place of its parent in the plan; the root is its own.
+    pub parent: u32,
+    /// The place just past its subtree in the plan.
+    pub end: u32,
+    pub scope: u32,
+    pub scope_names: List<Text>,
+    pub filters: List<Name>,
+    pub affixes: List<Affix>,
+    pub cascaded: List<Attribute>,
+}
+
+/// A key scope: its parent, the node that begins it, and its names.
+#[derive(Debug, Drop)]
+pub struct Scope {
+    pub parent: u32,
+    pub node: u32,
+    pub names: List<Text>,
+}
+
+/// What makes two pages of a document different.
+#[derive(Debug, Drop)]
+pub struct PageId {
+    pub doc: Name,
+    pub scope: u32,
+    pub filters: List<Name>,
+    pub affixes: List<Affix>,
+}
+
+/// A page of a plan: the node of its first use, and its name.
+#[derive(Debug, Drop)]
+pub struct PagePlan {
+    pub id: PageId,
+    pub node: u32,
+    pub name: Name,
+}
+
+/// What a reference leads to.
+#[derive(Debug, Drop)]
+pub enum Target {
+    Nothing,
+    /// A DITA document, by the reference that was read.
+    Local(Name, Reference),
+    /// A file of another format, with what stands behind its name.
+    File(Name, Text),
+    /// The value as it was written.
+    Other(Text),
+}
+
+/// The plan of a build. Node 0 is the root map, and scope 0 the root scope.
+#[derive(Debug, Drop)]
+pub struct Plan {
+    pub nodes: List<PlanNode>,
+    pub scopes: List<Scope>,
+    pub pages: List<PagePlan>,
+    pub targets: List<Target>,
+    pub documents: List<Name>,
+    pub faults: List<Fault>,
+}
+
+/// Why a build has no plan.
+#[derive(Clone, Copy, Debug, PartialEq, Eq)]
+pub enum PlanStop {
+    /// The map is not stored.
+    NoMap,
+    /// The root of the map's document is no map.
+    NotMap,
+    /// The DITAVAL is not stored, or its root is no `val`.
+    NoDitaval,
+    /// The map has more than 65,536 nodes.
+    TooManyNodes,
+    /// The map has more than 4,096 pages.
+    TooManyPages,
+}

@@ -1,0 +1,63 @@
+//! What is asked of the desk, and what it answers.
+
+use crate::body::Body;
+use crate::fault::PyxFault;
+use crate::list::List;
+use crate::name::Name;
+use std::sync::Arc;
+
+/// A request. A document in the body of a put has the put's name as its origin wherever it is handed on.
+#[derive(Debug, Drop)]
+pub enum Request {
+    /// Stores a body under a name, in the place of what stands there.
+    Put(Name, Body),
+    /// Stores a body where this version stands under the name; an absent name has version 0.
+    PutIf(u64, Name, Body),
+    /// Removes what is stored under a name.
+    Remove(Name),
+    /// Asks for the bytes that are stored under a name.
+    Get(Name),
+    /// Asks for all names that are stored.
+    Names,
+    /// Builds the pages of a map, with a DITAVAL or without.
+    Build(Name, Option<Name>),
+}
+
+/// A name with the version that stood under it. An absent name has version 0.
+#[derive(Debug, PartialEq, Eq, Drop)]
+pub struct Read {
+    pub name: Name,
+    pub version: u64,
+}
+
+/// What the desk answers a request.
+#[derive(Debug, Drop)]
+pub enum Reply {
+    /// The body was stored with this version.
+    Stored(u64),
+    /// What had this version was removed.
+    Removed(u64),
+    /// The bytes as they were put.
+    Bytes(Arc<List<u8>>),
+    /// All names that are stored, by their bytes.
+    NameList(List<Read>),
+    /// The body is no PYX text.
+    Refused(PyxFault),
+    /// This version stands under the name, and not the one that was given.
+    Conflict(u64),
+    /// Nothing is stored under the name.
+    Absent,
+    /// So many names are stored, and this one is none of them.
+    TooManyNames(u32),
+    /// A build has its place.
+    Begun,
+}
+
+/// A request of a session, with its number there and its reply.
+#[derive(Debug, Drop)]
+pub struct Entry {
+    pub session: u32,
+    pub number: u32,
+    pub request: Request,
+    pub reply: Reply,
+}

@@ -1,0 +1,4 @@
+mod Rows
+pub mod WordLaws
+pub mod LineLaws
+pub mod StepLaws

@@ -1,0 +1,4 @@
+pub mod Words
+pub mod Read
+pub mod Command
+pub mod Machine

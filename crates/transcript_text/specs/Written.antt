@@ -1,0 +1,63 @@
+-- What is written of entries, in the words of `Transcript`.
+use Rattle.std.specs.Prelude.{◌≡◌, ℕ, Bool, true, false, List, ◌++◌, Option, Some, None, map, codes}
+use Rattle.std.specs.Fmt.{decimal}
+use Rattle.std.specs.List.{flat_map}
+use Rattle.std.specs.Str.{is_utf8}
+use Rattle.dita_doc.specs.Desk.{Reply, IsStored, IsRemoved, Bytes, NameList, IsRefused, Conflict, Absent, TooManyNames, Begun}
+use Rattle.dita_doc.specs.Page.{line}
+use Rattle.dita_doc.specs.Transcript.{Shown, PageShown, BuiltPages, StoppedBy, PagesTooLarge, NotYetBuilt, InOutlet, InRow, shown_words, shown_lines, bar_line, fault_shown}
+use Rattle.dita_doc.specs.Transcript as shown
+use Rattle.transcript_text.specs.declared.built.PageMark.{PageMark}
+use Rattle.transcript_text.specs.declared.built.PageMark.TheVariants as marks
+use Rattle.transcript_text.specs.declared.built.BuiltText.{BuiltText}
+use Rattle.transcript_text.specs.declared.built.BuiltText.TheVariants as builds
+
+abbrev pub mark_shown : PageMark → shown.PageMark
+mark_shown (marks.Bytes bytes) = InOutlet bytes
+mark_shown (marks.Row serial) = InRow serial
+
+abbrev pub page_shown : List ℕ × PageMark → PageShown
+page_shown page = record { name = page.0; mark = mark_shown page.1 }
+
+abbrev pub build_shown : BuiltText → Shown
+build_shown (builds.Pages pages faults) = BuiltPages (map page_shown pages) (map fault_shown faults)
+build_shown (builds.Stopped stop) = StoppedBy stop
+build_shown (builds.TooLarge total) = PagesTooLarge total
+build_shown builds.NotYet = NotYetBuilt
+
+-- what is shown of the build of an entry
+abbrev pub built_shown : Option BuiltText → Shown
+built_shown None = NotYetBuilt
+built_shown (Some built) = build_shown built
+
+-- the reply is that a build has its place
+abbrev pub is_begun : Reply → Bool
+is_begun (IsStored version) = false
+is_begun (IsRemoved version) = false
+is_begun (Bytes bytes) = false
+is_begun (NameList names) = false
+is_begun (IsRefused fault) = false
+is_begun (Conflict version) = false
+is_begun Absent = false
+is_begun (TooManyNames limit) = false
+is_begun Begun = true
+
+-- the bytes of a reply that has some are UTF-8
+abbrev pub IsText : Reply → Type 0
+IsText (IsStored version) = Unit {0}
+IsText (IsRemoved version) = Unit {0}
+IsText (Bytes bytes) = is_utf8 bytes ≡ true
+IsText (NameList names) = Unit {0}
+IsText (IsRefused fault) = Unit {0}
+IsText (Conflict version) = Unit {0}
+IsText Absent = Unit {0}
+IsText (TooManyNames limit) = Unit {0}
+IsText Begun = Unit {0}
+
+-- the beginning of an entry: its three numbers
+abbrev pub numbers_text : ℕ → ℕ → ℕ → List ℕ
+numbers_text place session number = codes "entry " ++ decimal place ++ codes " " ++ decimal session ++ codes " " ++ decimal number ++ codes " "
+
+-- the rest of an entry behind its three numbers: the rest of its line, and the lines below
+abbrev pub shown_text : Shown → List ℕ
+shown_text what = line (shown_words what) ++ flat_map bar_line (shown_lines what)

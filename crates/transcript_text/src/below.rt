@@ -1,0 +1,281 @@
+//! The lines below an entry.
+
+ghost use Rattle.std.specs.Prelude.{◌≡◌, ◌∷◌, codes, MatchBool, MatchOption, true};
+ghost use Rattle.dita_doc.specs.Cut.{Lacks};
+ghost use Rattle.transcript_text.specs.Words.{words_of, words_in, IsCutAtLast};
+ghost use Rattle.transcript_text.specs.Below.{below_of, below_one, below_two, below_three, lone_words, numbered_words, is_among, is_pyx_code as is_pyx_code_of, is_fault_code as is_fault_code_of, FitsAt, IsNameText, IsPageText, IsFaultText, IsCodeText, IsDetail, IsPlaceText, IsLastNumber};
+
+use crate::word::{
+    is_name_word, is_utf8, number32, number64, split_word, take_name, take_number64, take_word,
+};
+use dita_doc::{FaultCode, PyxCode, split_at_first};
+
+/// What lines stand below an entry.
+#[derive(Clone, Copy, Debug)]
+pub enum Below {
+    /// So many lines of a text.
+    Texts(u64),
+    /// So many names with their versions.
+    Names(u64),
+    /// So many pages, and then so many faults.
+    Built(u64, u64),
+}
+
+pub const PYX_CODES: [PyxCode; 12] = [
+    PyxCode::BadLine,
+    PyxCode::Entity,
+    PyxCode::AttributePlace,
+    PyxCode::AttributeTwice,
+    PyxCode::Unclosed,
+    PyxCode::CloseMismatch,
+    PyxCode::NoRoot,
+    PyxCode::SecondRoot,
+    PyxCode::TextOutside,
+    PyxCode::TooDeep,
+    PyxCode::TooLong,
+    PyxCode::NotUtf8,
+];
+
+pub const FAULT_CODES: [FaultCode; 31] = [
+    FaultCode::NoClass,
+    FaultCode::BadClass,
+    FaultCode::BadReference,
+    FaultCode::MapMissing,
+    FaultCode::MapCycle,
+    FaultCode::TopicMissing,
+    FaultCode::NotTopic,
+    FaultCode::MapConref,
+    FaultCode::GroupValue,
+    FaultCode::DitavalMissing,
+    FaultCode::DitavalTwice,
+    FaultCode::BadAction,
+    FaultCode::CopyTo,
+    FaultCode::Chunk,
+    FaultCode::NameChanged,
+    FaultCode::BadKeyName,
+    FaultCode::BadScopeName,
+    FaultCode::KeyUndefined,
+    FaultCode::KeyCycle,
+    FaultCode::KeyNoText,
+    FaultCode::ConrefMissing,
+    FaultCode::ConrefType,
+    FaultCode::ConrefCycle,
+    FaultCode::ConrefDepth,
+    FaultCode::RangeEnd,
+    FaultCode::PushPlace,
+    FaultCode::PushTwice,
+    FaultCode::TooManyResolved,
+    FaultCode::LinkNoPage,
+    FaultCode::PageTooLarge,
+    FaultCode::Foreign,
+];
+
+/// What the words of a reply say of the lines below it, if they are a reply's.
+pub fn read_reply(reply: &[u8]) -> Option<Below>
+    ensures { result ≡ below_of (words_of reply.now) }
+{
+    let (first, rest) = split_word(reply);
+    let Some(rest) = rest else {
+        return read_one(first);
+    };
+    let (second, rest) = split_word(rest);
+    let Some(rest) = rest else {
+        return read_two(first, second);
+    };
+    let (third, rest) = split_word(rest);
+    match rest {
+        None => read_three(first, second, third),
+        Some(_) => None,
+    }
+}
+
+fn read_one(word: &[u8]) -> Option<Below>
+    ensures { result ≡ below_one word.now }
+{
+    if is_lone(word) {
+        Some(Below::Texts(0))
+    } else {
+        None
+    }
+}
+
+fn is_lone(word: &[u8]) -> bool
+    ensures { result ≡ is_among lone_words word.now }
+{
+    word == b"absent".as_slice()
+        || word == b"notyet".as_slice()
+        || word == b"nomap".as_slice()
+        || word == b"notmap".as_slice()
+        || word == b"noditaval".as_slice()
+        || word == b"toomanynodes".as_slice()
+        || word == b"toomanypages".as_slice()
+}
+
+fn read_two(word: &[u8], second: &[u8]) -> Option<Below>
+    ensures { result ≡ below_two word.now second.now }
+{
+    if is_numbered(word) {
+        number64(second)?;
+        return Some(Below::Texts(0));
+    }
+    if word == b"toomanynames".as_slice() {
+        return if second == b"10000".as_slice() {
+            Some(Below::Texts(0))
+        } else {
+            None
+        };
+    }
+    if word == b"text".as_slice() {
+        return Some(Below::Texts(number64(second)?));
+    }
+    if word == b"names".as_slice() {
+        return Some(Below::Names(number64(second)?));
+    }
+    None
+}
+
+fn is_numbered(word: &[u8]) -> bool
+    ensures { result ≡ is_among numbered_words word.now }
+{
+    word == b"stored".as_slice()
+        || word == b"removed".as_slice()
+        || word == b"conflict".as_slice()
+        || word == b"toolarge".as_slice()
+}
+
+fn read_three(word: &[u8], second: &[u8], third: &[u8]) -> Option<Below>
+    ensures { result ≡ below_three word.now second.now third.now }
+{
+    if word == b"refused".as_slice() {
+        if !is_pyx_code(second) {
+            return None;
+        }
+        number32(third)?;
+        return Some(Below::Texts(0));
+    }
+    if word == b"built".as_slice() {
+        return Some(Below::Built(number64(second)?, number64(third)?));
+    }
+    None
+}
+
+fn is_pyx_code(word: &[u8]) -> bool
+    ensures { result ≡ is_pyx_code_of word.now }
+{
+    PYX_CODES.iter().any(|code| code.text().as_bytes() == word)
+}
+
+fn is_fault_code(word: &[u8]) -> bool
+    ensures { result ≡ is_fault_code_of word.now }
+{
+    FAULT_CODES
+        .iter()
+        .any(|code| code.text().as_bytes() == word)
+}
+
+/// Whether a text may stand on the line of this index below an entry, without its `|`.
+pub fn fits(below: Below, at: usize, text: &[u8]) -> bool
+    requires { Lacks 10 text.now }
+    ensures { MatchBool result (FitsAt below at text.now) (FitsAt below at text.now → ⊥) }
+{
+    match below {
+        Below::Texts(_) => is_utf8(text),
+        Below::Names(_) => is_name_text(text),
+        Below::Built(pages, _) => {
+            if (at as u64) < pages {
+                is_page_text(text)
+            } else {
+                is_fault_text(text)
+            }
+        }
+    }
+}
+
+fn is_name_text(text: &[u8]) -> bool
+    ensures { MatchBool result (IsNameText text.now) (IsNameText text.now → ⊥) }
+{
+    let Some((_, rest)) = take_name(Some(text)) else {
+        return false;
+    };
+    ends_with_number(rest)
+}
+
+/// Whether one word is left, and it is a number below 2^64.
+fn ends_with_number(rest: Option<&[u8]>) -> bool
+    ensures { MatchBool result (IsLastNumber (words_in rest.entry)) (IsLastNumber (words_in rest.entry) → ⊥) }
+{
+    match take_number64(rest) {
+        Some((_, behind)) => behind.is_none(),
+        None => false,
+    }
+}
+
+fn is_page_text(text: &[u8]) -> bool
+    ensures { MatchBool result (IsPageText text.now) (IsPageText text.now → ⊥) }
+{
+    let Some(rest) = take_word(Some(text), b"page") else {
+        return false;
+    };
+    let Some((_, rest)) = take_name(rest) else {
+        return false;
+    };
+    match take_word(rest, b"bytes") {
+        Some(rest) => ends_with_number(rest),
+        None => match take_word(rest, b"row") {
+            Some(rest) => ends_with_number(rest),
+            None => false,
+        },
+    }
+}
+
+fn is_fault_text(text: &[u8]) -> bool
+    requires { Lacks 10 text.now }
+    ensures { MatchBool result (IsFaultText text.now) (IsFaultText text.now → ⊥) }
+{
+    let Some((place, code)) = split_at_first(text, b' ') else {
+        return false;
+    };
+    is_place(place) && is_code_text(code)
+}
+
+/// Whether a text is a name, a colon and a line.
+fn is_place(text: &[u8]) -> bool
+    ensures { MatchBool result (IsPlaceText text.now) (IsPlaceText text.now → ⊥) }
+{
+    match split_at_last(text, b':') {
+        Some((name, line)) => is_name_word(name) && number32(line).is_some(),
+        None => false,
+    }
+}
+
+/// Whether a text is a code, and a detail behind a space or none.
+fn is_code_text(text: &[u8]) -> bool
+    requires { Lacks 10 text.now }
+    ensures { MatchBool result (IsCodeText text.now) (IsCodeText text.now → ⊥) }
+{
+    match split_at_first(text, b' ') {
+        Some((code, detail)) => is_fault_code(code) && is_detail(detail),
+        None => is_fault_code(text),
+    }
+}
+
+fn is_detail(detail: &[u8]) -> bool
+    requires { Lacks 10 detail.now }
+    ensures { MatchBool result (IsDetail detail.now) (IsDetail detail.now → ⊥) }
+{
+    !detail.is_empty() && is_utf8(detail)
+}
+
+/// What stands before and behind the last such byte, where there is one.
+fn split_at_last(bytes: &[u8], byte: u8) -> Option<(&[u8], &[u8])>
+    ensures { MatchOption result (Lacks byte bytes.now) (λ parts. IsCutAtLast byte bytes.now parts.0.now parts.1.now) }
+{
+    let mut end = bytes.len();
+    while end > 0 {
+        if bytes[end - 1] == byte {
+            return Some((&bytes[..end - 1], &bytes[end..]));
+        }
+        end -= 1;
+    }
+    None
+}

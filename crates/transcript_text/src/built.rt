@@ -1,0 +1,24 @@
+//! What an entry shows of a build.
+
+use dita_doc::{Fault, List as Items, Name, PlanStop};
+
+/// Where the bytes of a page are.
+#[derive(Clone, Copy, Debug, PartialEq, Eq)]
+pub enum PageMark {
+    /// So many bytes were put into the outlet.
+    Bytes(u64),
+    /// They are in the row of this serial.
+    Row(u64),
+}
+
+/// What a build gave.
+#[derive(Debug, Drop)]
+pub enum BuiltText {
+    /// The pages, the contents page last, and the faults.
+    Pages(Items<(Name, PageMark)>, Items<Fault>),
+    Stopped(PlanStop),
+    /// The pages have so many bytes, which are too many.
+    TooLarge(u64),
+    /// The sources are of a form that is not built so far.
+    NotYet,
+}

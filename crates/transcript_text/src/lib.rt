@@ -1,0 +1,20 @@
+//! The transcript of a run: its entries written, and its form.
+#![tactic(auto)]
+
+mod below;
+mod built;
+mod head;
+mod law;
+mod read;
+mod state;
+#[cfg(test)]
+mod tests;
+mod transcript;
+mod word;
+mod write;
+
+pub use built::{BuiltText, PageMark};
+pub use law::written_is_read;
+pub use read::read_transcript;
+pub use transcript::{BadTranscript, EntryText, RowText, Transcript};
+pub use write::{write_end, write_entry, write_head};

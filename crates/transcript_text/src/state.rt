@@ -1,0 +1,258 @@
+//! A transcript, line by line.
+
+ghost use Rattle.std.specs.Prelude.{◌≡◌, ◌<◌, ◌==◌, ◌∷◌, [], ◌++◌, ℕ, List, length, map, IfOk, IfSome, MatchOption};
+ghost use Rattle.std.specs.Option.{option_copied};
+ghost use Rattle.dita_doc.specs.Cut.{Lacks};
+ghost use Rattle.dita_doc.specs.Transcript.{IsNameShown, IsValShown};
+ghost use Rattle.transcript_text.specs.Below.{count_of};
+ghost use Rattle.transcript_text.specs.State.{HasEntries, HasOpenEntry, HasRows, HasOpenRow, HasRead, MayEntries, MayEntryLines, MayRows, MayRowLines, MayStart, May};
+ghost use Rattle.transcript_text.specs.Told.{bar};
+
+use crate::below::{Below, fits};
+use crate::head::{EntryLine, RowLine, read_end_line, read_entry_line, read_row_line};
+use crate::transcript::{EntryText, RowText, Transcript};
+use crate::word::is_utf8;
+use dita_doc::{FactKey, List as Items, Name, Text};
+use std::alloc::{AllocError, Global};
+
+/// What was read of a transcript.
+#[derive(Debug, Drop)]
+pub enum State {
+    /// Nothing.
+    Start,
+    /// Whole entries.
+    Entries(Items<EntryText>),
+    /// And an entry of which lines are to come.
+    Entry(Items<EntryText>, EntryText, Below),
+    /// All entries, and whole rows; the serial of the last one, or 0.
+    Rows(Items<EntryText>, Items<RowText>, u64),
+    /// And a row of which so many lines are to come.
+    Row(Items<EntryText>, Items<RowText>, RowText, u64),
+    /// All.
+    End(Transcript),
+}
+
+impl State {
+    /// Takes the next line, without its LF; nothing is made of one that may not stand there.
+    pub fn next(self, alloc: Global, line: &[u8]) -> Result<Option<State>, AllocError>
+        requires { Lacks 10 line.now }
+        ensures sound { (read : List (List ℕ)) → HasRead self read → IfOk result (λ next. IfSome next (λ state. HasRead state (read ++ line.now ∷ []))) }
+        ensures complete { (more : List (List ℕ)) → May self (line.now ∷ more) → IfOk result (λ next. MatchOption next ⊥ (λ state. May state more)) }
+    {
+        match self {
+            State::Start => Ok(start(alloc, line)),
+            State::Entries(entries) => entry_or_row(alloc, entries, line),
+            State::Entry(entries, opened, below) => entry_text(alloc, entries, opened, below, line),
+            State::Rows(entries, rows, last) => row_or_end(alloc, entries, rows, last, line),
+            State::Row(entries, rows, opened, left) => {
+                row_text(entries, rows, opened, left, line)
+            }
+            State::End(_) => Ok(None),
+        }
+    }
+}
+
+fn start(alloc: Global, line: &[u8]) -> Option<State>
+    ensures sound { IfSome result (λ state. HasRead state (line.now ∷ [])) }
+    ensures complete { (more : List (List ℕ)) → MayStart (line.now ∷ more) → MatchOption result ⊥ (λ state. May state more) }
+{
+    if line == b"dita transcript 1".as_slice() {
+        Some(State::Entries(Items::new(alloc)))
+    } else {
+        None
+    }
+}
+
+fn entry_or_row(
+    alloc: Global,
+    entries: Items<EntryText>,
+    line: &[u8],
+) -> Result<Option<State>, AllocError>
+    ensures sound { (read : List (List ℕ)) → HasEntries entries read → IfOk result (λ next. IfSome next (λ state. HasRead state (read ++ line.now ∷ []))) }
+    ensures complete { (more : List (List ℕ)) → MayEntries (line.now ∷ more) → IfOk result (λ next. MatchOption next ⊥ (λ state. May state more)) }
+{
+    match read_entry_line(line) {
+        Some(head) => {
+            let opened = open_entry(alloc, &head)?;
+            Ok(Some(with_entry(entries, opened, head.below)?))
+        }
+        None => row_or_end(alloc, entries, Items::new(alloc), 0, line),
+    }
+}
+
+fn open_entry(alloc: Global, head: &EntryLine<'_>) -> Result<EntryText, AllocError>
+    ensures { IfOk result (λ opened. opened ≡ record { place = head.now.place; session = head.now.session; number = head.now.number; reply = head.now.reply.now; lines = [] }) }
+{
+    Ok(EntryText {
+        place: head.place,
+        session: head.session,
+        number: head.number,
+        reply: Text::from_slice(alloc, head.reply)?,
+        lines: Items::new(alloc),
+    })
+}
+
+/// The state with an entry, which is whole if no lines of it are to come.
+fn with_entry(
+    entries: Items<EntryText>,
+    opened: EntryText,
+    below: Below,
+) -> Result<State, AllocError>
+    ensures sound { (read : List (List ℕ)) → HasOpenEntry entries opened below read → IfOk result (λ state. HasRead state read) }
+    ensures complete { (more : List (List ℕ)) → MayEntryLines below (length opened.lines) more → IfOk result (λ state. May state more) }
+{
+    if is_whole(below, opened.lines.len()) {
+        let mut entries = entries;
+        entries.push(opened)?;
+        Ok(State::Entries(entries))
+    } else {
+        Ok(State::Entry(entries, opened, below))
+    }
+}
+
+/// Whether so many lines are all.
+fn is_whole(below: Below, lines: usize) -> bool
+    ensures { result ≡ (lines == count_of below) }
+{
+    let lines = lines as u64;
+    match below {
+        Below::Texts(count) | Below::Names(count) => lines == count,
+        Below::Built(pages, faults) => lines >= pages && lines - pages == faults,
+    }
+}
+
+/// Takes a line of an entry.
+fn entry_text(
+    alloc: Global,
+    entries: Items<EntryText>,
+    opened: EntryText,
+    below: Below,
+    line: &[u8],
+) -> Result<Option<State>, AllocError>
+    requires { Lacks 10 line.now }
+    ensures sound { (read : List (List ℕ)) → HasOpenEntry entries opened below read → length opened.lines < count_of below →
+        IfOk result (λ next. IfSome next (λ state. HasRead state (read ++ line.now ∷ []))) }
+    ensures complete { (more : List (List ℕ)) → MayEntryLines below (length opened.lines) (line.now ∷ more) → length opened.lines < count_of below →
+        IfOk result (λ next. MatchOption next ⊥ (λ state. May state more)) }
+{
+    let Some(text) = text_of(line) else {
+        return Ok(None);
+    };
+    if !fits(below, opened.lines.len(), text) {
+        return Ok(None);
+    }
+    let mut opened = opened;
+    opened.lines.push(Text::from_slice(alloc, text)?)?;
+    Ok(Some(with_entry(entries, opened, below)?))
+}
+
+/// What stands behind the `|` of a line.
+fn text_of(line: &[u8]) -> Option<&[u8]>
+    ensures { MatchOption result ((text : List ℕ) → line.now ≡ bar text → ⊥) (λ text. line.now ≡ bar text.now) }
+{
+    match line.split_first() {
+        Some((first, text)) if *first == b'|' => Some(text),
+        _ => None,
+    }
+}
+
+fn row_or_end(
+    alloc: Global,
+    entries: Items<EntryText>,
+    rows: Items<RowText>,
+    last: u64,
+    line: &[u8],
+) -> Result<Option<State>, AllocError>
+    ensures sound { (read : List (List ℕ)) → HasRows entries rows last read → IfOk result (λ next. IfSome next (λ state. HasRead state (read ++ line.now ∷ []))) }
+    ensures complete { (more : List (List ℕ)) → MayRows last (line.now ∷ more) → IfOk result (λ next. MatchOption next ⊥ (λ state. May state more)) }
+{
+    match read_row_line(line) {
+        Some(row) => {
+            if row.serial < last {
+                return Ok(None);
+            }
+            let opened = open_row(alloc, &row)?;
+            Ok(Some(with_row(entries, rows, opened, row.count)?))
+        }
+        None => match read_end_line(line) {
+            Some(total) => Ok(Some(State::End(Transcript {
+                entries,
+                rows,
+                total,
+            }))),
+            None => Ok(None),
+        },
+    }
+}
+
+fn open_row(alloc: Global, row: &RowLine<'_>) -> Result<RowText, AllocError>
+    requires map { IsNameShown row.now.map.now }
+    requires val { IsValShown (option_copied row.now.val) }
+    ensures { IfOk result (λ opened. opened ≡ record { serial = row.now.serial; key = record { map = row.now.map.now; val = option_copied row.now.val; part = row.now.part }; bytes = [] }) }
+{
+    let map = name_of(alloc, row.map)?;
+    let val = match row.val {
+        Some(val) => Some(name_of(alloc, val)?),
+        None => None,
+    };
+    Ok(RowText {
+        serial: row.serial,
+        key: FactKey {
+            map,
+            val,
+            part: row.part,
+        },
+        bytes: Items::new(alloc),
+    })
+}
+
+fn name_of(alloc: Global, bytes: &[u8]) -> Result<Name, AllocError>
+    requires { IsNameShown bytes.now }
+    ensures { IfOk result (λ name. name ≡ bytes.now) }
+{
+    Name::new(alloc, Text::from_slice(alloc, bytes)?)
+}
+
+/// The state with a row, which is whole if no lines of it are left.
+fn with_row(
+    entries: Items<EntryText>,
+    rows: Items<RowText>,
+    opened: RowText,
+    left: u64,
+) -> Result<State, AllocError>
+    ensures sound { (read : List (List ℕ)) → HasOpenRow entries rows opened left read → IfOk result (λ state. HasRead state read) }
+    ensures complete { (more : List (List ℕ)) → MayRowLines left opened.serial more → IfOk result (λ state. May state more) }
+{
+    if left == 0 {
+        let last = opened.serial;
+        let mut rows = rows;
+        rows.push(opened)?;
+        Ok(State::Rows(entries, rows, last))
+    } else {
+        Ok(State::Row(entries, rows, opened, left))
+    }
+}
+
+/// Takes a line of a row.
+fn row_text(
+    entries: Items<EntryText>,
+    rows: Items<RowText>,
+    opened: RowText,
+    left: u64,
+    line: &[u8],
+) -> Result<Option<State>, AllocError>
+    requires { Lacks 10 line.now }
+    ensures sound { (read : List (List ℕ)) → HasOpenRow entries rows opened left read → 0 < left → IfOk result (λ next. IfSome next (λ state. HasRead state (read ++ line.now ∷ []))) }
+    ensures complete { (more : List (List ℕ)) → MayRowLines left opened.serial (line.now ∷ more) → 0 < left → IfOk result (λ next. MatchOption next ⊥ (λ state. May state more)) }
+{
+    let Some(text) = text_of(line) else {
+        return Ok(None);
+    };
+    if !is_utf8(text) || left == 0 {
+        return Ok(None);
+    }
+    let mut opened = opened;
+    opened.bytes.append(text)?;
+    opened.bytes.push(b'\n')?;
+    Ok(Some(with_row(entries, rows, opened, left - 1)?))
+}

@@ -1,0 +1,2 @@
+mod NameListLaws
+mod KeptLaws

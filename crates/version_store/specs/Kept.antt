@@ -1,0 +1,62 @@
+-- What a store keeps (own): the history of all that it has answered, within two limits. One more request stands at the end of the
+-- history, with the reply that the desk gives at its place; so the sources are always the history's replay.
+use Rattle.std.specs.Prelude.{◌≡◌, ◌+◌, ◌<◌, ◌≤◌, ◌⊎◌, ℕ, List, [], ◌∷◌, ◌++◌, length}
+use Rattle.dita_doc.specs.Request.{Request, text_size}
+use Rattle.dita_doc.specs.Desk.{State, reply}
+use Rattle.dita_doc.specs.History.{Entry, IsLegal, sources, history_size}
+use Rattle.dita_doc.specs.declared.stop.Stop.{Stop}
+use Rattle.dita_doc.specs.declared.stop.Stop.TheVariants.{Fault, NoMemory}
+use Rattle.version_store.specs.declared.full.Full.{Full}
+
+-- the history, and at most how many entries and bytes of names and bodies it may have
+pub record Kept : Type 0 where
+  pub history : List Entry
+  pub entry_limit : ℕ
+  pub text_limit : ℕ
+
+-- the limits of a desk
+abbrev pub entry_limit_of_desk : ℕ
+entry_limit_of_desk = 65536
+
+abbrev pub text_limit_of_desk : ℕ
+text_limit_of_desk = 67108864
+
+-- nothing was asked yet
+abbrev pub nothing_kept : ℕ → ℕ → Kept
+nothing_kept entries bytes = record { history = []; entry_limit = entries; text_limit = bytes }
+
+-- what is stored after the whole history
+abbrev pub stored_now : Kept → State
+stored_now kept = sources kept.history (length kept.history)
+
+-- what is kept once a request of a session has been answered
+abbrev pub answered : ℕ → ℕ → Request → Kept → Kept
+answered session number request kept = record {
+  history = kept.history ++ record { session = session; number = number; request = request; reply = reply (stored_now kept) (length kept.history) request } ∷ [];
+  entry_limit = kept.entry_limit;
+  text_limit = kept.text_limit;
+}
+
+-- one more request stays within the limits
+pub record Fits (kept : Kept) (request : Request) : Type 0 where
+  pub entries : length kept.history < kept.entry_limit
+  pub text : history_size kept.history + text_size request ≤ kept.text_limit
+
+-- the history as it stands, where one more request would pass a limit
+pub record IsFull (kept : Kept) (request : Request) (full : Full) : Type 0 where
+  pub entries : full.entries ≡ length kept.history
+  pub bytes : full.bytes ≡ history_size kept.history
+  pub passed : (kept.entry_limit ≤ length kept.history) ⊎ (kept.text_limit < history_size kept.history + text_size request)
+
+-- why a request was not answered; want of memory says nothing
+abbrev pub IsFullIf : Kept → Request → Stop Full → Type 0
+IsFullIf kept request (Fault full) = IsFull kept request full
+IsFullIf kept request NoMemory = Unit {0}
+
+-- each reply is the desk's, the sources and the size are those of the history, and it is within the limits
+pub record IsKept (state : State) (size : ℕ) (kept : Kept) : Type 0 where
+  pub legal : IsLegal kept.history
+  pub stored : state ≡ stored_now kept
+  pub text : size ≡ history_size kept.history
+  pub entries : length kept.history ≤ kept.entry_limit
+  pub bytes : history_size kept.history ≤ kept.text_limit
