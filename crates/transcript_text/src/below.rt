@@ -21,6 +21,7 @@ pub enum Below {
     Built(u64, u64),
 }
 
+/// All codes, in their order.
 pub const PYX_CODES: [PyxCode; 12] = [
     PyxCode::BadLine,
     PyxCode::Entity,
@@ -36,6 +37,7 @@ pub const PYX_CODES: [PyxCode; 12] = [
     PyxCode::NotUtf8,
 ];
 
+/// All codes, in their order.
 pub const FAULT_CODES: [FaultCode; 31] = [
     FaultCode::NoClass,
     FaultCode::BadClass,

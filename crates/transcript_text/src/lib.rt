@@ -1,4 +1,7 @@
-//! The transcript of a run: its entries written, and its form.
+//! The transcript of a run: its entries to lines, and lines back to what they tell.
+//!
+//! What is used above it: the contracts of `write_entry` and `read_transcript`. What is written has the
+//! form of transcripts, and bytes are read exactly where they have it.
 #![tactic(auto)]
 
 mod below;

@@ -43,7 +43,7 @@ fn is_given(reply: &Reply, built: Option<&BuiltText>) -> bool
     }
 }
 
-/// The text of the entry at place 7, which is request 3 of session 2.
+/// The text of an entry at the eighth place, whose request is the third one of its session.
 fn written(alloc: Global, reply: Reply, built: Option<&BuiltText>) -> Result<Text, AllocError> {
     let entry = Entry {
         session: 2,

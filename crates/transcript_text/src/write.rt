@@ -56,6 +56,7 @@ pub fn write_end(
     Ok(out)
 }
 
+/// Puts the beginning of an entry: its three numbers.
 fn put_numbers(
     alloc: Global,
     out: &mut Text,
