@@ -1,5 +1,5 @@
-pub mod EntryLaws
 pub mod FlatLaws
+pub mod GivenLaws
 pub mod PageLaws
 pub mod PagesLaws
 pub mod PageNameLaws

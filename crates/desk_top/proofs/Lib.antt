@@ -1,7 +1,6 @@
 pub mod AnswerLaws
 pub mod DeliverLaws
 pub mod EndsLaws
-pub mod OneHistoryLaws
-pub mod PlaceLaws
+pub mod PathLaws
 pub mod RunLaws
 pub mod TakesLaws

@@ -1,18 +1,22 @@
 -- What a run tells of its requests, one after another.
-use Rattle.std.proofs.Common.{◌≡◌, ◌+◌, ◌≤◌, ℕ, List, [], ◌∷◌, ◌++◌, Option, length, refl, ap, sym, ◌∙◌, arith, append_assoc, append-nil, length-append, subst, suc}
+use Rattle.std.proofs.Common.{◌≡◌, ◌+◌, ◌≤◌, ℕ, List, [], ◌∷◌, ◌++◌, Option, Some, None, length, option_map, refl, ap, sym, ◌∙◌, arith, append_assoc, append-nil, length-append, subst}
 use Rattle.std.specs.List.{flat_map, All}
-use Rattle.std.proofs.lemmas.List.Sums.{sum-map, sum_by-cons}
-use Rattle.dita_outside.specs.Pages.{Pages, TakesPages, TakesPagesFront}
-use Rattle.dita_doc.specs.Desk.{State, next}
-use Rattle.dita_doc.specs.History.{Entry, sources, history_size}
-use Rattle.dita_doc.specs.Page.{line}
-use Rattle.dita_doc.specs.Request.{text_size}
-use Rattle.dita_doc.specs.Script.{Step, script_limit}
-use Rattle.dita_doc.specs.Transcript.{EntryShown, Totals, entry_text, head_text, end_head, transcript_text}
 use Rattle.std.proofs.lemmas.List.Elements.{All-cons, All-tail, All-append}
-use Rattle.dita_doc.proofs.HistoryLaws.{sources_push, size_push}
-use Rattle.desk_top.specs.Answers.{Answer, answers_from, answer_shown, answers_shown, transcript_of, pages_of_answer, pages_of_answers}
-use Rattle.desk_top.specs.Runs.{IsUtf8Step, IsUtf8Entry, FitsDesk, HasRoom, Answers, AnswersFront, answer_behind, steps_size}
+use Rattle.std.proofs.lemmas.List.Sums.{sum-map, sum_by-cons}
+use Rattle.std.proofs.lemmas.Option.{same_Some}
+use Rattle.dita_doc.specs.Bytes.{Bytes}
+use Rattle.dita_doc.specs.Desk.{next}
+use Rattle.dita_doc.specs.History.{Entry, sources, history_size}
+use Rattle.dita_doc.specs.Lines.{line}
+use Rattle.dita_doc.specs.Request.{text_size}
+use Rattle.dita_outside.specs.Pages.{Pages, TakesPages, TakesPagesFront}
+use Rattle.run_spec.specs.Answers.{Answer, answers_from, answers_to, answer_shown, answers_shown, before_shown, transcript_of, pages_of_answer, pages_of_answers}
+use Rattle.run_spec.proofs.HistoryLaws.{length-answers_from}
+use Rattle.script_text.specs.Facts.{FitsScript, IsUtf8Step, steps_size}
+use Rattle.script_text.specs.Script.{Step, script_limit}
+use Rattle.transcript_text.specs.Transcript.{EntryShown, Totals, entry_text, head_text, end_head, transcript_text}
+use Rattle.version_store.proofs.HistoryLaws.{sources_push, size_push}
+use Rattle.desk_top.specs.Runs.{IsUtf8Entry, HasRoom, Answers, answer_behind, told_behind}
 use Rattle.desk_top.proofs.TakesLaws.{takes_then, takes_then_front, front_more, takes_none}
 
 -- what was taken so far of all pages, and what is left of them
@@ -21,12 +25,9 @@ pub record HasTaken (old now : Option Pages) (left all : Pages) : Type 0 where
   pub taken : TakesPages old now done
   pub whole : all ≡ done ++ left
 
--- at the beginning, nothing
-pub nothing_taken : (old : Option Pages) (all : Pages) → HasTaken old old all all
-nothing_taken old all = record { done = []; taken = takes_none old; whole = refl }
-
 -- some pages more
-pub taken_more : (old now new : Option Pages) (some left all : Pages) → HasTaken old now (some ++ left) all → TakesPages now new some → HasTaken old new left all
+pub taken_more : (old now new : Option Pages) (some left all : Pages) → HasTaken old now (some ++ left) all
+    → TakesPages now new some → HasTaken old new left all
 taken_more old now new some left all before more = record {
   done = before.done ++ some;
   taken = takes_then old now new before.done some before.taken more;
@@ -34,66 +35,84 @@ taken_more old now new some left all before more = record {
 }
 
 -- the first of some pages more, and then no other
-pub taken_front : (old now new : Option Pages) (some left all : Pages) → HasTaken old now (some ++ left) all → TakesPagesFront now new some → TakesPagesFront old new all
-taken_front old now new some left all before front = subst (TakesPagesFront old new) (append_assoc before.done some left ∙ sym before.whole)
+pub taken_front : (old now new : Option Pages) (some left all : Pages) → HasTaken old now (some ++ left) all
+    → TakesPagesFront now new some → TakesPagesFront old new all
+taken_front old now new some left all before front =
+    subst (TakesPagesFront old new) (append_assoc before.done some left ∙ sym before.whole)
     (front_more old new (before.done ++ some) left (takes_then_front old now new before.done some before.taken front))
-
--- all pages
-pub all_taken : (old now : Option Pages) (all : Pages) → HasTaken old now [] all → TakesPages old now all
-all_taken old now all before = subst (TakesPages old now) (sym (append-nil before.done) ∙ sym before.whole) before.taken
 
 -- the answers to what is left behind a history
 abbrev pub answers_behind : List Entry → List Step → List Answer
 answers_behind history left = answers_from (sources history (length history)) (length history) left
 
--- an answer to each step
-pub length-answers_from : (state : State) (place : ℕ) (steps : List Step) → length (answers_from state place steps) ≡ length steps
-length-answers_from state place [] = refl
-length-answers_from state place (step ∷ steps) = ap (λ n. suc n) (length-answers_from (next state place step.request) (place + 1) steps)
-
 -- behind one entry more
 length_push : (history : List Entry) (entry : Entry) → length (history ++ entry ∷ []) ≡ length history + 1
 length_push history entry = omega (arith, length-append history (entry ∷ []))
 
-pub state_push : (history : List Entry) (entry : Entry) → sources (history ++ entry ∷ []) (length (history ++ entry ∷ [])) ≡ next (sources history (length history)) (length history) entry.request
+pub state_push : (history : List Entry) (entry : Entry)
+    → sources (history ++ entry ∷ []) (length (history ++ entry ∷ []))
+    ≡ next (sources history (length history)) (length history) entry.request
 state_push history entry = ap (sources (history ++ entry ∷ [])) (length_push history entry) ∙ sources_push history entry
 
 answers_push : (history : List Entry) (entry : Entry) (left : List Step)
-    → answers_behind (history ++ entry ∷ []) left ≡ answers_from (next (sources history (length history)) (length history) entry.request) (length history + 1) left
+    → answers_behind (history ++ entry ∷ []) left
+    ≡ answers_from (next (sources history (length history)) (length history) entry.request)
+    (length history + 1) left
 answers_push history entry left =
     ap (λ state. answers_from state (length (history ++ entry ∷ [])) left) (state_push history entry)
-    ∙ ap (λ place. answers_from (next (sources history (length history)) (length history) entry.request) place left) (length_push history entry)
+    ∙ ap (λ place. answers_from (next (sources history (length history)) (length history) entry.request) place left)
+    (length_push history entry)
 
--- the first requests were answered, which are the history, and these are left; what was told before them and what is told of
+-- what is told of answers from a place on
+abbrev pub answers_text : ℕ → List Answer → Bytes
+answers_text place answers = flat_map entry_text (answers_shown place answers)
+
+-- one entry more was told
+told_more : (before after : Bytes) (shown : Option EntryShown) (rest : List EntryShown)
+    → Some after ≡ option_map (told_behind before) shown
+    → after ++ flat_map entry_text rest ≡ before ++ flat_map entry_text (before_shown shown rest)
+told_more before after None rest told = absurd (cc told)
+told_more before after (Some entry) rest told =
+    ap (λ t. t ++ flat_map entry_text rest) (same_Some after _ told)
+    ∙ append_assoc before (entry_text entry) (flat_map entry_text rest)
+
+-- the first requests were answered, which are the history, and these are left; what was told before them and what is
+-- told of
 -- them is the whole
-pub record HasAnswered (all : List Step) (history : List Entry) (left : List Step) (text : List ℕ) (old now : Option Pages) : Type 0 where
+pub record HasAnswered (all : List Step) (history : List Entry) (left : List Step) (text : Bytes)
+    (old now : Option Pages) : Type 0 where
   pub counted : length history + length left ≡ length all
-  pub told : text ++ flat_map entry_text (answers_shown (length history) (answers_behind history left)) ≡ head_text ++ flat_map entry_text (answers_shown 0 (answers_from [] 0 all))
-  pub taken : HasTaken old now (pages_of_answers (answers_behind history left)) (pages_of_answers (answers_from [] 0 all))
+  pub told : text ++ answers_text (length history) (answers_behind history left) ≡ head_text
+      ++ answers_text 0 (answers_to all)
+  pub taken : HasTaken old now (pages_of_answers (answers_behind history left)) (pages_of_answers (answers_to all))
   pub size : history_size history + steps_size left ≤ script_limit
   pub utf8 : All IsUtf8Entry history
   pub rest : All IsUtf8Step left
 
 -- one step more
-pub steps_size_cons : (step : Step) (left : List Step) → steps_size (step ∷ left) ≡ text_size step.request + steps_size left
+pub steps_size_cons : (step : Step) (left : List Step)
+    → steps_size (step ∷ left) ≡ text_size step.request + steps_size left
 steps_size_cons step left =
     let bytes : Step → ℕ = λ step. text_size step.request in
     sum-map bytes (step ∷ left) ∙ sum_by-cons bytes step left ∙ ap (λ n. bytes step + n) (sym (sum-map bytes left))
 
 -- none was answered
-pub none_answered : (all : List Step) (text : List ℕ) (old : Option Pages) → FitsDesk all → text ≡ head_text → HasAnswered all [] all text old old
-none_answered all text old fits head = record {
+pub none_answered : (all left : List Step) (history : List Entry) (text : Bytes) (old : Option Pages) → FitsScript all
+    → left ≡ all → history ≡ [] → text ≡ head_text
+    → HasAnswered all history left text old old
+none_answered all left history text old fits same none head = rw (same, none, head) (record {
   counted = omega arith;
-  told = ap (λ text. text ++ flat_map entry_text (answers_shown 0 (answers_from [] 0 all))) head;
-  taken = nothing_taken old (pages_of_answers (answers_from [] 0 all));
+  told = refl;
+  taken = record { done = []; taken = takes_none old; whole = refl };
   size = omega (arith, fits.size);
   utf8 = λ k d within. absurd (omega arith);
   rest = fits.utf8;
-}
+})
 
 -- there is room for one that is left
-pub room_left : (all : List Step) (history : List Entry) (step : Step) (left : List Step) (text : List ℕ) (old now : Option Pages)
-    → FitsDesk all → HasAnswered all history (step ∷ left) text old now → HasRoom history step
+pub room_left : (all : List Step) (history : List Entry) (step : Step) (left : List Step) (text : Bytes)
+    (old now : Option Pages)
+    → FitsScript all → HasAnswered all history (step ∷ left) text old now → HasRoom history step
 room_left all history step left text old now fits before = record {
   few = omega (arith, before.counted, fits.few);
   size = omega (arith, before.size, steps_size_cons step left);
@@ -102,54 +121,69 @@ room_left all history step left text old now fits before = record {
 }
 
 -- one request more
-pub one_answered : (all : List Step) (history later : List Entry) (step : Step) (left : List Step) (text longer : List ℕ) (old now new : Option Pages)
-    → HasAnswered all history (step ∷ left) text old now → Answers history later step text longer now new → HasAnswered all later left longer old new
-one_answered all history later step left text longer old now new before a =
+pub one_answered : (all : List Step) (history later : List Entry) (step : Step) (left : List Step)
+    (text longer : Bytes) (old now new : Option Pages)
+    → HasAnswered all history (step ∷ left) text old now → Answers history later step text longer
+    → TakesPages now new (pages_of_answer (answer_behind history step))
+    → HasAnswered all later left longer old new
+one_answered all history later step left text longer old now new before a put =
     let entry = (answer_behind history step).entry in
-    let next_answers = answers_from (next (sources history (length history)) (length history) step.request) (length history + 1) left in
-    let same : answers_behind (history ++ entry ∷ []) left ≡ next_answers = answers_push history entry left in
+    let rest = answers_from (next (sources history (length history)) (length history) step.request)
+    (length history + 1) left in
+    let same : answers_behind (history ++ entry ∷ []) left ≡ rest = answers_push history entry left in
     let longer_by : length (history ++ entry ∷ []) ≡ length history + 1 = length_push history entry in
     subst (λ (h : List Entry). HasAnswered all h left longer old new) (sym a.grown) (record {
       counted = omega (arith, before.counted, longer_by);
       told =
-          ap (λ (place : ℕ). longer ++ flat_map entry_text (answers_shown place (answers_behind (history ++ entry ∷ []) left))) longer_by
-          ∙ ap (λ (answers : List Answer). longer ++ flat_map entry_text (answers_shown (length history + 1) answers)) same
-          ∙ ap (λ told. told ++ flat_map entry_text (answers_shown (length history + 1) next_answers)) a.told
-          ∙ append_assoc text (entry_text (answer_shown (length history) (answer_behind history step))) (flat_map entry_text (answers_shown (length history + 1) next_answers))
+          ap (λ (place : ℕ). longer ++ answers_text place (answers_behind (history ++ entry ∷ []) left)) longer_by
+          ∙ ap (λ (answers : List Answer). longer ++ answers_text (length history + 1) answers) same
+          ∙ told_more text longer (answer_shown (length history) (answer_behind history step))
+          (answers_shown (length history + 1) rest) a.told
           ∙ before.told;
-      taken = subst (λ (answers : List Answer). HasTaken old new (pages_of_answers answers) (pages_of_answers (answers_from [] 0 all))) (sym same)
-          (taken_more old now new (pages_of_answer (answer_behind history step)) (pages_of_answers next_answers) (pages_of_answers (answers_from [] 0 all)) before.taken a.taken);
-      size = (let more : history_size (history ++ entry ∷ []) ≡ history_size history + text_size step.request = size_push history entry in omega (arith, before.size, more, steps_size_cons step left));
-      utf8 = All-append IsUtf8Entry history (entry ∷ []) before.utf8 (All-cons IsUtf8Entry entry [] (before.rest 0 step (omega arith)) (λ k d within. absurd (omega arith)));
+      taken = subst (λ (answers : List Answer). HasTaken old new (pages_of_answers answers)
+          (pages_of_answers (answers_to all))) (sym same)
+          (taken_more old now new (pages_of_answer (answer_behind history step)) (pages_of_answers rest)
+          (pages_of_answers (answers_to all)) before.taken put);
+      size = (let more : history_size (history ++ entry ∷ []) ≡ history_size history + text_size step.request =
+          size_push history entry in omega (arith, before.size, more, steps_size_cons step left));
+      utf8 = All-append IsUtf8Entry history (entry ∷ []) before.utf8
+          (All-cons IsUtf8Entry entry [] (before.rest 0 step (omega arith)) (λ k d within. absurd (omega arith)));
       rest = All-tail IsUtf8Step step left before.rest;
     })
 
 -- the answer to one request more was begun
-pub answer_begun : (all : List Step) (history : List Entry) (step : Step) (left : List Step) (text : List ℕ) (old now new : Option Pages)
-    → HasAnswered all history (step ∷ left) text old now → AnswersFront history step now new → TakesPagesFront old new (pages_of_answers (answers_from [] 0 all))
+pub answer_begun : (all : List Step) (history : List Entry) (step : Step) (left : List Step) (text : Bytes)
+    (old now new : Option Pages)
+    → HasAnswered all history (step ∷ left) text old now
+    → TakesPagesFront now new (pages_of_answer (answer_behind history step))
+    → TakesPagesFront old new (pages_of_answers (answers_to all))
 answer_begun all history step left text old now new before front =
-    taken_front old now new (pages_of_answer (answer_behind history step)) (pages_of_answers (answers_from (next (sources history (length history)) (length history) step.request) (length history + 1) left))
-    (pages_of_answers (answers_from [] 0 all)) before.taken front
+    taken_front old now new (pages_of_answer (answer_behind history step))
+    (pages_of_answers (answers_from (next (sources history (length history)) (length history) step.request)
+    (length history + 1) left))
+    (pages_of_answers (answers_to all)) before.taken front
 
 -- nothing is left
 pub no_more : {A : Type 0} (xs : List A) (size : ℕ) → size ≡ length xs → size ≡ 0 → xs ≡ []
 no_more [] size e none = refl
 no_more (x ∷ xs) size e none = absurd (omega arith)
 
--- all were answered: their pages were taken
-pub all_answered : (all : List Step) (history : List Entry) (text : List ℕ) (old now : Option Pages) → HasAnswered all history [] text old now → TakesPages old now (pages_of_answers (answers_from [] 0 all))
-all_answered all history text old now before = all_taken old now (pages_of_answers (answers_from [] 0 all)) before.taken
-
 -- a transcript without rows
-no_rows : (entries : List EntryShown) (totals : Totals) → head_text ++ flat_map entry_text entries ++ line (end_head totals) ≡ transcript_text (record { entries = entries; rows = []; totals = totals })
-no_rows entries totals = ap (λ text. text ++ line (end_head totals)) (sym (append-nil (head_text ++ flat_map entry_text entries)))
+no_rows : (entries : List EntryShown) (totals : Totals)
+    → head_text ++ flat_map entry_text entries ++ line (end_head totals)
+    ≡ transcript_text (record { entries = entries; rows = []; totals = totals })
+no_rows entries totals = ap (λ text. text ++ line (end_head totals))
+    (sym (append-nil (head_text ++ flat_map entry_text entries)))
 
 -- all were answered, and the end was told
-pub all_told : (all : List Step) (history : List Entry) (text whole : List ℕ) (count : ℕ) (old now : Option Pages) → HasAnswered all history [] text old now → count ≡ length history
-    → whole ≡ text ++ line (end_head (record { entries = count; made = 0; dropped = 0 })) → whole ≡ transcript_text (transcript_of (answers_from [] 0 all))
+pub all_told : (all : List Step) (history : List Entry) (text whole : Bytes) (count : ℕ) (old now : Option Pages)
+    → HasAnswered all history [] text old now → count ≡ length history
+    → whole ≡ text ++ line (end_head (record { entries = count; made = 0; dropped = 0 }))
+    → whole ≡ transcript_text (transcript_of (answers_to all))
 all_told all history text whole count old now before counts end =
-    let many : count ≡ length (answers_from [] 0 all) = omega (arith, before.counted, length-answers_from [] 0 all) in
-    let told : text ≡ head_text ++ flat_map entry_text (answers_shown 0 (answers_from [] 0 all)) = sym (append-nil text) ∙ before.told in
-    end ∙ ap (λ (t : List ℕ). t ++ line (end_head (record { entries = count; made = 0; dropped = 0 }))) told
-    ∙ ap (λ (n : ℕ). (head_text ++ flat_map entry_text (answers_shown 0 (answers_from [] 0 all))) ++ line (end_head (record { entries = n; made = 0; dropped = 0 }))) many
-    ∙ no_rows (answers_shown 0 (answers_from [] 0 all)) (record { entries = length (answers_from [] 0 all); made = 0; dropped = 0 })
+    let many : count ≡ length (answers_to all) = omega (arith, before.counted, length-answers_from [] 0 all) in
+    let told : text ≡ head_text ++ answers_text 0 (answers_to all) = sym (append-nil text) ∙ before.told in
+    end ∙ ap (λ (t : Bytes). t ++ line (end_head (record { entries = count; made = 0; dropped = 0 }))) told
+    ∙ ap (λ (n : ℕ). (head_text ++ answers_text 0 (answers_to all))
+    ++ line (end_head (record { entries = n; made = 0; dropped = 0 }))) many
+    ∙ no_rows (answers_shown 0 (answers_to all)) (record { entries = length (answers_to all); made = 0; dropped = 0 })

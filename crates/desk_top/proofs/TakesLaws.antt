@@ -1,10 +1,11 @@
 -- What an outlet took, one part of the pages after another.
-use Rattle.std.specs.Prelude.{◌≤◌, ℕ, [], ◌++◌, Option, Some, None, Result, Ok, Err, IfErr}
+use Rattle.std.specs.Prelude.{◌≤◌, ℕ, [], ◌++◌, Option, Some, None, Result, Ok, Err, IfErr, IsErrAnd}
 use Rattle.std.proofs.Common.{refl, ap, sym, ◌∙◌, append_assoc, append-nil, arith}
 use Rattle.dita_doc.specs.declared.stop.Stop.{Stop}
 use Rattle.dita_doc.specs.declared.stop.Stop.TheVariants.{Fault, NoMemory}
-use Rattle.dita_outside.specs.Cause.{Rose, OnFault, HasCauseOrNoMemory}
-use Rattle.dita_outside.specs.Pages.{Pages, TakesPages, TakesPagesFront}
+use Rattle.dita_doc.specs.Gives.{OnFault}
+use Rattle.dita_outside.specs.Cause.{Rose, HasCauseOrNoMemory}
+use Rattle.dita_outside.specs.Pages.{Pages, TakesPages, TakesPagesFront, PutsPages}
 
 -- an outlet that stayed as it was took nothing
 pub takes_none : (a : Option Pages) → TakesPages a a []
@@ -12,15 +13,12 @@ takes_none None = tt
 takes_none (Some a) = sym (append-nil a)
 
 -- pages, and then others
-pub takes_then : (a b c : Option Pages) (xs ys : Pages) → TakesPages a b xs → TakesPages b c ys → TakesPages a c (xs ++ ys)
+pub takes_then : (a b c : Option Pages) (xs ys : Pages) → TakesPages a b xs → TakesPages b c ys
+    → TakesPages a c (xs ++ ys)
 takes_then None b c xs ys p q = tt
 takes_then (Some a) None c xs ys p q = absurd p
 takes_then (Some a) (Some b) None xs ys p q = q
 takes_then (Some a) (Some b) (Some c) xs ys p q = q ∙ ap (λ zs. zs ++ ys) p ∙ append_assoc a xs ys
-
--- the first of no pages, or of any
-pub front_none : (a : Option Pages) (xs : Pages) → TakesPagesFront a a xs
-front_none a xs = ([], xs, refl, takes_none a)
 
 -- all of them
 pub front_all : (a b : Option Pages) (xs : Pages) → TakesPages a b xs → TakesPagesFront a b xs
@@ -35,15 +33,34 @@ pub front_more : (a b : Option Pages) (xs ys : Pages) → TakesPagesFront a b xs
 front_more a b xs ys f = (f.0, f.1 ++ ys, ap (λ zs. zs ++ ys) f.2 ∙ append_assoc f.0 f.1 ys, f.3)
 
 -- pages, and then the first of others
-pub takes_then_front : (a b c : Option Pages) (xs ys : Pages) → TakesPages a b xs → TakesPagesFront b c ys → TakesPagesFront a c (xs ++ ys)
-takes_then_front a b c xs ys p f = (xs ++ f.0, f.1, ap (λ zs. xs ++ zs) f.2 ∙ sym (append_assoc xs f.0 f.1), takes_then a b c xs f.0 p f.3)
+pub takes_then_front : (a b c : Option Pages) (xs ys : Pages) → TakesPages a b xs → TakesPagesFront b c ys
+    → TakesPagesFront a c (xs ++ ys)
+takes_then_front a b c xs ys p f = (
+  xs ++ f.0,
+  f.1,
+  ap (λ zs. xs ++ zs) f.2
+      ∙ sym (append_assoc xs f.0 f.1),
+  takes_then a b c xs f.0 p f.3,
+)
+
+-- the first of some pages, where the call that was to put them has failed
+pub puts_front : {A E : Type 0} (Q : E → Type 0) (a b : Option Pages) (xs : Pages) (result : Result A E)
+    → IsErrAnd result Q → TakesPagesFront a b xs → PutsPages a b result xs
+puts_front Q a b xs (Ok x) failed front = absurd failed
+puts_front Q a b xs (Err e) failed front = front
 
 -- a count that rose from a later value rose from an earlier one too
-fault_from : {T E : Type 0} (a b c : ℕ) (result : Result T (Stop E)) → a ≤ b → IfErr result (λ stop. OnFault stop (Rose b c)) → IfErr result (λ stop. OnFault stop (Rose a c))
+fault_from : {T E : Type 0} (a b c : ℕ) (result : Result T (Stop E)) → a ≤ b
+    → IfErr result (λ stop. OnFault stop (Rose b c)) → IfErr result (λ stop. OnFault stop (Rose a c))
 fault_from a b c (Ok x) before f = tt
 fault_from a b c (Err NoMemory) before f = tt
 fault_from a b c (Err (Fault e)) before f = omega arith
 
 -- the cause of the last of several calls is one of them all
-pub cause_from : {T E : Type 0} (a b c : ℕ) (result : Result T (Stop E)) → a ≤ b → HasCauseOrNoMemory b c result → HasCauseOrNoMemory a c result
-cause_from a b c result before h = record { later = omega (arith, h.later); failed = fault_from a b c result before h.failed }
+pub cause_from : {T E : Type 0} (a b c : ℕ) (result : Result T (Stop E)) → a ≤ b → HasCauseOrNoMemory b c result
+    → HasCauseOrNoMemory a c result
+cause_from a b c result before h = record {
+  later = omega (arith, h.later);
+  failed =
+      fault_from a b c result before h.failed;
+}

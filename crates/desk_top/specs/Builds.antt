@@ -1,24 +1,21 @@
--- What an entry builds, and what is shown of it.
-use Rattle.std.specs.Prelude.{◌≡◌, ℕ, Option, Some, None, is_some}
+-- What an entry builds, and what a build puts into the outlet.
+use Rattle.std.specs.Prelude.{ℕ, List, Option, map}
 use Rattle.std.specs.List.{slice_get}
-use Rattle.dita_doc.specs.Build.{Built}
-use Rattle.dita_doc.specs.Desk.{State}
-use Rattle.dita_doc.specs.History.{Entry}
-use Rattle.transcript_text.specs.declared.built.BuiltText.{BuiltText}
-use Rattle.transcript_text.specs.Written as texts
+use Rattle.std.specs.Option.{option_and_then}
+use Rattle.build_spec.specs.Built.{Page}
+use Rattle.clean_build.specs.Clean.{Made, page_seen}
+use Rattle.clean_build.specs.Given.{Given}
+use Rattle.run_spec.specs.Answers.{built_by, delivered, pages_built}
 use Rattle.version_store.specs.Kept.{Kept, stored_now}
-use Rattle.desk_top.specs.Answers.{built_by, built_shown}
-
--- what an entry builds over what is stored
-abbrev pub built_by_entry : State → Option Entry → Option Built
-built_by_entry state None = None
-built_by_entry state (Some entry) = built_by state entry.request
 
 -- what the entry at a place builds over what is stored now
-abbrev pub built_at : Kept → ℕ → Option Built
-built_at kept place = built_by_entry (stored_now kept) (slice_get kept.history place)
+abbrev pub built_at : Kept → ℕ → Option Given
+built_at kept place = option_and_then (λ entry. built_by (stored_now kept) entry.request) (slice_get kept.history place)
 
--- a text is there exactly for a build, and shows it
-pub record ShowsBuilt (text : Option BuiltText) (built : Option Built) : Type 0 where
-  pub there : is_some text ≡ is_some built
-  pub shown : texts.built_shown text ≡ built_shown built
+-- the pages of a build, under the number of its request
+abbrev pub pages_put_by : ℕ → Option Given → List Page
+pages_put_by number built = map (delivered number) (pages_built built)
+
+-- pages that were made, under the number of their request
+abbrev pub pages_put : ℕ → List Made → List Page
+pages_put number pages = map (delivered number) (map page_seen pages)

@@ -1,9 +1,6 @@
-pub mod Answers
 pub mod Builds
-pub mod CleanRun
 pub mod Ends
-pub mod Puts
+pub mod Outside
 pub mod Reads
 pub mod Runs
-pub mod Status
 pub mod Words

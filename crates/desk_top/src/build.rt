@@ -1,43 +1,45 @@
 //! What an entry builds.
 
-ghost use Rattle.std.specs.Prelude.{◌≡◌, ◌+◌, ◌<◌, ◌≤◌, IfOk, OnOk, OnErr, map, length};
-ghost use Rattle.dita_doc.specs.Script.{request_limit};
-ghost use Rattle.dita_outside.specs.Cause.{HasCauseOrNoMemory};
-ghost use Rattle.dita_outside.specs.Pages.{TakesPages, TakesPagesFront};
-ghost use Rattle.clean_build.specs.Clean.{clean_seen, page_seen, HasPageNames};
-ghost use Rattle.transcript_text.specs.Written.{page_shown, build_shown as text_shown};
-ghost use Rattle.desk_top.specs.Answers.{build_shown, page_put, delivered, pages_of_build};
-ghost use Rattle.desk_top.specs.Builds.{ShowsBuilt, built_at};
-ghost use Rattle.desk_top.specs.Puts.{pages_put_by};
+ghost use Rattle.std.specs.Prelude.{◌≡◌, ◌<◌, ◌≤◌, Some, IfOk, length, map, option_map};
+ghost use Rattle.script_text.specs.Script as script_spec;
+ghost use Rattle.dita_outside.specs.Cause as cause_spec;
+ghost use Rattle.dita_outside.specs.Pages as pages_spec;
+ghost use Rattle.clean_build.specs.Clean as clean_spec;
+ghost use Rattle.transcript_text.specs.Written as written_spec;
+ghost use Rattle.run_spec.specs.Answers as answers_spec;
+ghost use Rattle.desk_top.specs.Builds as builds_spec;
 
 use crate::deliver::deliver;
 use clean_build::{Clean, clean};
-use dita_doc::{Html, List as Items, Name, Request, Stop};
+use dita_doc::{Html, List, Name, Request, Stop};
 use dita_outside::{Failed, Outlet};
 use std::alloc::{AllocError, Global};
 use std::sync::Arc;
 use transcript_text::{BuiltText, PageMark};
 use version_store::Store;
 
-/// What the entry at a place builds over what is stored now, where it is a build. The outlet takes the
-/// pages under the number of the request, which is the place and 1.
+/// What the entry at a place builds over what is stored now, if it is a build. The outlet takes the
+/// pages under the number, which is that of the entry's request.
 pub fn build<O: Outlet>(
     alloc: Global,
     store: &Store,
     place: u64,
+    number: u32,
     outlet: &mut O,
 ) -> Result<Option<BuiltText>, Stop<Failed>>
     requires there { place < length store.now.history }
-    requires few { place + 1 ≤ request_limit }
-    ensures shown { IfOk result (λ built. ShowsBuilt built (built_at store.now place)) }
-    ensures pages { OnOk result (TakesPages (O.pages outlet.old) (O.pages outlet.new) (pages_put_by (place + 1) (built_at store.now place))) }
-    ensures err { OnErr result (TakesPagesFront (O.pages outlet.old) (O.pages outlet.new) (pages_put_by (place + 1) (built_at store.now place))) }
-    ensures cause { HasCauseOrNoMemory (O.faults outlet.old) (O.faults outlet.new) result }
+    requires number { number ≤ script_spec.request_limit }
+    ensures shown { IfOk result (λ built. written_spec.built_shown built
+        ≡ option_map answers_spec.given_shown (builds_spec.built_at store.now place)) }
+    ensures pages { pages_spec.PutsPages (O.pages outlet.old) (O.pages outlet.new) result
+        (builds_spec.pages_put_by number (builds_spec.built_at store.now place)) }
+    ensures cause { cause_spec.HasCauseOrNoMemory
+        (O.faults outlet.old) (O.faults outlet.new) result }
 {
     match &store.entry(place).request {
         Request::Build(map, val) => {
             let built = clean(alloc, store.sources(), map, val.as_ref())?;
-            let text = put_built(alloc, place as u32 + 1, built, outlet)?;
+            let text = put_built(alloc, number, built, outlet)?;
             Ok(Some(text))
         }
         _ => Ok(None),
@@ -51,12 +53,14 @@ fn put_built<O: Outlet>(
     built: Clean,
     outlet: &mut O,
 ) -> Result<BuiltText, Stop<Failed>>
-    requires number { number ≤ request_limit }
-    requires names { HasPageNames built }
-    ensures shown { IfOk result (λ text. text_shown text ≡ build_shown (clean_seen built)) }
-    ensures pages { OnOk result (TakesPages (O.pages outlet.old) (O.pages outlet.new) (map (delivered number) (pages_of_build (clean_seen built)))) }
-    ensures err { OnErr result (TakesPagesFront (O.pages outlet.old) (O.pages outlet.new) (map (delivered number) (pages_of_build (clean_seen built)))) }
-    ensures cause { HasCauseOrNoMemory (O.faults outlet.old) (O.faults outlet.new) result }
+    requires number { number ≤ script_spec.request_limit }
+    requires names { clean_spec.HasPageNames built }
+    ensures shown { IfOk result (λ text. written_spec.text_shown text
+        ≡ answers_spec.given_shown (clean_spec.clean_seen built)) }
+    ensures pages { pages_spec.PutsPages (O.pages outlet.old) (O.pages outlet.new) result
+        (builds_spec.pages_put_by number (Some (clean_spec.clean_seen built))) }
+    ensures cause { cause_spec.HasCauseOrNoMemory
+        (O.faults outlet.old) (O.faults outlet.new) result }
 {
     match built {
         Clean::Done(pages, faults) => {
@@ -71,10 +75,11 @@ fn put_built<O: Outlet>(
 }
 
 // The name of each page, and how many bytes it has.
-fn marks(alloc: Global, pages: &[(Name, Arc<Html>)]) -> Result<Items<(Name, PageMark)>, AllocError>
-    ensures { IfOk result (λ marks. map page_shown marks ≡ map page_put (map page_seen pages.now)) }
+fn marks(alloc: Global, pages: &[(Name, Arc<Html>)]) -> Result<List<(Name, PageMark)>, AllocError>
+    ensures { IfOk result (λ marks. map written_spec.page_shown marks
+        ≡ map answers_spec.page_put (map clean_spec.page_seen pages.now)) }
 {
-    let mut marks = Items::new(alloc);
+    let mut marks = List::new(alloc);
     for page in pages {
         let bytes = page.1.bytes.len() as u64;
         marks.push((page.0.clone()?, PageMark::Bytes(bytes)))?;

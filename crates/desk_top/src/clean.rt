@@ -1,51 +1,35 @@
 //! The mode `clean`: a script, on one thread, from bytes to pages.
 
-ghost use Rattle.std.specs.Prelude.{◌≡◌, List, IfOk, OnErr};
-ghost use Rattle.dita_outside.specs.Cause.{HasCauseOrNoMemory};
-ghost use Rattle.dita_outside.specs.Pages.{TakesPages, TakesPagesFront};
-ghost use Rattle.dita_doc.specs.Script.{Step};
-ghost use Rattle.desk_top.specs.Answers.{IsOneHistory};
-ghost use Rattle.desk_top.specs.CleanRun.{clean_run, script_line};
-ghost use Rattle.desk_top.specs.Ends.{Outside, EndsClean, WritesLast, NoneFailed, IsSure};
-ghost use Rattle.desk_top.specs.declared.status.Status.{Status};
+ghost use Rattle.std.specs.Prelude.{◌≡◌, IfOk};
+ghost use Rattle.dita_outside.specs.Cause as cause_spec;
+ghost use Rattle.dita_outside.specs.Pages as pages_spec;
+ghost use Rattle.run_spec.specs.CleanRun as clean_run_spec;
+ghost use Rattle.desk_top.specs.Ends as ends_spec;
+ghost use Rattle.desk_top.specs.Outside as outside_spec;
 
 use crate::outside::{read_all, write_all};
 use crate::run::answer_all;
-use crate::status::Status;
-use dita_doc::{ScriptFault, Stop, Text};
+use dita_doc::{List, Stop};
 use dita_outside::{Failed, Outlet, Sink, Source};
-use script_text::read_script;
+use run_spec::Status;
+use script_text::{ScriptFault, read_script};
 use std::alloc::{AllocError, Global};
 
 // One byte more than a script has.
 const READ_LIMIT: usize = 67_108_865;
 
-/// Reads a script, answers its requests in order, puts the pages of each build into the outlet and writes
-/// the transcript.
+/// Reads a script, answers its requests in order, puts the pages of each build into the outlet and
+/// writes the transcript.
 pub fn run_clean<S: Source, K: Sink, O: Outlet>(
     alloc: Global,
     source: &mut S,
     sink: &mut K,
     outlet: &mut O,
 ) -> Status
-    ensures { EndsClean
-        (record {
-          left = S.left source.old;
-          read_faults = S.faults source.old;
-          taken = K.taken sink.old;
-          write_faults = K.faults sink.old;
-          pages = O.pages outlet.old;
-          page_faults = O.faults outlet.old;
-        })
-        (record {
-          left = S.left source.new;
-          read_faults = S.faults source.new;
-          taken = K.taken sink.new;
-          write_faults = K.faults sink.new;
-          pages = O.pages outlet.new;
-          page_faults = O.faults outlet.new;
-        })
-        result }
+    ensures { let outside = outside_spec.outside_at
+        S.left S.faults K.taken K.faults O.pages O.faults in
+        ends_spec.EndsClean (outside source.old sink.old outlet.old)
+        (outside source.new sink.new outlet.new) result }
 {
     let input = match read_all(alloc, source, READ_LIMIT) {
         Ok(input) => input,
@@ -64,37 +48,35 @@ fn answered<O: Outlet>(
     alloc: Global,
     input: &[u8],
     outlet: &mut O,
-) -> Result<(Status, Text), Stop<Failed>>
-    ensures ok { IfOk result (λ answer. ((clean_run input.now).status ≡ answer.0) × ((clean_run input.now).output ≡ answer.1)
-        × TakesPages (O.pages outlet.old) (O.pages outlet.new) (clean_run input.now).pages) }
-    ensures err { OnErr result (TakesPagesFront (O.pages outlet.old) (O.pages outlet.new) (clean_run input.now).pages) }
-    ensures cause { HasCauseOrNoMemory (O.faults outlet.old) (O.faults outlet.new) result }
+) -> Result<(Status, List<u8>), Stop<Failed>>
+    ensures ok { let run = clean_run_spec.clean_run input.now in
+        IfOk result (λ answer. (run.status ≡ answer.0) × (run.output ≡ answer.1)) }
+    ensures pages { pages_spec.PutsPages (O.pages outlet.old) (O.pages outlet.new) result
+        (clean_run_spec.clean_run input.now).pages }
+    ensures cause { cause_spec.HasCauseOrNoMemory
+        (O.faults outlet.old) (O.faults outlet.new) result }
 {
     match read_script(alloc, input) {
-        Ok(script) => Ok((
-            Status::Done,
-            answer_all(alloc, script.steps.into_vec(), outlet)?,
-        )),
+        Ok(script) => Ok((Status::Done, answer_all(alloc, script, outlet)?)),
         Err(Stop::Fault(fault)) => Ok((Status::Script, refusal(alloc, fault)?)),
         Err(Stop::NoMemory) => Err(Stop::NoMemory),
     }
 }
 
-// The one line of a script that is refused.
-fn refusal(alloc: Global, fault: ScriptFault) -> Result<Text, AllocError>
-    ensures { IfOk result (λ text. text ≡ script_line fault) }
+// The one line of output if a script is rejected.
+fn refusal(alloc: Global, fault: ScriptFault) -> Result<List<u8>, AllocError>
+    ensures { IfOk result (λ text. text ≡ clean_run_spec.refusal_line fault) }
 {
     let code = fault.code.text();
     let line = fault.line;
-    Text::from_slice(
-        alloc,
-        format!(in alloc; "script {code} {line}\n")?.as_bytes(),
-    )
+    let text = format!(in alloc; "script {code} {line}\n")?;
+    Ok(List::from_vec(text.into_bytes()))
 }
 
 // The status of a run whose output is written last.
 fn written<K: Sink>(sink: &mut K, output: &[u8], status: Status) -> Status
-    ensures { WritesLast (K.taken sink.old) (K.taken sink.new) (K.faults sink.old) (K.faults sink.new) output.now status result }
+    ensures { ends_spec.WritesLast (K.taken sink.old) (K.taken sink.new) (K.faults sink.old)
+        (K.faults sink.new) output.now status result }
 {
     match write_all(sink, output) {
         Ok(()) => status,
@@ -102,14 +84,3 @@ fn written<K: Sink>(sink: &mut K, output: &[u8], status: Status) -> Status
         Err(Stop::NoMemory) => Status::NoMemory,
     }
 }
-
-/// Over objects that do not fail, a run is done, refuses its script, or wants memory.
-pub fn sure_run()
-    ensures { (old new : Outside) (status : Status) → NoneFailed old new → EndsClean old new status → IsSure status }
-{}
-
-/// The transcript of a finished run names one history: the requests in the script's order, each answered as
-/// the desk answers it at its place, and each build over what is stored there.
-pub fn one_history()
-    ensures { (steps : List Step) → IsOneHistory steps }
-{}

@@ -1,17 +1,15 @@
 //! The pages of a build, put into the outlet one by one.
 
-ghost use Rattle.std.specs.Prelude.{◌≤◌, ◌∷◌, [], OnOk, OnErr};
-ghost use Rattle.std.specs.Arc.{arc_value};
-ghost use Rattle.std.specs.List.{All};
-ghost use Rattle.clean_build.specs.Clean.{page_seen, HasPageName};
-ghost use Rattle.clean_build.specs.PageNames.{IsPageName};
-ghost use Rattle.dita_doc.specs.Script.{request_limit};
-ghost use Rattle.dita_outside.specs.Cause.{HasCauseOrNoMemory};
-ghost use Rattle.dita_outside.specs.Pages.{TakesPages, TakesPagesFront, PutsPage};
-ghost use Rattle.desk_top.specs.Answers.{delivered};
-ghost use Rattle.desk_top.specs.Puts.{pages_put};
+ghost use Rattle.std.specs.Prelude.{◌≤◌, All};
+ghost use Rattle.clean_build.specs.Clean as clean_spec;
+ghost use Rattle.clean_build.specs.PageNames as page_names_spec;
+ghost use Rattle.script_text.specs.Script as script_spec;
+ghost use Rattle.dita_outside.specs.Cause as cause_spec;
+ghost use Rattle.dita_outside.specs.Pages as pages_spec;
+ghost use Rattle.run_spec.specs.Answers as answers_spec;
+ghost use Rattle.desk_top.specs.Builds as builds_spec;
 
-use crate::place::page_place;
+use crate::path::page_path;
 use dita_doc::{Html, Name, Stop};
 use dita_outside::{Failed, Outlet};
 use std::alloc::Global;
@@ -24,11 +22,12 @@ pub fn deliver<O: Outlet>(
     pages: &[(Name, Arc<Html>)],
     outlet: &mut O,
 ) -> Result<(), Stop<Failed>>
-    requires number { number ≤ request_limit }
-    requires names { All HasPageName pages.now }
-    ensures ok { OnOk result (TakesPages (O.pages outlet.old) (O.pages outlet.new) (pages_put number pages.now)) }
-    ensures err { OnErr result (TakesPagesFront (O.pages outlet.old) (O.pages outlet.new) (pages_put number pages.now)) }
-    ensures cause { HasCauseOrNoMemory (O.faults outlet.old) (O.faults outlet.new) result }
+    requires number { number ≤ script_spec.request_limit }
+    requires names { All clean_spec.HasPageName pages.now }
+    ensures pages { pages_spec.PutsPages (O.pages outlet.old) (O.pages outlet.new) result
+        (builds_spec.pages_put number pages.now) }
+    ensures cause { cause_spec.HasCauseOrNoMemory
+        (O.faults outlet.old) (O.faults outlet.new) result }
 {
     for page in pages {
         put(alloc, number, &page.0, page.1.bytes.as_slice(), outlet)?;
@@ -44,11 +43,13 @@ fn put<O: Outlet>(
     page: &[u8],
     outlet: &mut O,
 ) -> Result<(), Stop<Failed>>
-    requires number { number ≤ request_limit }
-    requires name { IsPageName name.now }
-    ensures page { PutsPage (O.pages outlet.old) (O.pages outlet.new) result (delivered number (name.now, page.now)) }
-    ensures cause { HasCauseOrNoMemory (O.faults outlet.old) (O.faults outlet.new) result }
+    requires number { number ≤ script_spec.request_limit }
+    requires name { page_names_spec.IsPageName name.now }
+    ensures page { pages_spec.PutsPage (O.pages outlet.old) (O.pages outlet.new) result
+        (answers_spec.delivered number (name.now, page.now)) }
+    ensures cause { cause_spec.HasCauseOrNoMemory
+        (O.faults outlet.old) (O.faults outlet.new) result }
 {
-    let place = page_place(alloc, number, name)?;
-    outlet.put_page(alloc, &place, page)
+    let path = page_path(alloc, number, name)?;
+    outlet.put_page(alloc, &path, page)
 }

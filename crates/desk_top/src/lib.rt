@@ -1,21 +1,21 @@
-//! The runs of the program, from the bytes that come in to the pages and the transcript that go out.
+//! The runs of the program, from the bytes that come in to the pages and the transcript that go
+//! out.
 //!
-//! What is used above it: `desk_top` answers the status of the run of its words, and what the source, the
-//! sink and the outlet tell is then what that status says, by one relation.
+//! What is used above it: `desk_top` answers the status of the run of its words, and what the
+//! source, the sink and the outlet tell is then what that status says, by one relation.
 #![tactic(auto)]
 
 mod build;
 mod clean;
 mod deliver;
 mod outside;
-mod place;
+mod path;
 mod run;
-mod status;
 #[cfg(test)]
 mod tests;
 mod top;
 mod words;
 
-pub use clean::{one_history, run_clean, sure_run};
-pub use status::Status;
+pub use clean::run_clean;
+pub use run_spec::Status;
 pub use top::desk_top;

@@ -2,11 +2,11 @@
 
 ghost use Rattle.std.specs.Prelude.{◌≡◌, IfOk, OnOk, OnErr, vec_len};
 ghost use Rattle.std.specs.Io.KnownBytes.{Appends};
-ghost use Rattle.dita_outside.specs.Cause.{HasCauseOrNoMemory};
-ghost use Rattle.desk_top.specs.Ends.{AppendsFront};
-ghost use Rattle.desk_top.specs.Reads.{Reads};
+ghost use Rattle.dita_outside.specs.Cause as cause_spec;
+ghost use Rattle.desk_top.specs.Ends as ends_spec;
+ghost use Rattle.desk_top.specs.Reads as reads_spec;
 
-use dita_doc::{List as Items, Stop};
+use dita_doc::{List, Stop};
 use dita_outside::{Failed, Sink, Source};
 use std::alloc::{AllocError, Global};
 
@@ -18,12 +18,14 @@ pub fn read_all<S: Source>(
     alloc: Global,
     source: &mut S,
     limit: usize,
-) -> Result<Items<u8>, Stop<Failed>>
-    ensures ok { IfOk result (λ input. Reads limit (S.left source.old) (S.left source.new) input) }
-    ensures cause { HasCauseOrNoMemory (S.faults source.old) (S.faults source.new) result }
+) -> Result<List<u8>, Stop<Failed>>
+    ensures ok { IfOk result
+        (λ input. reads_spec.Reads limit (S.left source.old) (S.left source.new) input) }
+    ensures cause { cause_spec.HasCauseOrNoMemory
+        (S.faults source.old) (S.faults source.new) result }
 {
     let mut buffer = zeros(alloc, PIECE)?;
-    let mut input = Items::new(alloc);
+    let mut input = List::new(alloc);
     while input.len() < limit {
         let room = buffer.len().min(limit - input.len());
         let piece = &mut buffer.as_mut_slice()[..room];
@@ -48,8 +50,9 @@ fn zeros(alloc: Global, count: usize) -> Result<Vec<u8>, AllocError>
 /// Writes bytes whole.
 pub fn write_all<K: Sink>(sink: &mut K, bytes: &[u8]) -> Result<(), Stop<Failed>>
     ensures ok { OnOk result (Appends (K.taken sink.old) (K.taken sink.new) bytes.now) }
-    ensures err { OnErr result (AppendsFront (K.taken sink.old) (K.taken sink.new) bytes.now) }
-    ensures cause { HasCauseOrNoMemory (K.faults sink.old) (K.faults sink.new) result }
+    ensures err { OnErr result
+        (ends_spec.AppendsFront (K.taken sink.old) (K.taken sink.new) bytes.now) }
+    ensures cause { cause_spec.HasCauseOrNoMemory (K.faults sink.old) (K.faults sink.new) result }
 {
     let mut done = 0;
     while done < bytes.len() {

@@ -1,11 +1,11 @@
 //! The words of the command line.
 
 ghost use Rattle.std.specs.Prelude.{◌≡◌, ◌↔◌, IsTrue, map, string_bytes, codes};
-ghost use Rattle.desk_top.specs.Words.{IsClean};
+ghost use Rattle.desk_top.specs.Words as words_spec;
 
 /// Whether the words are a command of the mode `clean`: the program's name, and `clean`.
 pub fn are_clean(words: &[String]) -> bool
-    ensures { IsTrue result ↔ IsClean (map string_bytes words.now) }
+    ensures { IsTrue result ↔ words_spec.IsClean (map string_bytes words.now) }
 {
     words.len() == 2 && says_clean(&words[1])
 }

@@ -1,5 +1,5 @@
-//! The program `dita_desk`: the words of the command, standard input as the source, standard output as the
-//! sink, and the folder `out` as the outlet. Its exit status is that of the run.
+//! The program `dita_desk`: the words of the command, standard input as the source, standard output
+//! as the sink, and the folder `out` as the outlet. Its exit status is that of the run.
 #![tactic(auto)]
 
 use desk_top::{Status, desk_top};
@@ -9,7 +9,7 @@ use std::env;
 use std::process::ExitCode;
 use thiserror::Error;
 
-/// A run that did not end as it should.
+// A run that did not end as it should.
 #[derive(Debug, Drop, Error)]
 #[error("dita_desk: {0:?}")]
 struct Ended(Status);
@@ -20,7 +20,7 @@ fn main(rt: HostRuntime) -> ExitCode {
         Err(_) => Status::NoMemory,
     };
     if status != Status::Done {
-        // Where standard error can't be written, the exit status alone tells.
+        // If standard error can't be written, the exit status alone tells.
         let _ = rt.eprintln(Ended(status));
     }
     ExitCode::from(status.number())

@@ -1,16 +1,12 @@
-mod Rows
-mod RowsOfRuns
+pub mod PartLaws
 pub mod CutLaws
-pub mod NameLaws
 pub mod LinesLaws
-pub mod TreeLaws
+pub mod NameLaws
 pub mod NameOrder
-pub mod FoundLaws
+pub mod TreeLaws
+pub mod PlaceLaws
+pub mod ClassLaws
 pub mod SourcesLaws
-pub mod HistoryLaws
-pub mod PyxTells
-pub mod PyxKeeps
-pub mod PyxSteps
-pub mod PyxLaws
-pub mod ScriptTurns
-pub mod ScriptLaws
+pub mod EscapeLaws
+pub mod EscapeUtf8Laws
+pub mod Utf8Laws

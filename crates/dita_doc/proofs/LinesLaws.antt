@@ -5,7 +5,8 @@ use Rattle.std.proofs.Common.{refl}
 use Rattle.std.proofs.lemmas.Bool.{or_parts, or_from}
 use Rattle.std.proofs.lemmas.List.Elements.{All-cons, All-nil, All-head, All-tail}
 use Rattle.dita_doc.specs.Cut.{Lacks}
-use Rattle.dita_doc.specs.Lines.{lines_of, before_lines, ends_with_line}
+use Rattle.dita_doc.specs.Lines.{lines_of, ends_with_line}
+use Rattle.dita_doc.specs.Bytes.{onto_first}
 
 -- a front without LF is the first line of what it begins
 pub lines_after : (line rest : List ℕ) → Lacks 10 line → lines_of (line ++ 10 ∷ rest) ≡ line ∷ lines_of rest
@@ -41,14 +42,17 @@ abbrev IsOneLine : List ℕ → Type 0
 IsOneLine line = Lacks 10 line
 
 -- a byte that is no LF, put before the first line
-lack_before : (b : ℕ) (lines : List (List ℕ)) → (b == 10) ≡ false → All IsOneLine lines → All IsOneLine (before_lines b lines)
+lack_before : (b : ℕ) (lines : List (List ℕ)) → (b == 10) ≡ false → All IsOneLine lines
+    → All IsOneLine (onto_first b lines)
 lack_before b [] e all = All-cons IsOneLine (b ∷ []) [] (or_from (b == 10) false e refl) (All-nil IsOneLine)
 lack_before b (line ∷ lines) e all =
     let first = All-head IsOneLine line lines all in
-    All-cons IsOneLine (b ∷ line) lines (or_from (b == 10) (list_any (λ c. c == 10) line) e first) (All-tail IsOneLine line lines all)
+    All-cons IsOneLine (b ∷ line) lines (or_from (b == 10) (list_any (λ c. c == 10) line) e first)
+    (All-tail IsOneLine line lines all)
 
 -- one byte in front, by whether it is an LF
-lack_from : (b : ℕ) (bytes : List ℕ) (feed : Bool) → (b == 10) ≡ feed → All IsOneLine (lines_of bytes) → All IsOneLine (if feed then [] ∷ lines_of bytes else before_lines b (lines_of bytes))
+lack_from : (b : ℕ) (bytes : List ℕ) (feed : Bool) → (b == 10) ≡ feed → All IsOneLine (lines_of bytes)
+    → All IsOneLine (if feed then [] ∷ lines_of bytes else onto_first b (lines_of bytes))
 lack_from b bytes true e all = All-cons IsOneLine [] (lines_of bytes) refl all
 lack_from b bytes false e all = lack_before b (lines_of bytes) e all
 

@@ -1,4 +1,4 @@
--- Bytes, cut at the first of a kind.
+-- Bytes, cut at the first or the last of a kind.
 use Rattle.std.specs.Prelude.{◌≡◌, ◌==◌, ℕ, false, List, ◌∷◌, ◌++◌}
 use Rattle.std.specs.List.{list_any}
 
@@ -10,3 +10,8 @@ Lacks byte bytes = list_any (λ b. b == byte) bytes ≡ false
 pub record IsCutAt (byte : ℕ) (bytes front back : List ℕ) : Type 0 where
   pub whole : bytes ≡ front ++ byte ∷ back
   pub first : Lacks byte front
+
+-- the front, the byte, and what stands behind it, which has none of it
+pub record IsCutAtLast (byte : ℕ) (bytes front back : List ℕ) : Type 0 where
+  pub whole : bytes ≡ front ++ byte ∷ back
+  pub last : Lacks byte back

@@ -1,4 +1,5 @@
--- The desk on one thread (own): what is stored, and what each request is answered. Requests have places 0, 1, 2 and so on. The
+-- The desk on one thread (own): what is stored, and what each request is answered. Requests have places 0, 1, 2 and so
+-- on. The
 -- version of what is stored is the place of the request that stored it, and 1; a name that is not stored has version 0.
 use Rattle.std.specs.Prelude.{◌≡◌, ◌+◌, ◌==◌, ◌&&◌, ℕ, Bool, not, List, [], ◌∷◌, Option, Some, None, Result, Ok, Err, length, nat_le, if◌then◌else◌, bytes_eq, find, filter, map, is_some}
 use Rattle.std.specs.Ordering.{nat_cmp}
@@ -62,7 +63,8 @@ pub data Reply : Type 0 where
 -- a body that is a text is stored, unless the desk is full and has no such name
 abbrev pub store_reply : State → ℕ → List ℕ → Reply
 store_reply state place name =
-    if nat_le stored_limit (length state) && not (is_some (found state name)) then TooManyNames stored_limit else IsStored (place + 1)
+    if nat_le stored_limit (length state) && not (is_some (found state name)) then TooManyNames stored_limit
+    else IsStored (place + 1)
 
 -- the reply where a body is a text, or its fault
 abbrev pub unless_refused : Result Content PyxFault → Reply → Reply
@@ -84,7 +86,8 @@ listed stored = (stored.name, stored.version)
 abbrev pub reply : State → ℕ → Request → Reply
 reply state place (Put name body) = unless_refused (document_of body) (store_reply state place name)
 reply state place (PutIf version name body) =
-    unless_refused (document_of body) (if version_at state name == version then store_reply state place name else Conflict (version_at state name))
+    unless_refused (document_of body) (if version_at state name == version then store_reply state place name
+    else Conflict (version_at state name))
 reply state place (Remove name) = remove_reply (found state name)
 reply state place (Get name) = get_reply (found state name)
 reply state place Names = NameList (map listed state)
@@ -110,8 +113,10 @@ without_name name state = filter (λ stored. not (is_named name stored)) state
 
 -- the state after a request that has this reply: only what was stored or removed changes it
 abbrev pub after_reply : State → Request → Reply → State
-after_reply state (Put name body) (IsStored version) = with_stored (record { name = name; nodes = nodes_in (document_of body); bytes = body; version = version }) state
-after_reply state (PutIf expected name body) (IsStored version) = with_stored (record { name = name; nodes = nodes_in (document_of body); bytes = body; version = version }) state
+after_reply state (Put name body) (IsStored version) =
+    with_stored (record { name = name; nodes = nodes_in (document_of body); bytes = body; version = version }) state
+after_reply state (PutIf expected name body) (IsStored version) =
+    with_stored (record { name = name; nodes = nodes_in (document_of body); bytes = body; version = version }) state
 after_reply state (Remove name) (IsRemoved version) = without_name name state
 after_reply state request answer = state
 

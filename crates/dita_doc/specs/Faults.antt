@@ -2,8 +2,6 @@
 use Rattle.std.specs.Prelude.{ℕ, List, codes}
 use Rattle.dita_doc.specs.declared.fault.PyxCode.{PyxCode}
 use Rattle.dita_doc.specs.declared.fault.PyxCode.TheVariants as pyx
-use Rattle.dita_doc.specs.declared.fault.ScriptCode.{ScriptCode}
-use Rattle.dita_doc.specs.declared.fault.ScriptCode.TheVariants as script
 use Rattle.dita_doc.specs.declared.fault.FaultCode.{FaultCode}
 use Rattle.dita_doc.specs.declared.fault.FaultCode.TheVariants as fault
 
@@ -20,16 +18,6 @@ pyx_code_text pyx.TextOutside = codes "TextOutside"
 pyx_code_text pyx.TooDeep = codes "TooDeep"
 pyx_code_text pyx.TooLong = codes "TooLong"
 pyx_code_text pyx.NotUtf8 = codes "NotUtf8"
-
-abbrev pub script_code_text : ScriptCode → List ℕ
-script_code_text script.BadCommand = codes "BadCommand"
-script_code_text script.BadNumber = codes "BadNumber"
-script_code_text script.BadName = codes "BadName"
-script_code_text script.NoEnd = codes "NoEnd"
-script_code_text script.TooManySessions = codes "TooManySessions"
-script_code_text script.TooManyRequests = codes "TooManyRequests"
-script_code_text script.TooLong = codes "TooLong"
-script_code_text script.NotUtf8 = codes "NotUtf8"
 
 abbrev pub fault_code_text : FaultCode → List ℕ
 fault_code_text fault.NoClass = codes "NoClass"

@@ -18,7 +18,8 @@ replay state place (entry ∷ entries) = replay (next state place entry.request)
 -- each entry's reply is the desk's at its place
 abbrev pub AreLegal : State → ℕ → List Entry → Type 0
 AreLegal state place [] = Unit {0}
-AreLegal state place (entry ∷ entries) = (entry.reply ≡ reply state place entry.request) × AreLegal (next state place entry.request) (place + 1) entries
+AreLegal state place (entry ∷ entries) = (entry.reply ≡ reply state place entry.request)
+    × AreLegal (next state place entry.request) (place + 1) entries
 
 abbrev pub IsLegal : List Entry → Type 0
 IsLegal history = AreLegal [] 0 history

@@ -5,6 +5,7 @@ use Rattle.dita_doc.specs.declared.doc.Node.{Node}
 use Rattle.dita_doc.specs.declared.fault.PyxCode.{PyxCode}
 use Rattle.dita_doc.specs.declared.fault.PyxCode.TheVariants as codes
 use Rattle.dita_doc.specs.declared.fault.PyxFault.{PyxFault}
+use Rattle.dita_doc.specs.Bytes.{line_feed, carriage_return}
 use Rattle.dita_doc.specs.Tree.{Content, End, Chars, Element, nodes_of}
 use Rattle.dita_doc.specs.PyxLine.{Line, Breaks, line_of}
 use Rattle.dita_doc.specs.PyxEvent.{Event, Open, Give, Text, Close, add_text, open_names, has_root, fault_of, after}
@@ -16,14 +17,16 @@ abbrev pub is_nothing : List ℕ → Bool
 is_nothing [] = true
 is_nothing (b ∷ bytes) = false
 
--- What the lines of these bytes say, where this much of a line stands before them and so many bytes of the text are still
+-- What the lines of these bytes say, where this much of a line stands before them and so many bytes of the text are
+-- still
 -- within the limit. A CR is dropped wherever it stands, and a last rest that is not empty is a line too (own).
 abbrev pub lines_from : ℕ → List ℕ → List ℕ → List Line
 lines_from left line [] = if is_nothing line then [] else line_of line ∷ []
-lines_from zero line (b ∷ bytes) = if (b == 13) && is_nothing line then lines_from zero line bytes else Breaks codes.TooLong ∷ []
+lines_from zero line (b ∷ bytes) = if (b == carriage_return) && is_nothing line then lines_from zero line bytes
+    else Breaks codes.TooLong ∷ []
 lines_from (suc left) line (b ∷ bytes) =
-    if b == 10 then line_of line ∷ lines_from left [] bytes
-    else if b == 13 then lines_from left line bytes
+    if b == line_feed then line_of line ∷ lines_from left [] bytes
+    else if b == carriage_return then lines_from left line bytes
     else lines_from left (line ++ b ∷ []) bytes
 
 abbrev pub is_none_open : List (List ℕ) → Bool
@@ -44,7 +47,8 @@ goes_on (Some code) number rest = Err (record { code = code; line = number })
 -- the events of lines after these events and so many lines, or the first faulty line with its first fault
 abbrev pub reads : ℕ → List Event → List Line → Result (List Event) PyxFault
 reads number before [] = ends number before
-reads number before (line ∷ lines) = goes_on (fault_of before line) (number + 1) (reads (number + 1) (after (number + 1) before line) lines)
+reads number before (line ∷ lines) = goes_on (fault_of before line) (number + 1)
+    (reads (number + 1) (after (number + 1) before line) lines)
 
 abbrev pub read_from : ℕ → List ℕ → ℕ → List Event → List ℕ → Result (List Event) PyxFault
 read_from left line number before bytes = reads number before (lines_from left line bytes)
@@ -52,8 +56,10 @@ read_from left line number before bytes = reads number before (lines_from left l
 abbrev pub reading : List ℕ → Result (List Event) PyxFault
 reading text = read_from text_limit [] 0 [] text
 
--- What a tree says, after what was said before: a text, which may be empty, at both ends of each content and between its
--- elements, and each element's opening, attributes, content and closing. `text` is what has been said of the text at hand.
+-- What a tree says, after what was said before: a text, which may be empty, at both ends of each content and between
+-- its
+-- elements, and each element's opening, attributes, content and closing. `text` is what has been said of the text at
+-- hand.
 abbrev pub give_all : List Attribute → List Event → List Event
 give_all [] before = before
 give_all (attribute ∷ attributes) before = give_all attributes (Give attribute.name attribute.value ∷ before)
@@ -72,7 +78,8 @@ begins_with_text (Element name attributes origin line inside rest) = false
 
 abbrev pub IsWritten : Content → Type 0
 IsWritten End = Unit {0}
-IsWritten (Chars text origin line rest) = (is_nothing text ≡ false) × (begins_with_text rest ≡ false) × (origin ≡ 0) × (line ≡ 0) × IsWritten rest
+IsWritten (Chars text origin line rest) = (is_nothing text ≡ false) × (begins_with_text rest ≡ false) × (origin ≡ 0)
+    × (line ≡ 0) × IsWritten rest
 IsWritten (Element name attributes origin line inside rest) = (origin ≡ 0) × IsWritten inside × IsWritten rest
 
 -- one element, and nothing beside it
@@ -94,7 +101,8 @@ abbrev pub text_then : List ℕ → Content → Content
 text_then [] rest = rest
 text_then (b ∷ text) rest = Chars (b ∷ text) 0 0 rest
 
--- The tree of some events, built from the last of them on: `around` has what follows at the place, and then what follows
+-- The tree of some events, built from the last of them on: `around` has what follows at the place, and then what
+-- follows
 -- each element that is open there; `attributes` are those that the element at hand is given.
 abbrev pub built : List Event → List Attribute → List Content → Content
 built [] attributes [] = End
@@ -102,17 +110,19 @@ built [] attributes (content ∷ around) = content
 built (Text text ∷ before) attributes [] = End
 built (Text text ∷ before) attributes (content ∷ around) = built before attributes (text_then text content ∷ around)
 built (Close name ∷ before) attributes around = built before [] (End ∷ around)
-built (Give name value ∷ before) attributes around = built before (record { name = name; value = value } ∷ attributes) around
+built (Give name value ∷ before) attributes around =
+    built before (record { name = name; value = value } ∷ attributes) around
 built (Open name line ∷ before) attributes [] = End
 built (Open name line ∷ before) attributes (inside ∷ []) = End
-built (Open name line ∷ before) attributes (inside ∷ rest ∷ around) = built before [] (Element name attributes 0 line inside rest ∷ around)
+built (Open name line ∷ before) attributes (inside ∷ rest ∷ around) =
+    built before [] (Element name attributes 0 line inside rest ∷ around)
 
 abbrev pub tree_built : Result (List Event) PyxFault → Result Content PyxFault
 tree_built (Ok events) = Ok (built events [] (End ∷ []))
 tree_built (Err fault) = Err fault
 
 -- the tree that a text stands for, or its first fault
-abbrev pub document_of : List ℕ → Result Content PyxFault
+unfoldable pub document_of : List ℕ → Result Content PyxFault
 document_of text = tree_built (reading text)
 
 -- the nodes of that tree, or the fault

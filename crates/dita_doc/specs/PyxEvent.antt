@@ -1,6 +1,7 @@
 -- What the lines of a text have said so far, and what of a next line is wrong. Events are kept with the last first.
-use Rattle.std.specs.Prelude.{◌==◌, ◌&&◌, ◌||◌, ℕ, Bool, true, false, not, List, [], ◌∷◌, ◌++◌, Option, Some, None, length, drop, nat_le, if◌then◌else◌, bytes_eq}
-use Rattle.std.specs.List.{list_all, list_any}
+use Rattle.std.specs.Prelude.{◌==◌, ◌&&◌, ℕ, Bool, true, false, not, List, [], ◌∷◌, ◌++◌, Option, Some, None, length, drop, nat_le, if◌then◌else◌, bytes_eq}
+use Rattle.std.specs.List.{list_any}
+use Rattle.dita_doc.specs.PlainText.{is_blank}
 use Rattle.dita_doc.specs.PyxLine.{Line, Opens, Gives, Says, Closes, Passes, Breaks}
 use Rattle.dita_doc.specs.declared.fault.PyxCode.{PyxCode}
 use Rattle.dita_doc.specs.declared.fault.PyxCode.TheVariants as codes
@@ -48,12 +49,6 @@ has_root (Close name ∷ before) = has_root before
 
 abbrev pub is_outside : List Event → Bool
 is_outside before = length (open_names before) == 0
-
-abbrev pub is_blank_byte : ℕ → Bool
-is_blank_byte b = (b == 32) || (b == 9) || (b == 10)
-
-abbrev pub is_blank : List ℕ → Bool
-is_blank text = list_all is_blank_byte text
 
 abbrev pub depth_limit : ℕ
 depth_limit = 256

@@ -38,7 +38,13 @@ reply_seen (answers.TooManyNames limit) = TooManyNames limit
 reply_seen answers.Begun = Begun
 
 abbrev pub entry_seen : kept.Entry → Entry
-entry_seen entry = record { session = entry.session; number = entry.number; request = request_seen entry.request; reply = reply_seen entry.reply }
+entry_seen entry = record {
+  session = entry.session;
+  number = entry.number;
+  request =
+      request_seen entry.request;
+  reply = reply_seen entry.reply;
+}
 
 -- a document in the body has the name as its one origin
 abbrev pub HasOrigin : List ℕ → Body → Type 0

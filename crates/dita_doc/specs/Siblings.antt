@@ -1,14 +1,73 @@
 -- What siblings of a document are, and the first of them.
-use Rattle.std.specs.Prelude.{◌≡◌}
+use Rattle.std.specs.Prelude.{◌≡◌, ℕ, zero, suc, Option, Some, None, slice_get}
+use Rattle.dita_doc.specs.declared.doc.Doc.{Doc}
+use Rattle.dita_doc.specs.declared.doc.Node.{Node}
 use Rattle.dita_doc.specs.declared.siblings.Siblings.{Siblings}
 use Rattle.dita_doc.specs.declared.siblings.First.{First}
 use Rattle.dita_doc.specs.declared.siblings.First.TheVariants as first
-use Rattle.dita_doc.specs.Tree.{Content, End, Chars, Element, content_of}
+use Rattle.dita_doc.specs.Tree.{Content, End, Chars, Element, content_of, tree_of}
 
 abbrev pub content : Siblings → Content
 content siblings = content_of siblings.nodes.now siblings.place
 
+-- the document that they stand in
+abbrev pub document : Siblings → Doc
+document siblings = siblings.doc.now
+
 abbrev pub IsFirst : Content → First → Type 0
 IsFirst all first.End = all ≡ End
-IsFirst all (first.Chars node rest) = all ≡ Chars node.now.text node.now.origin node.now.line (content rest)
-IsFirst all (first.Element node inside rest) = all ≡ Element node.now.text node.now.attributes node.now.origin node.now.line (content inside) (content rest)
+IsFirst all (first.Chars place node rest) = all ≡ Chars node.now.text node.now.origin node.now.line (content rest)
+IsFirst all (first.Element place node inside rest) =
+    all ≡ Element node.now.text node.now.attributes node.now.origin node.now.line (content inside) (content rest)
+
+-- the first node, if there is one, stands at this place of the document
+abbrev pub StandsAt : ℕ → First → Type 0
+StandsAt at first.End = Unit {0}
+StandsAt at (first.Chars place node rest) = place ≡ at
+StandsAt at (first.Element place node inside rest) = place ≡ at
+
+-- and it is the document's node there
+abbrev pub IsNodeOf : Doc → First → Type 0
+IsNodeOf doc first.End = Unit {0}
+IsNodeOf doc (first.Chars place node rest) = slice_get doc.nodes place ≡ Some node.now
+IsNodeOf doc (first.Element place node inside rest) = slice_get doc.nodes place ≡ Some node.now
+
+-- what it holds and what comes after it stand in this document
+abbrev pub PartsAreOf : Doc → First → Type 0
+PartsAreOf doc first.End = Unit {0}
+PartsAreOf doc (first.Chars place node rest) = document rest ≡ doc
+PartsAreOf doc (first.Element place node inside rest) = (document inside ≡ doc) × (document rest ≡ doc)
+
+-- Places in the preorder of a tree, of which the first is 0
+
+-- one content behind another
+abbrev pub joined : Content → Content → Content
+joined End more = more
+joined (Chars text origin line rest) more = Chars text origin line (joined rest more)
+joined (Element name attributes origin line inside rest) more =
+    Element name attributes origin line inside (joined rest more)
+
+-- what the preorder has from this place on
+abbrev pub content_from : ℕ → Content → Content
+content_from zero all = all
+content_from (suc place) End = End
+content_from (suc place) (Chars text origin line rest) = content_from place rest
+content_from (suc place) (Element name attributes origin line inside rest) = content_from place (joined inside rest)
+
+-- the element that stands first, with what it holds and nothing behind it
+abbrev pub first_element : Content → Option Content
+first_element End = None
+first_element (Chars text origin line rest) = None
+first_element (Element name attributes origin line inside rest) =
+    Some (Element name attributes origin line inside End)
+
+abbrev pub element_at : Content → ℕ → Option Content
+element_at all place = first_element (content_from place all)
+
+-- the document's element at this place has this node and holds these siblings
+pub record IsElementAt (doc : Doc) (place : ℕ) (node : Node) (inside : Siblings) : Type 0 where
+  pub element :
+      element_at (tree_of doc.nodes) place ≡
+      Some (Element node.text node.attributes node.origin node.line (content inside) End)
+  pub here : slice_get doc.nodes place ≡ Some node
+  pub within : document inside ≡ doc

@@ -13,7 +13,13 @@ use Rattle.dita_doc.specs.declared.sources.Document.{Document}
 use Rattle.dita_doc.specs.Desk.{Stored, State, IsBelowAll}
 
 abbrev pub document_seen : Document → Stored
-document_seen document = record { name = document.name; nodes = (arc_value document.doc).nodes; bytes = arc_value document.bytes; version = document.version }
+document_seen document = record {
+  name = document.name;
+  nodes = (arc_value document.doc).nodes;
+  bytes =
+      arc_value document.bytes;
+  version = document.version;
+}
 
 abbrev pub found_seen : Option (Bor Document) → Option Stored
 found_seen found = option_map (λ document. document_seen document.now) found

@@ -1,6 +1,7 @@
 -- The tree of a document and its preorder. An element has a name, attributes and content; a text has characters.
 -- Each node knows in which of the document's origins, and an element in which line, it was written.
-use Rattle.std.specs.Prelude.{◌≡◌, ◌+◌, ◌-◌, ◌^◌, ℕ, zero, suc, Bool, true, false, List, [], ◌∷◌, ◌++◌, length, take, drop, if◌then◌else◌}
+use Rattle.std.specs.Prelude.{◌≡◌, ◌+◌, ◌-◌, ◌^◌, ℕ, zero, suc, Bool, true, false, List, [], ◌∷◌, ◌++◌, length, take, drop, nat_lt, if◌then◌else◌}
+use Rattle.std.specs.List.{list_all}
 use Rattle.dita_doc.specs.declared.doc.Attribute.{Attribute}
 use Rattle.dita_doc.specs.declared.doc.Node.{Node}
 use Rattle.dita_doc.specs.declared.doc.NodeKind.{NodeKind}
@@ -14,10 +15,19 @@ pub data Content : Type 0 where
 
 -- the node of an element whose subtree ends before the place `end`, and that of a text
 abbrev pub element_node : List ℕ → List Attribute → ℕ → ℕ → ℕ → Node
-element_node name attributes origin line end = record { kind = kinds.Element; text = name; attributes = attributes; origin = origin; line = line; end = end }
+element_node name attributes origin line end =
+    record { kind = kinds.Element; text = name; attributes = attributes; origin = origin; line = line; end = end }
 
 abbrev pub chars_node : List ℕ → ℕ → ℕ → ℕ → Node
-chars_node text origin line end = record { kind = kinds.Chars; text = text; attributes = []; origin = origin; line = line; end = end }
+chars_node text origin line end = record {
+  kind = kinds.Chars;
+  text = text;
+  attributes = [];
+  origin = origin;
+  line =
+      line;
+  end = end;
+}
 
 -- how many nodes it has
 abbrev pub size_of : Content → ℕ
@@ -44,7 +54,8 @@ content_within (suc n) [] place = End
 content_within (suc n) (node ∷ nodes) place =
     let count = node.end - (place + 1) in
     if is_element node.kind
-    then Element node.text node.attributes node.origin node.line (content_within n (take count nodes) (place + 1)) (content_within n (drop count nodes) node.end)
+    then Element node.text node.attributes node.origin node.line (content_within n (take count nodes) (place + 1))
+    (content_within n (drop count nodes) node.end)
     else Chars node.text node.origin node.line (content_within n nodes (place + 1))
 
 -- the content whose preorder the nodes are, where they are one
@@ -61,3 +72,10 @@ tree_of nodes = content_of nodes 0
 
 abbrev pub node_limit : ℕ
 node_limit = 2 ^ 32
+
+-- the origins of nodes are places among so many
+abbrev pub are_places : ℕ → List ℕ → Bool
+are_places count places = list_all (λ place. nat_lt place count) places
+
+abbrev pub are_placed : ℕ → List Node → Bool
+are_placed count nodes = list_all (λ (node : Node). nat_lt node.origin count) nodes

@@ -1,10 +1,12 @@
 //! Documents as trees: the nodes in preorder.
 
-ghost use Rattle.std.specs.Prelude.{◌<◌, ◌^◌, length};
-ghost use Rattle.dita_doc.specs.Tree.{ArePreorder, node_limit};
+ghost use Rattle.std.specs.Prelude.{◌<◌, ◌^◌, length, IsTrue};
+ghost use Rattle.dita_doc.specs.Tree as tree_spec;
 
-use crate::list::{List, Text};
+use crate::class::class_has;
+use crate::list::List;
 use crate::name::Name;
+use crate::text::Text;
 use std::alloc::AllocError;
 
 /// An attribute as it was written. An element has no two of one name.
@@ -21,8 +23,8 @@ impl Clone for Attribute {
 
     fn clone(&self) -> Result<Attribute, AllocError> {
         Ok(Attribute {
-            name: self.name.copy()?,
-            value: self.value.copy()?,
+            name: self.name.clone()?,
+            value: self.value.clone()?,
         })
     }
 }
@@ -47,11 +49,40 @@ pub struct Node {
     pub end: u32,
 }
 
-/// A document: the nodes of its tree in preorder, and the names of the documents they were written in.
+impl Node {
+    ghost use Rattle.std.specs.Prelude.{◌≡◌};
+    ghost use Rattle.std.specs.Option.{option_copied};
+    ghost use Rattle.dita_doc.specs.ClassValue as class_value_spec;
+
+    /// Whether the element is of the type with this token, as `topic/p`. It is of none if it has no
+    /// class value, or one that cannot be read.
+    pub fn has_type(&self, token: &str) -> bool
+        ensures { result ≡ class_value_spec.has_type self.now.attributes token.now }
+    {
+        self.value_of("class")
+            .is_some_and(|value| class_has(value.as_bytes(), token.as_bytes()))
+    }
+
+    /// The value of an attribute, if the element has it.
+    pub fn value_of(&self, name: &str) -> Option<&str>
+        ensures { option_copied result ≡ class_value_spec.value_of name.now self.now.attributes }
+    {
+        let attribute = self
+            .attributes
+            .as_slice()
+            .iter()
+            .find(|attribute| attribute.name.as_str() == name)?;
+        Some(attribute.value.as_str())
+    }
+}
+
+/// A document: the nodes of its tree in preorder, and the names of the documents that they were
+/// written in. The `origin` of each node is a place in `origins`.
 #[derive(Debug, Drop)]
 pub struct Doc {
     pub origins: List<Name>,
     pub nodes: List<Node>,
-    pub ghost tree: { ArePreorder nodes 0 },
-    pub ghost small: { length nodes < node_limit },
+    pub ghost tree: { tree_spec.ArePreorder nodes 0 },
+    pub ghost small: { length nodes < tree_spec.node_limit },
+    pub ghost placed: { IsTrue (tree_spec.are_placed (length origins) nodes) },
 }

@@ -1,10 +1,15 @@
 //! Finished parts of builds, and the rows that keep them.
 
+ghost use Rattle.std.specs.Prelude.{◌≡◌, IfOk};
+ghost use Rattle.std.specs.Arc.{arc_value};
+
 use crate::fault::Fault;
 use crate::list::List;
 use crate::name::Name;
 use crate::plan::{Plan, PlanStop};
-use crate::request::Read;
+use crate::question::Asked;
+use crate::stop::NoMemory;
+use std::alloc::Global;
 use std::sync::Arc;
 
 /// A page's bytes, with the faults that were met on the way.
@@ -39,12 +44,32 @@ pub enum FactValue {
     Made(Arc<Html>),
 }
 
-/// A part of a build, with the versions that it was made from.
+/// A part of a build, with the questions that it was made from and their answers.
 #[derive(Debug, Drop)]
 pub struct Fact {
     pub key: FactKey,
-    pub reads: List<Read>,
+    pub asked: List<Asked>,
     pub value: FactValue,
+}
+
+/// Two shares of one fact: one is kept, and one is given away without memory being taken then.
+#[derive(Debug, Drop)]
+pub struct FactPair {
+    pub kept: Arc<Fact>,
+    pub given: Arc<Fact>,
+    pub ghost same: { ∥ arc_value kept ≡ arc_value given ∥₁ },
+}
+
+impl FactPair {
+    /// Two shares of a fact, which is not copied.
+    pub fn new(alloc: Global, fact: Fact) -> Result<FactPair, NoMemory>
+        ensures kept { IfOk result (λ pair. arc_value pair.kept ≡ fact) }
+        ensures given { IfOk result (λ pair. arc_value pair.given ≡ fact) }
+    {
+        let kept = Arc::new(alloc, fact)?;
+        let given = Arc::try_clone(&kept)?;
+        Ok(FactPair { kept, given })
+    }
 }
 
 /// A fact that is kept for later builds.

@@ -1,7 +1,7 @@
 //! Faults of texts, of scripts and of builds.
 
-use crate::list::Text;
 use crate::name::Name;
+use crate::text::Text;
 
 /// Why a text is no PYX text. The numbers are those of `docs/RULES.md`.
 #[derive(Clone, Copy, Debug, PartialEq, Eq)]
@@ -22,11 +22,11 @@ pub enum PyxCode {
 
 impl PyxCode {
     ghost use Rattle.std.specs.Prelude.{◌≡◌};
-    ghost use Rattle.dita_doc.specs.Faults.{pyx_code_text};
+    ghost use Rattle.dita_doc.specs.Faults as faults_spec;
 
     /// The code's name.
     pub fn text(self) -> &'static str
-        ensures { result.now ≡ pyx_code_text self }
+        ensures { result.now ≡ faults_spec.pyx_code_text self }
     {
         match self {
             PyxCode::BadLine => "BadLine",
@@ -49,47 +49,6 @@ impl PyxCode {
 #[derive(Clone, Copy, Debug, PartialEq, Eq)]
 pub struct PyxFault {
     pub code: PyxCode,
-    pub line: u32,
-}
-
-/// Why bytes are no script. The numbers are those of `docs/RULES.md`.
-#[derive(Clone, Copy, Debug, PartialEq, Eq)]
-pub enum ScriptCode {
-    BadCommand = 1,
-    BadNumber = 2,
-    BadName = 3,
-    NoEnd = 4,
-    TooManySessions = 5,
-    TooManyRequests = 6,
-    TooLong = 7,
-    NotUtf8 = 8,
-}
-
-impl ScriptCode {
-    ghost use Rattle.std.specs.Prelude.{◌≡◌};
-    ghost use Rattle.dita_doc.specs.Faults.{script_code_text};
-
-    /// The code's name.
-    pub fn text(self) -> &'static str
-        ensures { result.now ≡ script_code_text self }
-    {
-        match self {
-            ScriptCode::BadCommand => "BadCommand",
-            ScriptCode::BadNumber => "BadNumber",
-            ScriptCode::BadName => "BadName",
-            ScriptCode::NoEnd => "NoEnd",
-            ScriptCode::TooManySessions => "TooManySessions",
-            ScriptCode::TooManyRequests => "TooManyRequests",
-            ScriptCode::TooLong => "TooLong",
-            ScriptCode::NotUtf8 => "NotUtf8",
-        }
-    }
-}
-
-/// The first faulty line of a script, counted from 1, and its first fault.
-#[derive(Clone, Copy, Debug, PartialEq, Eq)]
-pub struct ScriptFault {
-    pub code: ScriptCode,
     pub line: u32,
 }
 
@@ -131,11 +90,11 @@ pub enum FaultCode {
 
 impl FaultCode {
     ghost use Rattle.std.specs.Prelude.{◌≡◌};
-    ghost use Rattle.dita_doc.specs.Faults.{fault_code_text};
+    ghost use Rattle.dita_doc.specs.Faults as faults_spec;
 
     /// The code's name.
     pub fn text(self) -> &'static str
-        ensures { result.now ≡ fault_code_text self }
+        ensures { result.now ≡ faults_spec.fault_code_text self }
     {
         match self {
             FaultCode::NoClass => "NoClass",

@@ -1,38 +1,54 @@
-//! The vocabulary that every other crate shares: texts, names, trees of documents, requests and replies,
-//! stored sources, faults, and the definitions of what a text, a script, a page, a history and a transcript
-//! are (in `specs/`).
+//! The vocabulary that every other crate shares: texts, names, trees of documents, requests and
+//! replies, stored sources, faults, and the types of plans, keys, content, questions and finished
+//! parts.
 //!
-//! What is used above it: the facts that its types keep. A `Name` is a document name, the nodes of a
-//! `Doc` are the preorder of a tree, what a `Body` says was read is the reading of its bytes, and
-//! `Sources` stand by their names, each once.
+//! What is used above it: the facts that its types keep. A `Text` is UTF-8 and a `Name` a document
+//! name; the nodes of a `Doc` are the preorder of a tree, and their origins are among its names;
+//! what a `Body` says was read is the reading of its bytes; `Sources` stand by their names, each
+//! once.
 #![tactic(auto)]
 
 mod body;
-mod cut;
+mod bytes;
+mod class;
+mod content;
 mod doc;
+mod escapes;
 mod fact;
 mod fault;
 mod list;
 mod name;
 mod plan;
+mod question;
 mod request;
 mod siblings;
 mod sources;
 mod stop;
 #[cfg(test)]
 mod tests;
+mod text;
 
 pub use body::Body;
-pub use cut::split_at_first;
-pub use doc::{Attribute, Doc, Node, NodeKind};
-pub use fact::{Fact, FactKey, FactValue, Html, Part, Row};
-pub use fault::{Fault, FaultCode, PyxCode, PyxFault, ScriptCode, ScriptFault};
-pub use list::{List, Text};
-pub use name::{NAME_LIMIT, Name, is_name};
-pub use plan::{
-    Affix, PageId, PagePlan, Plan, PlanKind, PlanNode, PlanStop, Reference, Scope, Target,
+pub use bytes::{
+    is_blank, is_blank_byte, is_utf8, split_at_first, split_at_last, split_text_at_first,
 };
+pub use class::{ClassFault, ClassList, Sign, is_token, split_sign, split_word};
+pub use content::{
+    Action, Anchor, KeyAnswer, LinkKind, PageLink, Push, PushKind, PushList, Resolved, Rule,
+};
+pub use doc::{Attribute, Doc, Node, NodeKind};
+pub use escapes::{append_html, append_html_value, append_pyx, append_unescaped, fold};
+pub use fact::{Fact, FactKey, FactPair, FactValue, Html, Part, Row};
+pub use fault::{Fault, FaultCode, PyxCode, PyxFault};
+pub use list::List;
+pub use name::{NAME_LIMIT, Name, NotName, is_name};
+pub use plan::{
+    Affix, Context, Expanded, PageId, PagePlan, Plan, PlanKind, PlanNode, PlanStop, Reference,
+    Scope, Target,
+};
+pub use question::{Answered, Asked, DocKind, Question};
 pub use request::{Entry, Read, Reply, Request};
 pub use siblings::{First, Siblings};
 pub use sources::{Document, Sources};
 pub use stop::{NoMemory, Stop};
+pub use text::Text;

@@ -6,14 +6,11 @@ use std::alloc::{AllocError, Global};
 use std::cmp::Ordering;
 use std::marker::Model;
 
-/// A growing list. It takes memory only where it grows or is copied.
+/// A growing list. It takes memory only if it grows or is copied.
 #[derive(Debug, Drop)]
 pub struct List<T> {
     content: Vec<T>,
 }
-
-/// A list of bytes that are UTF-8 where nothing else is said.
-pub type Text = List<u8>;
 
 impl<T> Model for List<T> {
     ghost use Rattle.std.specs.Prelude.{List};
@@ -65,7 +62,7 @@ impl<T> List<T> {
         self.content.is_empty()
     }
 
-    /// Puts a value at the end. Without memory the list stays as it was.
+    /// Appends a value. Without memory the list stays as it was.
     pub fn push(&mut self, value: T) -> Result<(), AllocError>
     where
         T: Drop,
@@ -78,22 +75,15 @@ impl<T> List<T> {
 
 impl List<u8> {
     /// The bytes of a slice.
-    pub fn from_slice(alloc: Global, bytes: &[u8]) -> Result<Text, AllocError>
-        ensures { IfOk result (λ text. text ≡ bytes.now) }
+    pub fn from_slice(alloc: Global, bytes: &[u8]) -> Result<List<u8>, AllocError>
+        ensures { IfOk result (λ list. list ≡ bytes.now) }
     {
         Ok(List {
             content: Vec::from_slice(alloc, bytes)?,
         })
     }
 
-    /// The same bytes in memory of their own.
-    pub fn copy(&self) -> Result<Text, AllocError>
-        ensures { IfOk result (λ text. text ≡ self.now) }
-    {
-        Text::from_slice(*self.content.allocator(), self.content.as_slice())
-    }
-
-    /// Puts bytes at the end. Without memory the list stays as it was.
+    /// Appends bytes. Without memory the list stays as it was.
     pub fn append(&mut self, bytes: &[u8]) -> Result<(), AllocError>
         ensures { self.new ≡ (if is_ok result then self.old ++ bytes.now else self.old) }
     {

@@ -1,20 +1,27 @@
 //! Document names.
 
-ghost use Rattle.std.specs.Prelude.{◌≡◌, IsTrue, IfOk};
+ghost use Rattle.std.specs.Prelude.{◌≡◌, IsTrue, IfOk, IfErr, false};
 ghost use Rattle.std.specs.List.{list_all};
-ghost use Rattle.dita_doc.specs.Name.{is_name as is_name_of, is_segment as is_segment_of, is_name_byte, segments_of};
+ghost use Rattle.std.specs.Str.{IsUtf8};
+ghost use Rattle.dita_doc.specs.Gives.{OnFault};
+ghost use Rattle.dita_doc.specs.Name as spec;
 
-use crate::cut::split_at_first;
-use crate::list::Text;
+use crate::bytes::split_at_first;
+use crate::stop::Stop;
+use crate::text::Text;
 use std::alloc::{AllocError, Global};
 use std::cmp::Ordering;
 use std::marker::Model;
 use std::sync::Arc;
 
-/// The bytes of the longest name.
+/// How many bytes the longest name has.
 pub const NAME_LIMIT: usize = 255;
 
-/// A document name: its bytes are shared, so that a clone copies none of them.
+/// A text is no document name.
+#[derive(Clone, Copy, Debug, PartialEq, Eq)]
+pub struct NotName;
+
+/// A document name: its text is shared, so that a clone copies none of it.
 #[derive(Debug, Drop)]
 pub struct Name {
     text: Arc<Text>,
@@ -23,19 +30,19 @@ pub struct Name {
 impl Model for Name {
     ghost use Rattle.std.specs.Prelude.{List, ℕ, IsTrue};
     ghost use Rattle.std.specs.Arc.{arc_value};
-    ghost use Rattle.dita_doc.specs.Name.{is_name};
+    ghost use Rattle.dita_doc.specs.Name as name_spec;
 
     ghost Value = { List ℕ };
 
     ghost view = { λ n. arc_value n.text };
 
-    ghost invariant = { λ n. IsTrue (is_name (arc_value n.text)) };
+    ghost invariant = { λ n. IsTrue (name_spec.is_name (arc_value n.text)) };
 }
 
 impl Name {
     /// The name that a text is.
     pub fn new(alloc: Global, text: Text) -> Result<Name, AllocError>
-        requires { IsTrue (is_name_of text) }
+        requires { IsTrue (spec.is_name text) }
         ensures { IfOk result (λ name. name ≡ text) }
     {
         Ok(Name {
@@ -43,11 +50,34 @@ impl Name {
         })
     }
 
-    pub fn as_slice(&self) -> &[u8]
-        ensures value { result.now ≡ self.now }
-        ensures name { IsTrue (is_name_of self.now) }
+    /// The name that a text is.
+    ///
+    /// # Errors
+    ///
+    /// `NotName` exactly if the text is no document name, or want of memory.
+    pub fn parse(alloc: Global, text: &str) -> Result<Name, Stop<NotName>>
+        ensures name { IfOk result (λ name. name ≡ text.now) }
+        ensures refused { IfErr result (λ stop. OnFault stop (spec.is_name text.now ≡ false)) }
     {
-        self.text.as_slice()
+        if !is_name(text.as_bytes()) {
+            return Err(Stop::Fault(NotName));
+        }
+        Ok(Name::new(alloc, Text::from_str(alloc, text)?)?)
+    }
+
+    pub fn as_str(&self) -> &str
+        ensures value { result.now ≡ self.now }
+        ensures name { IsTrue (spec.is_name self.now) }
+    {
+        self.text.as_str()
+    }
+
+    pub fn as_bytes(&self) -> &[u8]
+        ensures value { result.now ≡ self.now }
+        ensures name { IsTrue (spec.is_name self.now) }
+        ensures utf8 { IsUtf8 self.now }
+    {
+        self.text.as_bytes()
     }
 }
 
@@ -72,7 +102,7 @@ impl PartialEq for Name {
     ghost laws = { Prim.search rules };
 
     fn eq(&self, other: &Self) -> bool {
-        self.text.as_slice() == other.text.as_slice()
+        self.text.as_bytes() == other.text.as_bytes()
     }
 }
 
@@ -111,13 +141,13 @@ impl Ord for Name {
     ghost matches_eq = { texts_ties };
 
     fn cmp(&self, other: &Self) -> Ordering {
-        self.text.as_slice().cmp(&other.text.as_slice())
+        self.text.as_bytes().cmp(&other.text.as_bytes())
     }
 }
 
 /// Whether bytes are a document name.
 pub fn is_name(bytes: &[u8]) -> bool
-    ensures { result ≡ is_name_of bytes.now }
+    ensures { result ≡ spec.is_name bytes.now }
 {
     bytes.len() <= NAME_LIMIT
         && has_name_bytes(bytes)
@@ -126,13 +156,13 @@ pub fn is_name(bytes: &[u8]) -> bool
 }
 
 fn has_name_bytes(bytes: &[u8]) -> bool
-    ensures { result ≡ list_all is_name_byte bytes.now }
+    ensures { result ≡ list_all spec.is_name_byte bytes.now }
 {
     bytes.iter().all(|b| *b >= 33 && *b != 127)
 }
 
 fn has_segments(bytes: &[u8]) -> bool
-    ensures { result ≡ list_all is_segment_of (segments_of bytes.now) }
+    ensures { result ≡ list_all spec.is_segment (spec.segments_of bytes.now) }
 {
     let mut rest = bytes;
     while let Some((segment, more)) = split_at_first(rest, b'/') {
@@ -145,7 +175,7 @@ fn has_segments(bytes: &[u8]) -> bool
 }
 
 fn is_segment(segment: &[u8]) -> bool
-    ensures { result ≡ is_segment_of segment.now }
+    ensures { result ≡ spec.is_segment segment.now }
 {
     !segment.is_empty() && segment != b".".as_slice() && segment != b"..".as_slice()
 }

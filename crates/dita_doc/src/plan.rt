@@ -2,8 +2,9 @@
 
 use crate::doc::Attribute;
 use crate::fault::Fault;
-use crate::list::{List, Text};
+use crate::list::List;
 use crate::name::Name;
+use crate::text::Text;
 
 /// The three parts of a reference; a part that is not there is empty.
 #[derive(Debug, PartialEq, Eq, Drop)]
@@ -33,7 +34,8 @@ pub enum PlanKind {
     RelCell,
 }
 
-/// A node of a map, in preorder. Its element stands at `place` of the document `doc`; a group has none.
+/// A node of a map, in preorder. Its element stands at `place` of the document `doc`; a group has
+/// none.
 #[derive(Debug, Drop)]
 pub struct PlanNode {
     pub kind: PlanKind,
@@ -88,6 +90,23 @@ pub enum Target {
     File(Name, Text),
     /// The value as it was written.
     Other(Text),
+}
+
+/// The nodes of a map as a step of planning leaves them, with the faults that the step found.
+#[derive(Debug, Drop)]
+pub struct Expanded {
+    pub nodes: List<PlanNode>,
+    pub faults: List<Fault>,
+}
+
+/// Where a page is made: the map and the DITAVAL of its build, what sets it apart from other pages,
+/// and its name.
+#[derive(Debug, Drop)]
+pub struct Context {
+    pub map: Name,
+    pub val: Option<Name>,
+    pub page: PageId,
+    pub name: Name,
 }
 
 /// The plan of a build. Node 0 is the root map, and scope 0 the root scope.

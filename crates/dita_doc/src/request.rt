@@ -6,12 +6,13 @@ use crate::list::List;
 use crate::name::Name;
 use std::sync::Arc;
 
-/// A request. A document in the body of a put has the put's name as its origin wherever it is handed on.
+/// A request. A document in the body of a put has the put's name as its origin wherever it is
+/// handed on.
 #[derive(Debug, Drop)]
 pub enum Request {
     /// Stores a body under a name, in the place of what stands there.
     Put(Name, Body),
-    /// Stores a body where this version stands under the name; an absent name has version 0.
+    /// Stores a body if this version stands under the name; an absent name has version 0.
     PutIf(u64, Name, Body),
     /// Removes what is stored under a name.
     Remove(Name),
@@ -30,12 +31,12 @@ pub struct Read {
     pub version: u64,
 }
 
-/// What the desk answers a request.
+/// The desk's reply to a request.
 #[derive(Debug, Drop)]
 pub enum Reply {
     /// The body was stored with this version.
     Stored(u64),
-    /// What had this version was removed.
+    /// The document with this version was removed.
     Removed(u64),
     /// The bytes as they were put.
     Bytes(Arc<List<u8>>),
@@ -47,7 +48,7 @@ pub enum Reply {
     Conflict(u64),
     /// Nothing is stored under the name.
     Absent,
-    /// So many names are stored, and this one is none of them.
+    /// So many names are stored, as many as may be, and this one is not among them.
     TooManyNames(u32),
     /// A build has its place.
     Begun,

@@ -1,26 +1,34 @@
 //! A walk over a document's tree, from one sibling to the next.
 
-ghost use Rattle.std.specs.Prelude.{◌+◌, ◌<◌, length};
-ghost use Rattle.dita_doc.specs.Tree.{ArePreorder, node_limit};
+ghost use Rattle.std.specs.Prelude.{◌≡◌, ◌+◌, ◌<◌, length, slice_get, EachIndex};
+ghost use Rattle.dita_doc.specs.Tree as tree_spec;
 
 use crate::doc::{Doc, Node, NodeKind};
 
 /// Nodes of a document that stand side by side, with all that is in them: what an element holds, or
 /// the last of it.
-#[derive(Debug, Drop)]
+#[derive(Clone, Copy, Debug)]
 pub struct Siblings<'a> {
+    doc: &'a Doc,
     nodes: &'a [Node],
-    place: usize,
-    ghost tree: { ArePreorder nodes.now place },
-    ghost small: { place + length nodes.now < node_limit },
+    place: u32,
+    ghost within: { EachIndex nodes.now
+        (λ k. slice_get nodes.now k ≡ slice_get doc.now.nodes (place + k)) },
+    ghost tree: { tree_spec.ArePreorder nodes.now place },
+    ghost small: { place + length nodes.now < tree_spec.node_limit },
 }
 
-/// The first of some siblings, with the others.
-#[derive(Debug, Drop)]
+/// The first of some siblings, with its place in the document, and the others.
+#[derive(Clone, Copy, Debug)]
 pub enum First<'a> {
     End,
-    Chars(&'a Node, Siblings<'a>),
+    Chars {
+        place: u32,
+        node: &'a Node,
+        rest: Siblings<'a>,
+    },
     Element {
+        place: u32,
         node: &'a Node,
         inside: Siblings<'a>,
         rest: Siblings<'a>,
@@ -28,40 +36,88 @@ pub enum First<'a> {
 }
 
 impl<'a> Siblings<'a> {
-    ghost use Rattle.std.specs.Prelude.{◌≡◌};
-    ghost use Rattle.dita_doc.specs.Tree.{tree_of};
-    ghost use Rattle.dita_doc.specs.Siblings.{content, IsFirst};
+    ghost use Rattle.std.specs.Prelude.{◌≡◌, None, MatchOption};
+    ghost use Rattle.dita_doc.specs.Siblings as siblings_spec;
+    ghost use Rattle.dita_doc.specs.Tree as tree_spec;
 
     /// The root of a document, or its roots.
     pub fn of(doc: &'a Doc) -> Siblings<'a>
-        ensures { content result ≡ tree_of doc.now.nodes }
+        ensures content { siblings_spec.content result ≡ tree_spec.tree_of doc.now.nodes }
+        ensures place { result.place ≡ 0 }
+        ensures document { siblings_spec.document result ≡ doc.now }
     {
         Siblings {
+            doc,
             nodes: doc.nodes.as_slice(),
             place: 0,
         }
     }
 
+    /// The element at a place of a document, and what it holds.
+    pub fn element_at(doc: &'a Doc, place: u32) -> Option<(&'a Node, Siblings<'a>)>
+        ensures { MatchOption result
+            (siblings_spec.element_at (tree_spec.tree_of doc.now.nodes) place ≡ None)
+            (λ found. siblings_spec.IsElementAt doc.now place found.0.now found.1) }
+    {
+        let nodes = doc.nodes.as_slice().get(place as usize..)?;
+        let from = Siblings { doc, nodes, place };
+        let First::Element { node, inside, .. } = from.split_first() else {
+            return None;
+        };
+        Some((node, inside))
+    }
+
+    /// The document that they stand in.
+    pub fn doc(&self) -> &'a Doc
+        ensures { result.now ≡ siblings_spec.document self.now }
+    {
+        self.doc
+    }
+
+    /// The place of the first of them in the document, or of what stands behind them if there is
+    /// none.
+    pub fn place(&self) -> u32
+        ensures { result ≡ self.now.place }
+    {
+        self.place
+    }
+
     /// The first node: a text, or an element with what it holds; and what comes after it.
     pub fn split_first(self) -> First<'a>
-        ensures { IsFirst (content self.entry) result }
+        ensures content { siblings_spec.IsFirst (siblings_spec.content self.entry) result }
+        ensures place { siblings_spec.StandsAt self.entry.place result }
+        ensures node { siblings_spec.IsNodeOf (siblings_spec.document self.entry) result }
+        ensures document { siblings_spec.PartsAreOf (siblings_spec.document self.entry) result }
     {
         let Some((node, nodes)) = self.nodes.split_first() else {
             return First::End;
         };
-        let place = self.place + 1;
+        let doc = self.doc;
+        let place = self.place;
+        let behind = place + 1;
         match node.kind {
-            NodeKind::Chars => First::Chars(node, Siblings { nodes, place }),
+            NodeKind::Chars => First::Chars {
+                place,
+                node,
+                rest: Siblings {
+                    doc,
+                    nodes,
+                    place: behind,
+                },
+            },
             NodeKind::Element => {
-                let end = node.end as usize;
-                let (inside, rest) = nodes.split_at(end - place);
+                let end = node.end;
+                let (inside, rest) = nodes.split_at((end - behind) as usize);
                 First::Element {
+                    place,
                     node,
                     inside: Siblings {
+                        doc,
                         nodes: inside,
-                        place,
+                        place: behind,
                     },
                     rest: Siblings {
+                        doc,
                         nodes: rest,
                         place: end,
                     },

@@ -2,7 +2,7 @@
 
 ghost use Rattle.std.specs.Prelude.{◌≡◌, [], ◌∷◌, Ok, length, IfOk, IfErr, IfSome, IsOk, IsSome, OnErr, OnOk, map, option_map};
 ghost use Rattle.std.specs.Arc.{arc_value};
-ghost use Rattle.dita_doc.specs.Pyx.{document_of, nodes_or_fault};
+ghost use Rattle.dita_doc.specs.Pyx as pyx_spec;
 
 use crate::doc::Doc;
 use crate::list::List;
@@ -15,20 +15,22 @@ use std::sync::Arc;
 #[derive(Debug, Drop)]
 pub struct Document {
     pub name: Name,
-    /// The place of the entry that stored it, and 1.
+    /// The place of the entry that stored it, plus 1.
     pub version: u64,
     pub bytes: Arc<List<u8>>,
     pub doc: Arc<Doc>,
-    pub ghost reading: { nodes_or_fault (document_of (arc_value bytes)) ≡ Ok (arc_value doc).nodes },
+    pub ghost reading: { pyx_spec.nodes_or_fault (pyx_spec.document_of (arc_value bytes))
+        ≡ Ok (arc_value doc).nodes },
     pub ghost origin: { (arc_value doc).origins ≡ name ∷ [] },
 }
 
 /// A copy shares the name, the bytes and the document.
 impl Clone for Document {
     ghost use Rattle.std.specs.Prelude.{◌≡◌};
-    ghost use Rattle.dita_doc.specs.Sources.{document_seen};
+    ghost use Rattle.dita_doc.specs.Sources as sources_spec;
 
-    ghost is_clone = { λ document copy. document_seen copy ≡ document_seen document };
+    ghost is_clone = { λ document copy.
+        sources_spec.document_seen copy ≡ sources_spec.document_seen document };
 
     fn clone(&self) -> Result<Document, AllocError> {
         Ok(Document {
@@ -48,19 +50,20 @@ pub struct Sources {
 
 impl Model for Sources {
     ghost use Rattle.std.specs.Prelude.{map};
-    ghost use Rattle.dita_doc.specs.Desk.{State, IsSortedByName};
-    ghost use Rattle.dita_doc.specs.Sources.{document_seen};
+    ghost use Rattle.dita_doc.specs.Desk as desk_spec;
+    ghost use Rattle.dita_doc.specs.Sources as sources_spec;
 
-    ghost Value = { State };
+    ghost Value = { desk_spec.State };
 
-    ghost view = { λ sources. map document_seen sources.documents.items };
+    ghost view = { λ sources. map sources_spec.document_seen sources.documents.items };
 
-    ghost invariant = { λ sources. IsSortedByName (map document_seen sources.documents.items) };
+    ghost invariant = { λ sources.
+        desk_spec.IsSortedByName (map sources_spec.document_seen sources.documents.items) };
 }
 
 impl Sources {
-    ghost use Rattle.dita_doc.specs.Desk.{found, with_stored, without_name, IsSortedByName};
-    ghost use Rattle.dita_doc.specs.Sources.{document_seen, found_seen, got_seen, version_and_nodes, IsAt, IsGapFor};
+    ghost use Rattle.dita_doc.specs.Sources as sources_spec;
+    ghost use Rattle.dita_doc.specs.Desk as desk_spec;
 
     /// Nothing is stored.
     pub fn new(alloc: Global) -> Self
@@ -73,9 +76,9 @@ impl Sources {
 
     /// The document that is stored under a name, with all that is kept of it.
     pub fn find(&self, name: &Name) -> Option<&Document>
-        ensures { found_seen result ≡ found self.now name.now }
+        ensures { sources_spec.found_seen result ≡ desk_spec.found self.now name.now }
     {
-        match self.place(name) {
+        match self.position(name) {
             Ok(at) => Some(&self.documents[at]),
             Err(_) => None,
         }
@@ -83,10 +86,11 @@ impl Sources {
 
     /// The version that stands under a name, and the document that has it.
     pub fn get(&self, name: &Name) -> Option<(u64, &Arc<Doc>)>
-        ensures value { got_seen result ≡ option_map version_and_nodes (found self.now name.now) }
+        ensures value { sources_spec.got_seen result
+            ≡ option_map sources_spec.version_and_nodes (desk_spec.found self.now name.now) }
         ensures origin { IfSome result (λ pair. (arc_value pair.1.now).origins ≡ name.now ∷ []) }
     {
-        match self.place(name) {
+        match self.position(name) {
             Ok(at) => {
                 let document = &self.documents[at];
                 Some((document.version, &document.doc))
@@ -104,20 +108,21 @@ impl Sources {
 
     /// All that is stored, by the bytes of the names.
     pub fn as_slice(&self) -> &[Document]
-        ensures value { map document_seen result.now ≡ self.now }
-        ensures sorted { IsSortedByName self.now }
+        ensures value { map sources_spec.document_seen result.now ≡ self.now }
+        ensures sorted { desk_spec.IsSortedByName self.now }
     {
         &self.documents
     }
 
-    /// Stores a document in the place of what stands under its name. No text and no document is copied, and memory is
-    /// taken for a new name alone.
+    /// Stores a document in the place of what stands under its name. No text and no document is
+    /// copied, and memory is taken for a new name alone.
     pub fn put(&mut self, document: Document) -> Result<(), AllocError>
-        ensures ok { OnOk result (self.new ≡ with_stored (document_seen document) self.old) }
+        ensures ok { OnOk result (self.new
+            ≡ desk_spec.with_stored (sources_spec.document_seen document) self.old) }
         ensures err { OnErr result (self.new ≡ self.old) }
-        ensures overwrite_succeeds { IsSome (found self.old document.name) → IsOk result }
+        ensures overwrite_succeeds { IsSome (desk_spec.found self.old document.name) → IsOk result }
     {
-        match self.place(&document.name) {
+        match self.position(&document.name) {
             Ok(at) => {
                 self.documents[at] = document;
                 Ok(())
@@ -128,19 +133,20 @@ impl Sources {
 
     /// Takes away what stands under a name, and answers its version.
     pub fn remove(&mut self, name: &Name) -> Option<u64>
-        ensures version { result ≡ option_map (λ stored. stored.version) (found self.old name.now) }
-        ensures after { self.new ≡ without_name name.now self.old }
+        ensures version { result
+            ≡ option_map (λ stored. stored.version) (desk_spec.found self.old name.now) }
+        ensures after { self.new ≡ desk_spec.without_name name.now self.old }
     {
-        match self.place(name) {
+        match self.position(name) {
             Ok(at) => Some(self.documents.remove(at).version),
             Err(_) => None,
         }
     }
 
     // Where the name is, or where it would go.
-    fn place(&self, name: &Name) -> Result<usize, usize>
-        ensures found { IfOk result (IsAt self.now name.now) }
-        ensures absent { IfErr result (IsGapFor self.now name.now) }
+    fn position(&self, name: &Name) -> Result<usize, usize>
+        ensures found { IfOk result (sources_spec.IsAt self.now name.now) }
+        ensures absent { IfErr result (sources_spec.IsGapFor self.now name.now) }
     {
         self.documents
             .binary_search_by(|document| document.name.cmp(name))

@@ -1,5 +1,6 @@
 -- Why a call on an object of the outside failed: its count of faults rose.
 use Rattle.std.specs.Prelude.{◌+◌, ◌-◌, ◌^◌, ◌≤◌, ℕ, Bool, true, false, Result, Ok, Err, OnErr, IfErr, min}
+use Rattle.dita_doc.specs.Gives.{OnFault}
 use Rattle.dita_doc.specs.declared.stop.Stop.{Stop}
 use Rattle.dita_doc.specs.declared.stop.Stop.TheVariants.{Fault, NoMemory}
 
@@ -12,18 +13,13 @@ pub record HasCause {T E : Type 0} (before now : ℕ) (result : Result T E) : Ty
   pub later : before ≤ now
   pub failed : OnErr result (Rose before now)
 
--- a fact for a fault, and nothing for want of memory
-abbrev pub OnFault : {E : Type 0} → Stop E → Type 0 → Type 0
-OnFault (Fault fault) P = P
-OnFault NoMemory P = Unit {0}
-
--- the call ended with a fault, and not with its answer or want of memory
+-- the call ended with a fault, and not with its answer or out of memory
 abbrev pub is_fault : {T E : Type 0} → Result T (Stop E) → Bool
 is_fault (Ok answer) = false
 is_fault (Err (Fault fault)) = true
 is_fault (Err NoMemory) = false
 
--- the same where memory may be wanting too, which needs no cause
+-- the same where a call may be out of memory too, which needs no cause
 pub record HasCauseOrNoMemory {T E : Type 0} (before now : ℕ) (result : Result T (Stop E)) : Type 0 where
   pub later : before ≤ now
   pub failed : IfErr result (λ stop. OnFault stop (Rose before now))

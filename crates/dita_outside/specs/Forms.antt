@@ -1,6 +1,7 @@
 -- What the forms in memory hold, and whether their next call fails.
 use Rattle.std.specs.Prelude.{if◌then◌else◌, ◌+◌, ◌-◌, ◌^◌, ◌==◌, ◌&&◌, ◌||◌, ℕ, Bool, List, length, drop, min, nat_lt}
 use Rattle.std.specs.List.{list_any}
+use Rattle.dita_doc.specs.Bytes.{Bytes}
 use Rattle.dita_outside.specs.Pages.{Pages}
 use Rattle.dita_outside.specs.declared.source.MemSource.{MemSource}
 use Rattle.dita_outside.specs.declared.source.SureSource.{SureSource}
@@ -28,32 +29,36 @@ is_listed failing = list_any (λ call. call == next_call failing) failing.listed
 
 -- one call more, which failed or not
 abbrev pub after_call : Bool → Failing → Failing
-after_call failed failing = record { listed = failing.listed; calls = next_call failing; faults = if failed then min (failing.faults + 1) (2 ^ 64 - 1) else failing.faults }
+after_call failed failing = record {
+  listed = failing.listed;
+  calls = next_call failing;
+  faults = if failed then min (failing.faults + 1) (2 ^ 64 - 1) else failing.faults;
+}
 
-abbrev pub source_bytes : MemSource → List ℕ
+abbrev pub source_bytes : MemSource → Bytes
 source_bytes source = drop source.place source.bytes
 
 abbrev pub source_failing : MemSource → Failing
 source_failing source = record { listed = source.failing; calls = source.calls; faults = source.faults }
 
-abbrev pub sure_source_bytes : SureSource → List ℕ
+abbrev pub sure_source_bytes : SureSource → Bytes
 sure_source_bytes source = drop source.place source.bytes
 
-abbrev pub sink_bytes : MemSink → List ℕ
+abbrev pub sink_bytes : MemSink → Bytes
 sink_bytes sink = sink.content
 
 abbrev pub sink_failing : MemSink → Failing
 sink_failing sink = record { listed = sink.failing; calls = sink.calls; faults = sink.faults }
 
--- how many bytes it takes more
+-- how many bytes more it takes
 abbrev pub sink_room : MemSink → ℕ
 sink_room sink = sink.room
 
--- at a call that is listed, or where there is no room left for bytes
-abbrev pub sink_fails : MemSink → List ℕ → Bool
+-- it fails at a call that is listed, and where no room is left for bytes
+abbrev pub sink_fails : MemSink → Bytes → Bool
 sink_fails sink bytes = is_listed (sink_failing sink) || ((sink_room sink == 0) && nat_lt 0 (length bytes))
 
-abbrev pub sure_sink_bytes : SureSink → List ℕ
+abbrev pub sure_sink_bytes : SureSink → Bytes
 sure_sink_bytes sink = sink.content
 
 abbrev pub outlet_pages : MemOutlet → Pages

@@ -1,6 +1,6 @@
 //! A folder of the system as an outlet.
 
-ghost use Rattle.std.specs.Prelude.{ℕ, None};
+ghost use Rattle.std.specs.Prelude.{None};
 
 use crate::{Failed, Outlet};
 use dita_doc::{Name, Stop};
@@ -11,9 +11,9 @@ use std::{fs, io};
 
 /// A folder that takes pages as files. It tells no pages, and counts each error of the system.
 ///
-/// The folders of a name are made. A file that holds the page's bytes already is left as it is, so that a
-/// rebuild does not touch what did not change. Another page is written beside its place and renamed, so
-/// that no reader sees half of one. Pages of earlier runs stay.
+/// The folders of a name are made. A file that holds the page's bytes already is left as it is, so
+/// that a rebuild does not touch what did not change. Another page is written beside its place and
+/// renamed, so that no reader sees half of one. Pages of earlier runs stay.
 #[derive(Debug, Drop)]
 pub struct FolderOutlet<R: Files + AllocGlobal + Drop> {
     rt: R,
@@ -30,10 +30,21 @@ impl<R: Files + AllocGlobal + Drop> FolderOutlet<R> {
         }
     }
 
+    // Makes the folders of a page and puts its file there. Without success no file stays beside its
+    // place.
     fn write(&self, path: Path<'_>, beside: &str, bytes: &[u8]) -> io::Result<()> {
         if let Some(parent) = path.parent() {
             fs::create_dir_all(&self.rt, parent)?;
         }
+        let written = self.write_beside(path, beside, bytes);
+        if written.is_err() {
+            // If it can't be removed either, the fault of the page is the one that is told.
+            let _ = fs::remove_file(&self.rt, beside);
+        }
+        written
+    }
+
+    fn write_beside(&self, path: Path<'_>, beside: &str, bytes: &[u8]) -> io::Result<()> {
         fs::write(&self.rt, beside, bytes)?;
         fs::rename(&self.rt, beside, path)
     }
@@ -53,14 +64,13 @@ impl<R: Files + AllocGlobal + Drop> Outlet for FolderOutlet<R> {
 
     fn put_page(&mut self, alloc: Global, name: &Name, bytes: &[u8]) -> Result<(), Stop<Failed>> {
         let folder = self.folder.as_str();
-        if let Ok(text) = str::from_utf8(name.as_slice()) {
-            let path = format!(in alloc; "{folder}/{text}")?;
-            // A name has no space, so no page stands where this one is written.
-            let beside = format!(in alloc; "{folder}/{text} new")?;
-            let path = Path::new(path.as_str());
-            if self.holds(path, bytes) || self.write(path, beside.as_str(), bytes).is_ok() {
-                return Ok(());
-            }
+        let name = name.as_str();
+        let path = format!(in alloc; "{folder}/{name}")?;
+        // A name has no space, so no page stands where this one is written.
+        let beside = format!(in alloc; "{folder}/{name} new")?;
+        let path = Path::new(path.as_str());
+        if self.holds(path, bytes) || self.write(path, beside.as_str(), bytes).is_ok() {
+            return Ok(());
         }
         self.faults = self.faults.saturating_add(1);
         Err(Stop::Fault(Failed))

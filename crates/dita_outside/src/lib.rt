@@ -1,7 +1,8 @@
 //! The outside as the program sees it: sources, sinks and outlets, each with a count of its faults.
 //!
-//! What is used above it: a call answers `Failed` only where the object's count rose in it, and then, as
-//! with `NoMemory`, nothing was taken. What an object holds is told by its forms in memory alone.
+//! What is used above it: a call answers `Failed` only if the object's count rose in it, and
+//! then, as with `NoMemory`, nothing was taken. What an object holds is told by its forms in memory
+//! alone.
 #![tactic(auto)]
 
 mod folder;

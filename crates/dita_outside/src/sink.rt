@@ -1,52 +1,55 @@
 //! Where output goes.
 
-ghost use Rattle.std.specs.Prelude.{◌≡◌, ◌<◌, ◌-◌, ◌^◌, ℕ, List, [], Option, None, length, IfOk};
+ghost use Rattle.std.specs.Prelude.{◌≡◌, ◌<◌, ◌-◌, ◌^◌, ℕ, [], Option, None, length, IfOk};
 ghost use Rattle.std.specs.Io.{WritesAtMost};
 ghost use Rattle.std.specs.Io.KnownBytes.{WriteAppends};
-ghost use Rattle.dita_outside.specs.Cause.{HasCauseOrNoMemory};
+ghost use Rattle.dita_doc.specs.Bytes.{Bytes};
+ghost use Rattle.dita_outside.specs.Cause as cause_spec;
 
 use crate::Failed;
-use dita_doc::{List as Items, Stop};
+use dita_doc::{List, Stop};
 use std::alloc::Global;
 use std::io::Write;
 
 /// A sink of bytes.
 pub trait Sink {
-    /// The bytes that it took, where it tells them.
-    ghost taken: { Self → Option (List ℕ) };
+    /// The bytes that it took, if it tells them.
+    ghost taken: { Self → Option Bytes };
 
     /// How often it failed. The count stands still at the last value of a counter.
     ghost faults: { Self → ℕ };
 
-    /// Takes the first bytes, at least one where there are any, and answers how many. With an `Err` it took none.
+    /// Takes the first bytes, at least one if there are any, and answers how many. With an `Err` it
+    /// took none.
     fn write(&mut self, bytes: &[u8]) -> Result<usize, Stop<Failed>>
         ensures bound { WritesAtMost result bytes.now }
         ensures some { 0 < length bytes.now → IfOk result (λ count. 0 < count) }
         ensures bytes { WriteAppends (taken self.old) (taken self.new) result bytes.now }
-        ensures cause { HasCauseOrNoMemory (faults self.old) (faults self.new) result };
+        ensures cause { cause_spec.HasCauseOrNoMemory (faults self.old) (faults self.new) result };
 }
 
-/// A sink in memory that fails at the calls listed, which are counted from 1, and where its room is full.
+/// A sink in memory that fails at the calls listed, which are counted from 1, and when its room is
+/// full.
 #[derive(Debug, Drop)]
 pub struct MemSink {
-    content: Items<u8>,
+    content: List<u8>,
     room: u64,
-    failing: Items<u32>,
+    failing: List<u32>,
     calls: u32,
     faults: u64,
 }
 
 impl MemSink {
-    ghost use Rattle.dita_outside.specs.Forms.{not_called, sink_bytes, sink_failing, sink_room};
+    ghost use Rattle.dita_outside.specs.Forms as forms_spec;
 
-    /// A sink with room without end.
-    pub fn new(alloc: Global, failing: Items<u32>) -> MemSink
-        ensures bytes { sink_bytes result ≡ [] }
-        ensures failing { sink_failing result ≡ not_called failing }
-        ensures room { sink_room result ≡ 2 ^ 64 - 1 }
+    /// A sink with more room than can be filled.
+    pub fn new(alloc: Global, failing: List<u32>) -> MemSink
+        ensures bytes { forms_spec.sink_bytes result ≡ [] }
+        ensures failing { forms_spec.sink_failing result ≡ forms_spec.not_called failing }
+        ensures room { forms_spec.sink_room result ≡ 2 ^ 64 - 1 }
     {
         MemSink {
-            content: Items::new(alloc),
+            content: List::new(alloc),
             room: u64::MAX,
             failing,
             calls: 0,
@@ -56,22 +59,22 @@ impl MemSink {
 
     /// A sink that takes so many bytes in all, and then fails.
     pub fn with_room(alloc: Global, room: u64) -> MemSink
-        ensures bytes { sink_bytes result ≡ [] }
-        ensures failing { sink_failing result ≡ not_called [] }
-        ensures room { sink_room result ≡ room }
+        ensures bytes { forms_spec.sink_bytes result ≡ [] }
+        ensures failing { forms_spec.sink_failing result ≡ forms_spec.not_called [] }
+        ensures room { forms_spec.sink_room result ≡ room }
     {
         MemSink {
-            content: Items::new(alloc),
+            content: List::new(alloc),
             room,
-            failing: Items::new(alloc),
+            failing: List::new(alloc),
             calls: 0,
             faults: 0,
         }
     }
 
     /// What it took.
-    pub fn bytes(&self) -> &Items<u8>
-        ensures { result.now ≡ sink_bytes self.now }
+    pub fn bytes(&self) -> &List<u8>
+        ensures { result.now ≡ forms_spec.sink_bytes self.now }
     {
         &self.content
     }
@@ -81,22 +84,27 @@ impl Sink for MemSink {
     ghost use Rattle.std.specs.Prelude.{◌≡◌, ◌+◌, ◌<◌, IsTrue, IfOk, IfErr, length, true, false, Some};
     ghost use Rattle.std.specs.Io.{WritesAtMost};
     ghost use Rattle.std.specs.Io.KnownBytes.{WriteAppends};
-    ghost use Rattle.dita_outside.specs.Cause.{HasCauseOrNoMemory, OnFault, is_fault};
-    ghost use Rattle.dita_outside.specs.Forms.{after_call, sink_bytes, sink_failing, sink_fails, sink_room};
+    ghost use Rattle.dita_doc.specs.Gives.{OnFault};
+    ghost use Rattle.dita_outside.specs.Cause as cause_spec;
+    ghost use Rattle.dita_outside.specs.Forms as forms_spec;
 
-    ghost taken = { λ s. Some (sink_bytes s) };
+    ghost taken = { λ s. Some (forms_spec.sink_bytes s) };
 
     ghost faults = { λ s. s.faults };
 
     fn write(&mut self, bytes: &[u8]) -> Result<usize, Stop<Failed>>
         ensures bound { WritesAtMost result bytes.now }
         ensures some { 0 < length bytes.now → IfOk result (λ count. 0 < count) }
-        ensures bytes { WriteAppends (Some (sink_bytes self.old)) (Some (sink_bytes self.new)) result bytes.now }
-        ensures cause { HasCauseOrNoMemory self.old.faults self.new.faults result }
-        // It fails where a call is listed or the room is full, and nowhere else.
-        ensures failed { IfErr result (λ stop. OnFault stop (IsTrue (sink_fails self.old bytes.now))) }
-        ensures took { IfOk result (λ count. (sink_fails self.old bytes.now ≡ false) × (sink_room self.new + count ≡ sink_room self.old)) }
-        ensures counted { sink_failing self.new ≡ after_call (is_fault result) (sink_failing self.old) }
+        ensures bytes { WriteAppends (Some (forms_spec.sink_bytes self.old))
+            (Some (forms_spec.sink_bytes self.new)) result bytes.now }
+        ensures cause { cause_spec.HasCauseOrNoMemory self.old.faults self.new.faults result }
+        // It fails if the call is listed or the room is full, and else never.
+        ensures failed { IfErr result (λ stop. OnFault stop
+            (IsTrue (forms_spec.sink_fails self.old bytes.now))) }
+        ensures took { IfOk result (λ count. (forms_spec.sink_fails self.old bytes.now ≡ false)
+            × (forms_spec.sink_room self.new + count ≡ forms_spec.sink_room self.old)) }
+        ensures counted { forms_spec.sink_failing self.new ≡ forms_spec.after_call
+            (cause_spec.is_fault result) (forms_spec.sink_failing self.old) }
     {
         self.calls = self.calls.saturating_add(1);
         let is_listed = self.failing.as_slice().contains(&self.calls);
@@ -116,26 +124,26 @@ impl Sink for MemSink {
     }
 }
 
-/// A sink in memory that never fails, but for want of memory.
+/// A sink in memory that fails only when it is out of memory.
 #[derive(Debug, Drop)]
 pub struct SureSink {
-    content: Items<u8>,
+    content: List<u8>,
 }
 
 impl SureSink {
-    ghost use Rattle.dita_outside.specs.Forms.{sure_sink_bytes};
+    ghost use Rattle.dita_outside.specs.Forms as forms_spec;
 
     pub fn new(alloc: Global) -> SureSink
-        ensures { sure_sink_bytes result ≡ [] }
+        ensures { forms_spec.sure_sink_bytes result ≡ [] }
     {
         SureSink {
-            content: Items::new(alloc),
+            content: List::new(alloc),
         }
     }
 
     /// What it took.
-    pub fn bytes(&self) -> &Items<u8>
-        ensures { result.now ≡ sure_sink_bytes self.now }
+    pub fn bytes(&self) -> &List<u8>
+        ensures { result.now ≡ forms_spec.sure_sink_bytes self.now }
     {
         &self.content
     }
@@ -143,9 +151,9 @@ impl SureSink {
 
 impl Sink for SureSink {
     ghost use Rattle.std.specs.Prelude.{Some};
-    ghost use Rattle.dita_outside.specs.Forms.{sure_sink_bytes};
+    ghost use Rattle.dita_outside.specs.Forms as forms_spec;
 
-    ghost taken = { λ s. Some (sure_sink_bytes s) };
+    ghost taken = { λ s. Some (forms_spec.sure_sink_bytes s) };
 
     ghost faults = { λ _. 0 };
 
@@ -155,8 +163,8 @@ impl Sink for SureSink {
     }
 }
 
-/// A writer of the system as a sink: it tells no bytes, and counts each error of the writer. A write that
-/// takes nothing of a piece that is not empty is such an error.
+/// A writer of the system as a sink: it tells no bytes, and counts each error of the writer. A
+/// write that takes nothing of a piece that is not empty is such an error.
 #[derive(Debug, Drop)]
 pub struct StdSink<W: Write> {
     writer: W,

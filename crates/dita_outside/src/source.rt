@@ -1,47 +1,49 @@
 //! Where bytes come from.
 
-ghost use Rattle.std.specs.Prelude.{◌≡◌, ◌≤◌, ℕ, List, Option, None, length};
+ghost use Rattle.std.specs.Prelude.{◌≡◌, ◌≤◌, ℕ, Option, None, length};
 ghost use Rattle.std.specs.Io.{ReadsAtMost};
 ghost use Rattle.std.specs.Io.KnownBytes.{ReadConsumes};
-ghost use Rattle.dita_outside.specs.Cause.{HasCause};
+ghost use Rattle.dita_doc.specs.Bytes.{Bytes};
+ghost use Rattle.dita_outside.specs.Cause as cause_spec;
 
 use crate::Failed;
-use dita_doc::List as Items;
+use dita_doc::List;
 use std::io::Read;
 
 /// A source of bytes.
 pub trait Source {
-    /// The bytes that are left, where it tells them.
-    ghost left: { Self → Option (List ℕ) };
+    /// The bytes that are left, if it tells them.
+    ghost left: { Self → Option Bytes };
 
     /// How often it failed. The count stands still at the last value of a counter.
     ghost faults: { Self → ℕ };
 
-    /// Reads some bytes into the buffer, and answers how many. 0 for a buffer that is not empty is the end.
+    /// Reads some bytes into the buffer, and answers how many. 0 for a buffer that is not empty is
+    /// the end.
     fn read(&mut self, into: &mut [u8]) -> Result<usize, Failed>
         ensures bound { ReadsAtMost result into.new }
         ensures bytes { ReadConsumes (left self.old) (left self.new) result into.new }
-        ensures cause { HasCause (faults self.old) (faults self.new) result };
+        ensures cause { cause_spec.HasCause (faults self.old) (faults self.new) result };
 }
 
 /// A source in memory that fails at the calls listed, which are counted from 1.
 #[derive(Debug, Drop)]
 pub struct MemSource {
-    bytes: Items<u8>,
+    bytes: List<u8>,
     place: usize,
-    failing: Items<u32>,
+    failing: List<u32>,
     calls: u32,
     faults: u64,
     ghost inside: { place ≤ length bytes },
 }
 
 impl MemSource {
-    ghost use Rattle.dita_outside.specs.Forms.{not_called, source_bytes, source_failing};
+    ghost use Rattle.dita_outside.specs.Forms as forms_spec;
 
     /// A source of these bytes, which takes no memory.
-    pub fn new(bytes: Items<u8>, failing: Items<u32>) -> MemSource
-        ensures bytes { source_bytes result ≡ bytes }
-        ensures failing { source_failing result ≡ not_called failing }
+    pub fn new(bytes: List<u8>, failing: List<u32>) -> MemSource
+        ensures bytes { forms_spec.source_bytes result ≡ bytes }
+        ensures failing { forms_spec.source_failing result ≡ forms_spec.not_called failing }
     {
         MemSource {
             bytes,
@@ -57,20 +59,22 @@ impl Source for MemSource {
     ghost use Rattle.std.specs.Prelude.{◌≡◌, is_err, Some};
     ghost use Rattle.std.specs.Io.{ReadsAtMost};
     ghost use Rattle.std.specs.Io.KnownBytes.{ReadConsumes};
-    ghost use Rattle.dita_outside.specs.Cause.{HasCause};
-    ghost use Rattle.dita_outside.specs.Forms.{after_call, is_listed, source_bytes, source_failing};
+    ghost use Rattle.dita_outside.specs.Cause as cause_spec;
+    ghost use Rattle.dita_outside.specs.Forms as forms_spec;
 
-    ghost left = { λ s. Some (source_bytes s) };
+    ghost left = { λ s. Some (forms_spec.source_bytes s) };
 
     ghost faults = { λ s. s.faults };
 
     fn read(&mut self, into: &mut [u8]) -> Result<usize, Failed>
         ensures bound { ReadsAtMost result into.new }
-        ensures bytes { ReadConsumes (Some (source_bytes self.old)) (Some (source_bytes self.new)) result into.new }
-        ensures cause { HasCause self.old.faults self.new.faults result }
+        ensures bytes { ReadConsumes (Some (forms_spec.source_bytes self.old))
+            (Some (forms_spec.source_bytes self.new)) result into.new }
+        ensures cause { cause_spec.HasCause self.old.faults self.new.faults result }
         // It fails at the calls listed, and at no other.
-        ensures listed { is_err result ≡ is_listed (source_failing self.old) }
-        ensures counted { source_failing self.new ≡ after_call (is_err result) (source_failing self.old) }
+        ensures listed { is_err result ≡ forms_spec.is_listed (forms_spec.source_failing self.old) }
+        ensures counted { forms_spec.source_failing self.new
+            ≡ forms_spec.after_call (is_err result) (forms_spec.source_failing self.old) }
     {
         self.calls = self.calls.saturating_add(1);
         if self.failing.as_slice().contains(&self.calls) {
@@ -91,17 +95,17 @@ impl Source for MemSource {
 /// A source in memory that never fails.
 #[derive(Debug, Drop)]
 pub struct SureSource {
-    bytes: Items<u8>,
+    bytes: List<u8>,
     place: usize,
     ghost inside: { place ≤ length bytes },
 }
 
 impl SureSource {
-    ghost use Rattle.dita_outside.specs.Forms.{sure_source_bytes};
+    ghost use Rattle.dita_outside.specs.Forms as forms_spec;
 
     /// A source of these bytes, which takes no memory.
-    pub fn new(bytes: Items<u8>) -> SureSource
-        ensures { sure_source_bytes result ≡ bytes }
+    pub fn new(bytes: List<u8>) -> SureSource
+        ensures { forms_spec.sure_source_bytes result ≡ bytes }
     {
         SureSource { bytes, place: 0 }
     }
@@ -109,9 +113,9 @@ impl SureSource {
 
 impl Source for SureSource {
     ghost use Rattle.std.specs.Prelude.{Some};
-    ghost use Rattle.dita_outside.specs.Forms.{sure_source_bytes};
+    ghost use Rattle.dita_outside.specs.Forms as forms_spec;
 
-    ghost left = { λ s. Some (sure_source_bytes s) };
+    ghost left = { λ s. Some (forms_spec.sure_source_bytes s) };
 
     ghost faults = { λ _. 0 };
 

@@ -3,17 +3,16 @@
 use crate::{
     Failed, FolderOutlet, MemOutlet, MemSink, MemSource, Outlet, Sink, Source, StdSink, StdSource,
 };
-use dita_doc::{List, Name, Stop, Text, is_name};
+use dita_doc::{List, Name, Stop};
 use std::alloc::{AllocError, Global};
 use std::os::unix::fs::MetadataExt;
 use std::test::Fail;
 use std::{env, fs};
 
-fn name(alloc: Global, text: &[u8]) -> Result<Name, AllocError> {
-    if is_name(text) {
-        Name::new(alloc, Text::from_slice(alloc, text)?)
-    } else {
-        Err(AllocError)
+fn name(alloc: Global, text: &str) -> Result<Name, AllocError> {
+    match Name::parse(alloc, text) {
+        Ok(name) => Ok(name),
+        Err(_) => Err(AllocError),
     }
 }
 
@@ -24,7 +23,7 @@ fn calls(alloc: Global, numbers: &[u32]) -> Result<List<u32>, AllocError> {
 #[test]
 fn a_source_fails_at_its_second_call(rt: HostRuntime) -> Result<(), Fail> {
     let alloc = rt.alloc();
-    let mut source = MemSource::new(Text::from_slice(alloc, b"abc")?, calls(alloc, &[2])?);
+    let mut source = MemSource::new(List::from_slice(alloc, b"abc")?, calls(alloc, &[2])?);
     let mut buffer = [0u8; 2];
     assert_eq!(rt; source.read(&mut buffer), Ok(2));
     assert_eq!(rt; source.read(&mut buffer), Err(Failed));
@@ -47,7 +46,7 @@ fn a_sink_takes_what_it_has_room_for(rt: HostRuntime) -> Result<(), Fail> {
 fn an_outlet_does_not_take_the_page_that_failed(rt: HostRuntime) -> Result<(), Fail> {
     let alloc = rt.alloc();
     let mut outlet = MemOutlet::new(alloc, calls(alloc, &[1])?);
-    let page = name(alloc, b"b1/t.html")?;
+    let page = name(alloc, "b1/t.html")?;
     assert_eq!(rt;
         outlet.put_page(alloc, &page, b"x"),
         Err(Stop::Fault(Failed))
@@ -85,7 +84,7 @@ fn a_folder_keeps_the_file_of_an_unchanged_page(rt: HostRuntime) -> Result<(), F
     let folder = format!(in alloc; "{folder}/dita-outlet-{id}")?;
     let file = format!(in alloc; "{folder}/b1/a/t.html")?;
     let mut outlet = FolderOutlet::new(rt.clone()?, folder.clone()?);
-    let page = name(alloc, b"b1/a/t.html")?;
+    let page = name(alloc, "b1/a/t.html")?;
     assert_eq!(rt; outlet.put_page(alloc, &page, b"one"), Ok(()));
     let first = fs::metadata(&rt, file.as_str())?.ino();
     assert_eq!(rt; outlet.put_page(alloc, &page, b"one"), Ok(()));
@@ -93,6 +92,14 @@ fn a_folder_keeps_the_file_of_an_unchanged_page(rt: HostRuntime) -> Result<(), F
     assert_eq!(rt; outlet.put_page(alloc, &page, b"two"), Ok(()));
     assert_ne!(rt; fs::metadata(&rt, file.as_str())?.ino(), first);
     assert_eq!(rt; fs::read(&rt, file.as_str())?.as_slice(), b"two".as_slice());
+    // A page where a folder stands is not put, and leaves nothing beside it.
+    let taken = name(alloc, "b1/a")?;
+    let beside = format!(in alloc; "{folder}/b1/a new")?;
+    assert_eq!(rt;
+        outlet.put_page(alloc, &taken, b"x"),
+        Err(Stop::Fault(Failed))
+    );
+    assert!(rt; fs::metadata(&rt, beside.as_str()).is_err());
     fs::remove_dir_all(&rt, folder.as_str())?;
     Ok(())
 }

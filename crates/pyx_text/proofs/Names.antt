@@ -1,6 +1,6 @@
 -- A set of names after one more was put into it.
 use Rattle.std.proofs.Common.{◌≡◌, ℕ, Bool, true, false, List, [], ◌∷◌, bytes_eq, sym, refl, ap, ◌∙◌}
-use Rattle.std.specs.Prelude.{Vec, ◌||◌}
+use Rattle.std.specs.Prelude.{◌||◌}
 use Rattle.std.specs.declared.cmp.Ordering.{Ordering}
 use Rattle.std.specs.declared.cmp.Ordering.TheVariants.{Less, Equal, Greater}
 use Rattle.std.specs.List.{list_any}
@@ -13,12 +13,12 @@ use Rattle.std.proofs.lemmas.Slice.Eq.{bytes_eq-Decides}
 use Rattle.pyx_text.specs.Machine.{has_name}
 
 -- how the set compares its names
-abbrev pub name_cmp : {A : Type 0} → Vec ℕ A → Vec ℕ A → Ordering
-name_cmp x y = slice_cmp nat_cmp x.items y.items
+abbrev pub name_cmp : List ℕ → List ℕ → Ordering
+name_cmp x y = slice_cmp nat_cmp x y
 
 -- whether a name is one of these
-abbrev pub is_among : {A : Type 0} → List ℕ → List (Vec ℕ A) → Bool
-is_among name keys = list_any (is_at (λ k. slice_cmp nat_cmp name k.items)) keys
+abbrev pub is_among : List ℕ → List (List ℕ) → Bool
+is_among name keys = list_any (is_at (λ k. slice_cmp nat_cmp name k)) keys
 
 -- two laws of `||`
 or-twice : (a b : Bool) → (a || b) ≡ (a || (a || b))
@@ -36,25 +36,30 @@ same_name : (x y : List ℕ) → slice_cmp nat_cmp x y ≡ Equal → x ≡ y
 same_name x y is = (bytes_eq-Decides x y).0 (sym (is_eq-slice_cmp x y) ∙ ap is_eq is)
 
 -- the first of the keys, behind or before which a name is put
-is_among-placed : {A : Type 0} (other : List ℕ) (k x : Vec ℕ A) (keys more : List (Vec ℕ A)) (order : Ordering) → slice_cmp nat_cmp k.items x.items ≡ order
-    → is_among other more ≡ (bytes_eq other k.items || is_among other keys)
-    → is_among other (match_ordering order (k ∷ x ∷ keys) (x ∷ keys) (x ∷ more)) ≡ (bytes_eq other k.items || is_among other (x ∷ keys))
-is_among-placed other k x keys more Less is rest = ap (λ b. b || is_among other (x ∷ keys)) (is_eq-slice_cmp other k.items)
+is_among-placed : (other : List ℕ) (k x : List ℕ) (keys more : List (List ℕ)) (order : Ordering)
+    → slice_cmp nat_cmp k x ≡ order
+    → is_among other more ≡ (bytes_eq other k || is_among other keys)
+    → is_among other (match_ordering order (k ∷ x ∷ keys) (x ∷ keys) (x ∷ more))
+    ≡ (bytes_eq other k || is_among other (x ∷ keys))
+is_among-placed other k x keys more Less is rest = ap (λ b. b || is_among other (x ∷ keys)) (is_eq-slice_cmp other k)
 is_among-placed other k x keys more Equal is rest =
-    ap (λ b. b || is_among other keys) (is_eq-slice_cmp other x.items)
-    ∙ or-twice (bytes_eq other x.items) (is_among other keys)
-    ∙ ap (λ b. bytes_eq other x.items || (b || is_among other keys)) (sym (is_eq-slice_cmp other x.items))
-    ∙ ap (λ name. bytes_eq other name || is_among other (x ∷ keys)) (sym (same_name k.items x.items is))
+    ap (λ b. b || is_among other keys) (is_eq-slice_cmp other x)
+    ∙ or-twice (bytes_eq other x) (is_among other keys)
+    ∙ ap (λ b. bytes_eq other x || (b || is_among other keys)) (sym (is_eq-slice_cmp other x))
+    ∙ ap (λ name. bytes_eq other name || is_among other (x ∷ keys)) (sym (same_name k x is))
 is_among-placed other k x keys more Greater is rest =
-    let test = is_eq (slice_cmp nat_cmp other x.items) in
-    ap (λ b. test || b) rest ∙ or-swap test (bytes_eq other k.items) (is_among other keys)
+    let test = is_eq (slice_cmp nat_cmp other x) in
+    ap (λ b. test || b) rest ∙ or-swap test (bytes_eq other k) (is_among other keys)
 
 -- the keys with a name put among them
-is_among-insert : {A : Type 0} (other : List ℕ) (k : Vec ℕ A) (keys : List (Vec ℕ A)) → is_among other (insert_key name_cmp keys k) ≡ (bytes_eq other k.items || is_among other keys)
-is_among-insert other k [] = ap (λ b. b || false) (is_eq-slice_cmp other k.items)
-is_among-insert other k (x ∷ keys) = is_among-placed other k x keys (insert_key name_cmp keys k) (slice_cmp nat_cmp k.items x.items) refl (is_among-insert other k keys)
+is_among-insert : (other : List ℕ) (k : List ℕ) (keys : List (List ℕ))
+    → is_among other (insert_key name_cmp keys k) ≡ (bytes_eq other k || is_among other keys)
+is_among-insert other k [] = ap (λ b. b || false) (is_eq-slice_cmp other k)
+is_among-insert other k (x ∷ keys) = is_among-placed other k x keys (insert_key name_cmp keys k)
+    (slice_cmp nat_cmp k x) refl (is_among-insert other k keys)
 
 -- after a name was put into a set, the set has it and those that it had
-pub has_name-insert : {A : Type 0} (other name : List ℕ) (k : Vec ℕ A) (old new : BTreeSet (Vec ℕ A)) → k.items ≡ name → new.keys ≡ insert_key name_cmp old.keys k → has_name other new ≡ (bytes_eq other name || has_name other old)
+pub has_name-insert : (other name : List ℕ) (k : List ℕ) (old new : BTreeSet (List ℕ)) → k ≡ name
+    → new.keys ≡ insert_key name_cmp old.keys k → has_name other new ≡ (bytes_eq other name || has_name other old)
 has_name-insert other name k old new is keys =
     ap (is_among other) keys ∙ is_among-insert other k old.keys ∙ ap (λ n. bytes_eq other n || has_name other old) is

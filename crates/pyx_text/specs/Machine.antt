@@ -1,5 +1,5 @@
 -- The nodes and the open places that some events make, the last event first, and what a machine holds after them.
-use Rattle.std.specs.Prelude.{Vec, ◌≡◌, ◌+◌, ◌-◌, ◌==◌, ℕ, zero, suc, Bool, List, [], ◌∷◌, ◌++◌, Option, Some, None, Result, Ok, Err, length, take, is_some, slice_index, bytes_eq, if◌then◌else◌}
+use Rattle.std.specs.Prelude.{◌≡◌, ◌+◌, ◌-◌, ℕ, zero, suc, Bool, List, [], ◌∷◌, ◌++◌, Option, Some, None, Result, Ok, Err, length, take, is_some, slice_index, bytes_eq}
 use Rattle.std.specs.List.{before_first, after_first, list_any}
 use Rattle.std.specs.Ordering.{nat_cmp}
 use Rattle.std.specs.Cmp.Lexicographic.{slice_cmp}
@@ -10,21 +10,21 @@ use Rattle.dita_doc.specs.declared.stop.Stop.{Stop}
 use Rattle.dita_doc.specs.declared.stop.Stop.TheVariants.{Fault, NoMemory}
 use Rattle.dita_doc.specs.declared.fault.PyxCode.{PyxCode}
 use Rattle.dita_doc.specs.Tree.{element_node, chars_node}
-use Rattle.dita_doc.specs.PyxLine.{Line, Gives, with_name, unescaped, is_space}
+use Rattle.dita_doc.specs.PyxLine.{Line, Gives, with_name}
+use Rattle.dita_doc.specs.PyxEscapes.{unescaped}
+use Rattle.dita_doc.specs.Bytes.{is_space}
 use Rattle.dita_doc.specs.PyxEvent.{Event, Open, Give, Text, Close, given_names, has_root}
-use Rattle.pyx_text.specs.declared.machine.Machine.{Machine}
+use Rattle.pyx_text.specs.declared.machine.PyxMachine.{PyxMachine}
+
+-- what the lines so far have said, the last of it first
+abbrev pub Events : Type 0
+Events = List Event
 
 -- what an `A` line of these bytes says
-abbrev pub attribute_line : List ℕ → Line
-attribute_line bytes = with_name (before_first is_space bytes) (Gives (before_first is_space bytes) (unescaped (after_first is_space bytes)))
-
--- what one byte behind a backslash stands for, together with it
-abbrev pub escape : ℕ → List ℕ
-escape b =
-    if b == 110 then 10 ∷ []
-    else if b == 116 then 9 ∷ []
-    else if b == 92 then 92 ∷ []
-    else 92 ∷ b ∷ []
+abbrev pub attribute_said : List ℕ → Line
+attribute_said bytes =
+    let name = before_first is_space bytes in
+    with_name name (Gives name (unescaped (after_first is_space bytes)))
 
 -- the nodes with a text put behind them, unless it is empty
 abbrev pub with_text : List ℕ → List Node → List Node
@@ -56,11 +56,11 @@ abbrev pub with_end : ℕ → List Node → List Node
 with_end place nodes = changed_at place (ending (length nodes)) nodes
 
 -- whether a name is one of a set's
-abbrev pub has_name : {A : Type 0} → List ℕ → BTreeSet (Vec ℕ A) → Bool
-has_name name set = contains_by (λ k. slice_cmp nat_cmp name k.items) set
+abbrev pub has_name : List ℕ → BTreeSet (List ℕ) → Bool
+has_name name set = contains_by (λ k. slice_cmp nat_cmp name k) set
 
 -- where an attribute may come, a set has the names that the element has so far
-abbrev pub HasGiven : {A : Type 0} → BTreeSet (Vec ℕ A) → Option (List (List ℕ)) → Type 0
+abbrev pub HasGiven : BTreeSet (List ℕ) → Option (List (List ℕ)) → Type 0
 HasGiven set None = Unit {0}
 HasGiven set (Some names) = (name : List ℕ) → has_name name set ≡ list_any (bytes_eq name) names
 
@@ -107,16 +107,16 @@ settled (Text text ∷ before) = before
 settled (Close name ∷ before) = Close name ∷ before
 
 -- what a machine holds after these events
-pub record HasRead (machine : Machine) (before : List Event) : Type 0 where
+pub record HasRead (machine : PyxMachine) (before : List Event) : Type 0 where
   pub nodes : machine.nodes.items ≡ (made_by (settled before)).nodes
   pub places : machine.places.items ≡ (made_by (settled before)).places
-  pub text : machine.text.items ≡ text_at before
+  pub text : machine.text ≡ text_at before
   pub fresh : machine.fresh ≡ is_some (given_names before)
   pub given : HasGiven machine.given (given_names before)
   pub rooted : machine.rooted ≡ has_root before
 
 -- a machine that has read some lines
-abbrev pub IsReading : Machine → Type 0
+abbrev pub IsReading : PyxMachine → Type 0
 IsReading machine = (before : List Event) × HasRead machine before
 
 -- a step is the first fault, where there is one, and else leads to what comes next

@@ -1,14 +1,14 @@
 //! Texts of PYX to documents, and documents to texts.
 //!
-//! What is used above it: the contracts of `read_pyx` and `read_body`. A document that is answered is the
-//! tree that the text stands for, and a fault is the first of the first faulty line. The text that
-//! `write_pyx` gives is read as the same tree.
+//! What is used above it: the contracts of `read_pyx`, `read_body` and `write_pyx`. A document that
+//! is answered is the tree that the text stands for, a fault is the first of the first faulty line,
+//! and what is written is the canonical text. The laws of these definitions are in `pyx_laws`.
 #![tactic(auto)]
 
-ghost use Rattle.std.specs.Prelude.{◌≡◌, ℕ, List, [], ◌∷◌, Ok, IfOk, IfErr};
-ghost use Rattle.dita_doc.specs.Tree.{Content};
-ghost use Rattle.dita_doc.specs.Pyx.{StandsFor, document_of};
-ghost use Rattle.pyx_text.specs.Read.{AreRead, IsFaultOf};
+ghost use Rattle.std.specs.Prelude.{◌≡◌, [], ◌∷◌, IfOk, IfErr};
+ghost use Rattle.dita_doc.specs.Gives.{IsStopOf};
+ghost use Rattle.dita_doc.specs.Pyx as pyx_spec;
+ghost use Rattle.pyx_text.specs.Read as read_spec;
 
 mod body;
 mod line;
@@ -18,37 +18,29 @@ mod reader;
 mod tests;
 mod write;
 
-use crate::reader::Reader;
+use crate::reader::PyxReader;
 pub use body::read_body;
-use dita_doc::{Doc, List as Items, Name, PyxFault, Stop};
+use dita_doc::{Doc, List, Name, PyxFault, Stop};
 use std::alloc::Global;
-pub use write::{write_pyx, written_again};
+pub use write::write_pyx;
 
 /// Reads a text of PYX lines, of at most 4,194,304 bytes. The document's one origin is `name`.
+///
+/// Behind the limit CRs alone are accepted, if no line is begun there: a CR is dropped wherever it
+/// stands, and a last rest of CRs alone is no line.
 ///
 /// # Errors
 ///
 /// The first faulty line with its first fault, or want of memory.
 pub fn read_pyx(alloc: Global, name: &Name, bytes: &[u8]) -> Result<Doc, Stop<PyxFault>>
-    ensures tree { IfOk result (λ doc. AreRead doc.nodes bytes.now) }
+    ensures tree { IfOk result (λ doc. read_spec.AreRead doc.nodes bytes.now) }
     ensures origin { IfOk result (λ doc. doc.origins ≡ name.now ∷ []) }
-    ensures fault { IfErr result (λ stop. IsFaultOf stop bytes.now) }
+    ensures fault { IfErr result (λ stop. IsStopOf stop (pyx_spec.reading bytes.now)) }
 {
-    let mut reader = Reader::new(alloc);
+    let mut reader = PyxReader::new(alloc);
     reader.feed(alloc, bytes)?;
     let nodes = reader.finish(alloc)?;
-    let mut origins = Items::new(alloc);
+    let mut origins = List::new(alloc);
     origins.push(name.clone()?)?;
     Ok(Doc { origins, nodes })
 }
-
-/// A text stands for one tree at most.
-pub fn one_tree()
-    ensures { (text : List ℕ) (tree other : Content) → StandsFor text tree → StandsFor text other → tree ≡ other }
-{}
-
-/// The document of a text is the tree that it stands for; a fault excludes every tree.
-pub fn one_reading()
-    ensures stands { (text : List ℕ) (tree : Content) → document_of text ≡ Ok tree → StandsFor text tree }
-    ensures read { (text : List ℕ) (tree : Content) → StandsFor text tree → document_of text ≡ Ok tree }
-{}

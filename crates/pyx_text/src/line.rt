@@ -1,95 +1,55 @@
 //! The parts of one line.
 
-ghost use Rattle.std.specs.Prelude.{◌≡◌, ◌++◌, ◌==◌, length, not, ◌&&◌, OnOk, IfOk};
-ghost use Rattle.std.specs.List.{before_first, after_first, list_any, list_all};
-ghost use Rattle.std.specs.Str.{is_utf8 as is_utf8_of};
-ghost use Rattle.dita_doc.specs.PyxLine.{unescaped, is_line_name as is_line_name_of, is_gap, is_space};
-ghost use Rattle.dita_doc.specs.PyxEvent.{is_blank as is_blank_of};
-ghost use Rattle.pyx_text.specs.Machine.{escape};
+ghost use Rattle.std.specs.Prelude.{◌≡◌, ◌≤◌, ◌∷◌, slice_get, IfOk, IfSome, IfNone};
+ghost use Rattle.std.specs.List.{before_first, after_first, list_any};
+ghost use Rattle.dita_doc.specs.Bytes as bytes_spec;
+ghost use Rattle.dita_doc.specs.PyxEscapes as pyx_escapes_spec;
+ghost use Rattle.dita_doc.specs.PyxLine as pyx_line_spec;
 
+use dita_doc::{Text, append_unescaped, split_text_at_first};
 use std::alloc::{AllocError, Global};
 
-/// Whether bytes are UTF-8.
-pub fn is_utf8(bytes: &[u8]) -> bool
-    ensures { result ≡ is_utf8_of bytes.now }
+/// The first byte of a text and the text behind it, if there is one and it is ASCII.
+pub fn split_first(text: &str) -> Option<(u8, &str)>
+    ensures some { IfSome result (λ parts. text.now ≡ parts.0 ∷ parts.1.now) }
+    ensures none { IfNone result (IfSome (slice_get text.now 0) (λ first. 128 ≤ first)) }
 {
-    str::from_utf8(bytes).is_ok()
+    let first = *text.as_bytes().first()?;
+    if !first.is_ascii() {
+        return None;
+    }
+    Some((first, &text[1..]))
 }
 
-/// Whether bytes are the name of an element or attribute: there are some, and no space or tab among them.
-pub fn is_line_name(bytes: &[u8]) -> bool
-    ensures { result ≡ is_line_name_of bytes.now }
+/// Whether a text is the name of an element or attribute: it is not empty, and has no space or tab.
+pub fn is_line_name(text: &str) -> bool
+    ensures { result ≡ pyx_line_spec.is_line_name text.now }
 {
-    !bytes.is_empty() && !has_gap(bytes)
+    !text.is_empty() && !has_gap(text.as_bytes())
 }
 
 fn has_gap(bytes: &[u8]) -> bool
-    ensures { result ≡ list_any is_gap bytes.now }
+    ensures { result ≡ list_any bytes_spec.is_gap bytes.now }
 {
-    bytes.iter().any(|b| *b == b' ' || *b == b'\t')
-}
-
-/// Whether a text is of spaces, tabs and line ends alone.
-pub fn is_blank(text: &[u8]) -> bool
-    ensures { result ≡ is_blank_of text.now }
-{
-    text.iter()
-        .all(|b| *b == b' ' || *b == b'\t' || *b == b'\n')
+    bytes.iter().any(|byte| *byte == b' ' || *byte == b'\t')
 }
 
 /// What stands before and behind the first space; without one nothing stands behind.
-pub fn split_at_space(bytes: &[u8]) -> (&[u8], &[u8])
-    ensures front { result.0.now ≡ before_first is_space bytes.now }
-    ensures back { result.1.now ≡ after_first is_space bytes.now }
+pub fn split_at_space(text: &str) -> (&str, &str)
+    ensures front { result.0.now ≡ before_first bytes_spec.is_space text.now }
+    ensures back { result.1.now ≡ after_first bytes_spec.is_space text.now }
 {
-    match bytes.iter().position(|b| *b == b' ') {
-        Some(at) => (&bytes[..at], &bytes[at + 1..]),
-        None => (bytes, &[]),
+    match split_text_at_first(text, b' ') {
+        Some(parts) => parts,
+        None => (text, ""),
     }
 }
 
-/// Puts a text behind another, its escapes replaced by what they stand for.
-pub fn append_unescaped(text: &mut Vec<u8>, bytes: &[u8]) -> Result<(), AllocError>
-    ensures { OnOk result (text.new.items ≡ text.old.items ++ unescaped bytes.now) }
+/// The text that a text with escapes stands for.
+pub fn unescape(alloc: Global, text: &str) -> Result<Text, AllocError>
+    ensures { IfOk result (λ plain. plain ≡ pyx_escapes_spec.unescaped text.now) }
 {
-    let mut escaped = false;
-    for byte in bytes {
-        if escaped {
-            append_escape(text, *byte)?;
-            escaped = false;
-        } else if *byte == b'\\' {
-            escaped = true;
-        } else {
-            text.push(*byte)?;
-        }
-    }
-    if escaped {
-        text.push(b'\\')?;
-    }
-    Ok(())
-}
-
-/// Puts what a backslash and this byte stand for.
-fn append_escape(text: &mut Vec<u8>, byte: u8) -> Result<(), AllocError>
-    ensures { OnOk result (text.new.items ≡ text.old.items ++ escape byte) }
-{
-    match byte {
-        b'n' => text.push(b'\n')?,
-        b't' => text.push(b'\t')?,
-        b'\\' => text.push(b'\\')?,
-        other => {
-            text.push(b'\\')?;
-            text.push(other)?;
-        }
-    }
-    Ok(())
-}
-
-/// The text that escaped bytes stand for.
-pub fn unescape(alloc: Global, bytes: &[u8]) -> Result<Vec<u8>, AllocError>
-    ensures { IfOk result (λ text. text.items ≡ unescaped bytes.now) }
-{
-    let mut text = Vec::new(alloc);
-    append_unescaped(&mut text, bytes)?;
-    Ok(text)
+    let mut plain = Text::new(alloc);
+    append_unescaped(&mut plain, text)?;
+    Ok(plain)
 }

@@ -1,114 +1,88 @@
 //! Documents to texts.
 
-ghost use Rattle.std.specs.Prelude.{◌≡◌, ◌≤◌, ◌++◌, ◌∷◌, ℕ, List, length, OnOk, IfOk};
-ghost use Rattle.dita_doc.specs.Tree.{Content, tree_of};
-ghost use Rattle.dita_doc.specs.Pyx.{StandsFor, text_limit};
-ghost use Rattle.dita_doc.specs.Siblings.{content};
-ghost use Rattle.dita_doc.specs.Canonical.{escaped_byte, escaped, line_with, attribute_lines, text_of, same_apart_from_lines};
+ghost use Rattle.std.specs.Prelude.{◌≡◌, ◌++◌, OnOk, IfOk};
+ghost use Rattle.dita_doc.specs.Siblings as siblings_spec;
+ghost use Rattle.dita_doc.specs.Tree as tree_spec;
+ghost use Rattle.pyx_text.specs.Canonical as canonical_spec;
 
-use dita_doc::{Attribute, Doc, First, List as Items, Siblings, Text};
+use dita_doc::{Attribute, Doc, First, List, NoMemory, Siblings, append_pyx};
 use std::alloc::{AllocError, Global};
 
 /// The canonical text of a document, in a time linear in its size.
 ///
-/// A call goes into each element, so the stack bounds the depth. A document that was read is at most
-/// 256 elements deep.
-pub fn write_pyx(alloc: Global, doc: &Doc) -> Result<Text, AllocError>
-    ensures { IfOk result (λ text. text ≡ text_of (tree_of doc.now.nodes)) }
+/// A call goes into each element, so the stack bounds the depth. A document that was read is at
+/// most 256 elements deep.
+pub fn write_pyx(alloc: Global, doc: &Doc) -> Result<List<u8>, NoMemory>
+    ensures { IfOk result
+        (λ text. text ≡ canonical_spec.text_of (tree_spec.tree_of doc.now.nodes)) }
 {
-    let mut text = Vec::new(alloc);
-    put_content(&mut text, Siblings::of(doc))?;
-    Ok(Items::from_vec(text))
+    let mut text = List::new(alloc);
+    append_content(&mut text, Siblings::of(doc))?;
+    Ok(text)
 }
 
-/// Puts the lines of siblings behind a text.
-fn put_content(text: &mut Vec<u8>, siblings: Siblings<'_>) -> Result<(), AllocError>
-    ensures { OnOk result (text.new.items ≡ text.old.items ++ text_of (content siblings.entry)) }
+// Appends the lines of siblings.
+fn append_content(text: &mut List<u8>, siblings: Siblings<'_>) -> Result<(), AllocError>
+    ensures { OnOk result
+        (text.new ≡ text.old ++ canonical_spec.text_of (siblings_spec.content siblings.entry)) }
 {
     let mut left = siblings;
     loop {
         match left.split_first() {
             First::End => return Ok(()),
-            First::Chars(node, rest) => {
-                put_text(text, node.text.as_slice())?;
+            First::Chars { node, rest, .. } => {
+                append_text(text, node.text.as_bytes())?;
                 left = rest;
             }
-            First::Element { node, inside, rest } => {
-                put_line(text, b'(', node.text.as_slice())?;
-                put_attributes(text, node.attributes.as_slice())?;
-                put_content(text, inside)?;
-                put_line(text, b')', node.text.as_slice())?;
+            First::Element {
+                node,
+                inside,
+                rest,
+                ..
+            } => {
+                append_line(text, b'(', node.text.as_bytes())?;
+                append_attributes(text, node.attributes.as_slice())?;
+                append_content(text, inside)?;
+                append_line(text, b')', node.text.as_bytes())?;
                 left = rest;
             }
         }
     }
 }
 
-/// Puts the line of an opening or a closing.
-fn put_line(text: &mut Vec<u8>, first: u8, name: &[u8]) -> Result<(), AllocError>
-    ensures { OnOk result (text.new.items ≡ text.old.items ++ line_with first name.now) }
+// Appends the line of an opening or a closing.
+fn append_line(text: &mut List<u8>, first: u8, name: &[u8]) -> Result<(), AllocError>
+    ensures { OnOk result (text.new ≡ text.old ++ canonical_spec.line_with first name.now) }
 {
     text.push(first)?;
-    text.extend_from_slice(name)?;
-    text.push(b'\n')?;
-    Ok(())
+    text.append(name)?;
+    text.push(b'\n')
 }
 
-/// Puts the line of a text.
-fn put_text(text: &mut Vec<u8>, bytes: &[u8]) -> Result<(), AllocError>
-    ensures { OnOk result (text.new.items ≡ text.old.items ++ line_with 45 (escaped bytes.now)) }
+// Appends the line of a text.
+fn append_text(text: &mut List<u8>, plain: &[u8]) -> Result<(), AllocError>
+    ensures { OnOk result (text.new ≡ text.old ++ canonical_spec.text_line plain.now) }
 {
     text.push(b'-')?;
-    append_escaped(text, bytes)?;
-    text.push(b'\n')?;
-    Ok(())
+    append_pyx(text, plain)?;
+    text.push(b'\n')
 }
 
-fn put_attributes(text: &mut Vec<u8>, attributes: &[Attribute]) -> Result<(), AllocError>
-    ensures { OnOk result (text.new.items ≡ text.old.items ++ attribute_lines attributes.now) }
+fn append_attributes(text: &mut List<u8>, attributes: &[Attribute]) -> Result<(), AllocError>
+    ensures { OnOk result (text.new ≡ text.old ++ canonical_spec.attribute_lines attributes.now) }
 {
     for attribute in attributes {
-        put_attribute(text, attribute.name.as_slice(), attribute.value.as_slice())?;
+        append_attribute(text, attribute)?;
     }
     Ok(())
 }
 
-fn put_attribute(text: &mut Vec<u8>, name: &[u8], value: &[u8]) -> Result<(), AllocError>
-    ensures { OnOk result (text.new.items ≡ text.old.items ++ line_with 65 (name.now ++ 32 ∷ escaped value.now)) }
+fn append_attribute(text: &mut List<u8>, attribute: &Attribute) -> Result<(), AllocError>
+    ensures { OnOk result (text.new ≡ text.old ++ canonical_spec.attribute_line attribute.now) }
 {
     text.push(b'A')?;
-    text.extend_from_slice(name)?;
+    text.append(attribute.name.as_bytes())?;
     text.push(b' ')?;
-    append_escaped(text, value)?;
-    text.push(b'\n')?;
-    Ok(())
+    append_pyx(text, attribute.value.as_bytes())?;
+    text.push(b'\n')
 }
-
-/// Puts a text behind another, with its escapes.
-fn append_escaped(text: &mut Vec<u8>, bytes: &[u8]) -> Result<(), AllocError>
-    ensures { OnOk result (text.new.items ≡ text.old.items ++ escaped bytes.now) }
-{
-    for byte in bytes {
-        append_byte(text, *byte)?;
-    }
-    Ok(())
-}
-
-fn append_byte(text: &mut Vec<u8>, byte: u8) -> Result<(), AllocError>
-    ensures { OnOk result (text.new.items ≡ text.old.items ++ escaped_byte byte) }
-{
-    match byte {
-        b'\n' => text.extend_from_slice(b"\\n")?,
-        b'\t' => text.extend_from_slice(b"\\t")?,
-        b'\\' => text.extend_from_slice(b"\\\\")?,
-        other => text.push(other)?,
-    }
-    Ok(())
-}
-
-/// The canonical text of a document that was read is read as the same document, but for the lines of
-/// its elements, unless it is longer than a text may be.
-pub fn written_again()
-    ensures { (text : List ℕ) (tree : Content) → StandsFor text tree → length (text_of tree) ≤ text_limit →
-        (other : Content) × StandsFor (text_of tree) other × same_apart_from_lines tree other }
-{}

@@ -1,4 +1,6 @@
-mod Rows
 pub mod WordLaws
 pub mod LineLaws
 pub mod StepLaws
+pub mod ScriptTurns
+pub mod ScriptLaws
+pub mod ScriptFacts

@@ -1,4 +1,7 @@
+pub mod Script
+pub mod Faults
 pub mod Words
-pub mod Read
 pub mod Command
 pub mod Machine
+pub mod Read
+pub mod Facts

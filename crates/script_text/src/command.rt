@@ -1,12 +1,15 @@
 //! Commands: the words of a line behind its session.
 
 ghost use Rattle.std.specs.Prelude.{◌≡◌, IfOk};
-ghost use Rattle.dita_doc.specs.Seen.{request_seen, HasOwnOrigin};
-ghost use Rattle.dita_doc.specs.Script.{words_of, with_body, command_of, put_by, put_if_by, remove_by, get_by, names_by, build_by};
-ghost use Rattle.script_text.specs.Command.{opening_seen, IsCommand, HasOwn};
+ghost use Rattle.dita_doc.specs.Bytes as bytes_spec;
+ghost use Rattle.dita_doc.specs.Gives.{GivesSeen};
+ghost use Rattle.dita_doc.specs.Seen as seen_spec;
+ghost use Rattle.script_text.specs.Command as command_spec;
+ghost use Rattle.script_text.specs.Script as script_spec;
 
+use crate::fault::ScriptCode;
 use crate::words::{has_no_word, number_of, only_word, read_name, split_word};
-use dita_doc::{List as Items, Name, NoMemory, Request, ScriptCode, Stop};
+use dita_doc::{List, Name, NoMemory, Request, Stop};
 use pyx_text::read_body;
 use std::alloc::Global;
 
@@ -20,9 +23,10 @@ pub enum Opening {
 
 impl Opening {
     /// The whole request, with its body. No byte of the body is copied.
-    pub fn with_body(self, alloc: Global, body: Items<u8>) -> Result<Request, NoMemory>
-        ensures request { IfOk result (λ request. request_seen request ≡ with_body (opening_seen self) body) }
-        ensures origin { IfOk result HasOwnOrigin }
+    pub fn with_body(self, alloc: Global, body: List<u8>) -> Result<Request, NoMemory>
+        ensures request { IfOk result (λ request. seen_spec.request_seen request
+            ≡ script_spec.with_body (command_spec.opening_seen self) body) }
+        ensures origin { IfOk result seen_spec.HasOwnOrigin }
     {
         match self {
             Opening::Put(name) => {
@@ -44,34 +48,31 @@ pub enum Command {
     Opens(Opening),
 }
 
-/// The command that words say. The first fault is tried from left to right, once the count of words is right.
-pub fn read_command(alloc: Global, words: &[u8]) -> Result<Command, Stop<ScriptCode>>
-    ensures command { IsCommand result (command_of (words_of words.now)) }
-    ensures origins { IfOk result HasOwn }
+/// The command that words say. The first fault is tried from left to right, once the count of words
+/// is right.
+pub fn read_command(alloc: Global, words: &str) -> Result<Command, Stop<ScriptCode>>
+    ensures command { GivesSeen command_spec.command_seen result
+        (script_spec.command_of (bytes_spec.spaced_words words.now)) }
+    ensures own { IfOk result command_spec.HasOwn }
 {
     let Some((verb, rest)) = split_word(words) else {
         return Err(Stop::Fault(ScriptCode::BadCommand));
     };
-    if verb == b"put".as_slice() {
-        read_put(alloc, rest)
-    } else if verb == b"putif".as_slice() {
-        read_put_if(alloc, rest)
-    } else if verb == b"remove".as_slice() {
-        read_remove(alloc, rest)
-    } else if verb == b"get".as_slice() {
-        read_get(alloc, rest)
-    } else if verb == b"names".as_slice() {
-        read_names(rest)
-    } else if verb == b"build".as_slice() {
-        read_build(alloc, rest)
-    } else {
-        Err(Stop::Fault(ScriptCode::BadCommand))
+    match verb {
+        "put" => read_put(alloc, rest),
+        "putif" => read_put_if(alloc, rest),
+        "remove" => read_remove(alloc, rest),
+        "get" => read_get(alloc, rest),
+        "names" => read_names(rest),
+        "build" => read_build(alloc, rest),
+        _ => Err(Stop::Fault(ScriptCode::BadCommand)),
     }
 }
 
-fn read_put(alloc: Global, words: &[u8]) -> Result<Command, Stop<ScriptCode>>
-    ensures command { IsCommand result (put_by (words_of words.now)) }
-    ensures origins { IfOk result HasOwn }
+fn read_put(alloc: Global, words: &str) -> Result<Command, Stop<ScriptCode>>
+    ensures command { GivesSeen command_spec.command_seen result
+        (script_spec.put_by (bytes_spec.spaced_words words.now)) }
+    ensures own { IfOk result command_spec.HasOwn }
 {
     let Some(name) = only_word(words) else {
         return Err(Stop::Fault(ScriptCode::BadCommand));
@@ -80,9 +81,10 @@ fn read_put(alloc: Global, words: &[u8]) -> Result<Command, Stop<ScriptCode>>
     Ok(Command::Opens(Opening::Put(name)))
 }
 
-fn read_put_if(alloc: Global, words: &[u8]) -> Result<Command, Stop<ScriptCode>>
-    ensures command { IsCommand result (put_if_by (words_of words.now)) }
-    ensures origins { IfOk result HasOwn }
+fn read_put_if(alloc: Global, words: &str) -> Result<Command, Stop<ScriptCode>>
+    ensures command { GivesSeen command_spec.command_seen result
+        (script_spec.put_if_by (bytes_spec.spaced_words words.now)) }
+    ensures own { IfOk result command_spec.HasOwn }
 {
     let Some((version, rest)) = split_word(words) else {
         return Err(Stop::Fault(ScriptCode::BadCommand));
@@ -97,9 +99,10 @@ fn read_put_if(alloc: Global, words: &[u8]) -> Result<Command, Stop<ScriptCode>>
     Ok(Command::Opens(Opening::PutIf(version, name)))
 }
 
-fn read_remove(alloc: Global, words: &[u8]) -> Result<Command, Stop<ScriptCode>>
-    ensures command { IsCommand result (remove_by (words_of words.now)) }
-    ensures origins { IfOk result HasOwn }
+fn read_remove(alloc: Global, words: &str) -> Result<Command, Stop<ScriptCode>>
+    ensures command { GivesSeen command_spec.command_seen result
+        (script_spec.remove_by (bytes_spec.spaced_words words.now)) }
+    ensures own { IfOk result command_spec.HasOwn }
 {
     let Some(name) = only_word(words) else {
         return Err(Stop::Fault(ScriptCode::BadCommand));
@@ -108,9 +111,10 @@ fn read_remove(alloc: Global, words: &[u8]) -> Result<Command, Stop<ScriptCode>>
     Ok(Command::Whole(Request::Remove(name)))
 }
 
-fn read_get(alloc: Global, words: &[u8]) -> Result<Command, Stop<ScriptCode>>
-    ensures command { IsCommand result (get_by (words_of words.now)) }
-    ensures origins { IfOk result HasOwn }
+fn read_get(alloc: Global, words: &str) -> Result<Command, Stop<ScriptCode>>
+    ensures command { GivesSeen command_spec.command_seen result
+        (script_spec.get_by (bytes_spec.spaced_words words.now)) }
+    ensures own { IfOk result command_spec.HasOwn }
 {
     let Some(name) = only_word(words) else {
         return Err(Stop::Fault(ScriptCode::BadCommand));
@@ -119,9 +123,10 @@ fn read_get(alloc: Global, words: &[u8]) -> Result<Command, Stop<ScriptCode>>
     Ok(Command::Whole(Request::Get(name)))
 }
 
-fn read_names(words: &[u8]) -> Result<Command, Stop<ScriptCode>>
-    ensures command { IsCommand result (names_by (words_of words.now)) }
-    ensures origins { IfOk result HasOwn }
+fn read_names(words: &str) -> Result<Command, Stop<ScriptCode>>
+    ensures command { GivesSeen command_spec.command_seen result
+        (script_spec.names_by (bytes_spec.spaced_words words.now)) }
+    ensures own { IfOk result command_spec.HasOwn }
 {
     if !has_no_word(words) {
         return Err(Stop::Fault(ScriptCode::BadCommand));
@@ -129,9 +134,10 @@ fn read_names(words: &[u8]) -> Result<Command, Stop<ScriptCode>>
     Ok(Command::Whole(Request::Names))
 }
 
-fn read_build(alloc: Global, words: &[u8]) -> Result<Command, Stop<ScriptCode>>
-    ensures command { IsCommand result (build_by (words_of words.now)) }
-    ensures origins { IfOk result HasOwn }
+fn read_build(alloc: Global, words: &str) -> Result<Command, Stop<ScriptCode>>
+    ensures command { GivesSeen command_spec.command_seen result
+        (script_spec.build_by (bytes_spec.spaced_words words.now)) }
+    ensures own { IfOk result command_spec.HasOwn }
 {
     let Some((map, rest)) = split_word(words) else {
         return Err(Stop::Fault(ScriptCode::BadCommand));

@@ -1,70 +1,64 @@
 //! Requests from lines: a machine that takes one line after the other.
 
-ghost use Rattle.std.specs.Prelude.{◌+◌, ◌≤◌, length};
-ghost use Rattle.std.specs.Option.{option_to_list};
-ghost use Rattle.dita_doc.specs.Script.{request_limit, session_limit};
-
-use crate::command::{Command, Opening, read_command};
-use crate::words::{is_passed, is_utf8, read_session, split_word};
-use dita_doc::{List as Items, Request, ScriptCode, Stop};
+use crate::command::{Command, Opening};
+use crate::fault::ScriptCode;
+use crate::outside::LineReader;
+use dita_doc::{List, Request, Stop};
 use std::alloc::Global;
-
-/// The most requests of a script.
-const REQUEST_LIMIT: u32 = 65_536;
 
 /// A put, with the bytes of its body so far.
 #[derive(Debug, Drop)]
 pub struct Begun {
     session: u32,
     opening: Opening,
-    body: Items<u8>,
-    ghost first: { 1 ≤ session },
-    ghost last: { session ≤ session_limit },
+    body: List<u8>,
 }
 
-/// The put that some lines began and did not end, and how many requests they ended.
+/// The put that some lines began and did not end.
 #[derive(Debug, Drop)]
-pub struct Machine {
+pub struct ScriptMachine {
     begun: Option<Begun>,
-    count: u32,
-    ghost few: { count + length (option_to_list begun) ≤ request_limit },
 }
 
-impl Machine {
-    ghost use Rattle.std.specs.Prelude.{◌≡◌, None, is_some};
-    ghost use Rattle.dita_doc.specs.Script.{turn, turn_within, turn_outside, script_line};
-    ghost use Rattle.script_text.specs.Machine.{TurnsTo, begun_seen, pending_seen};
+impl ScriptMachine {
+    ghost use Rattle.std.specs.Prelude.{◌≡◌, None, IfOk, IfSome, is_some};
+    ghost use Rattle.dita_doc.specs.Gives.{GivesSeen};
+    ghost use Rattle.dita_doc.specs.Seen as seen_spec;
+    ghost use Rattle.script_text.specs.Script as script_spec;
+    ghost use Rattle.script_text.specs.Machine as machine_spec;
 
     pub fn new() -> Self
-        ensures begun { pending_seen result.begun ≡ None }
-        ensures count { result.count ≡ 0 }
+        ensures { result.begun ≡ None }
     {
-        Machine {
-            begun: None,
-            count: 0,
-        }
+        ScriptMachine { begun: None }
     }
 
     /// Whether a put is begun, whose body has no end yet.
     pub fn is_within(&self) -> bool
-        ensures { result ≡ is_some (pending_seen self.now.begun) }
+        ensures { result ≡ is_some self.now.begun }
     {
         self.begun.is_some()
     }
 
-    /// Takes a line, without its LF, and answers the request that it ends, with its session, where it ends one.
-    /// After an `Err` the machine is of no use.
-    pub fn line(
+    /// Takes a line, without its LF, behind so many requests, and answers the request that it ends,
+    /// with its session, if it ends one. After an `Err` the machine is of no use.
+    pub fn line<L: LineReader>(
         &mut self,
         alloc: Global,
+        reader: &L,
+        count: usize,
         line: &[u8],
     ) -> Result<Option<(u32, Request)>, Stop<ScriptCode>>
-        ensures { TurnsTo result (turn self.old.count (pending_seen self.old.begun) line.now) self.old.count
-            (pending_seen self.new.begun) self.new.count }
+        ensures turn { GivesSeen (machine_spec.turn_seen self.new.begun) result
+            (script_spec.turn L.reads count (machine_spec.pending_seen self.old.begun) line.now) }
+        ensures own { IfOk result (λ step. IfSome step (λ step. seen_spec.HasOwnOrigin step.1)) }
     {
+        let Ok(line) = str::from_utf8(line) else {
+            return Err(Stop::Fault(ScriptCode::NotUtf8));
+        };
         match self.begun.take() {
             Some(begun) => self.line_within(alloc, begun, line),
-            None => self.line_outside(alloc, line),
+            None => self.line_outside(alloc, reader, count, line),
         }
     }
 
@@ -73,63 +67,48 @@ impl Machine {
         &mut self,
         alloc: Global,
         mut begun: Begun,
-        line: &[u8],
+        line: &str,
     ) -> Result<Option<(u32, Request)>, Stop<ScriptCode>>
-        requires outside { self.old.begun ≡ None }
-        requires few { self.old.count + 1 ≤ request_limit }
-        ensures { TurnsTo result (turn_within (begun_seen begun) line.now) self.old.count
-            (pending_seen self.new.begun) self.new.count }
+        requires { self.old.begun ≡ None }
+        ensures turn { GivesSeen (machine_spec.turn_seen self.new.begun) result
+            (Ok (script_spec.turn_within (machine_spec.begun_seen begun) line.now)) }
+        ensures own { IfOk result (λ step. IfSome step (λ step. seen_spec.HasOwnOrigin step.1)) }
     {
-        if !is_utf8(line) {
-            return Err(Stop::Fault(ScriptCode::NotUtf8));
-        }
-        if line == b".".as_slice() {
+        if line == "." {
             let Begun {
                 session,
                 opening,
                 body,
             } = begun;
             let request = opening.with_body(alloc, body)?;
-            self.count += 1;
             return Ok(Some((session, request)));
         }
-        begun.body.append(line)?;
+        begun.body.append(line.as_bytes())?;
         begun.body.push(b'\n')?;
         self.begun = Some(begun);
         Ok(None)
     }
 
     // A line outside bodies.
-    fn line_outside(
+    fn line_outside<L: LineReader>(
         &mut self,
         alloc: Global,
-        line: &[u8],
+        reader: &L,
+        count: usize,
+        line: &str,
     ) -> Result<Option<(u32, Request)>, Stop<ScriptCode>>
         requires { self.old.begun ≡ None }
-        ensures { TurnsTo result (turn_outside self.old.count (script_line line.now)) self.old.count
-            (pending_seen self.new.begun) self.new.count }
+        ensures turn { GivesSeen (machine_spec.turn_seen self.new.begun) result
+            (script_spec.turn_outside (L.reads count line.now)) }
+        ensures own { IfOk result (λ step. IfSome step (λ step. seen_spec.HasOwnOrigin step.1)) }
     {
-        if !is_utf8(line) {
-            return Err(Stop::Fault(ScriptCode::NotUtf8));
-        }
-        if is_passed(line) {
-            return Ok(None);
-        }
-        let Some((word, words)) = split_word(line) else {
+        let Some((session, command)) = reader.read(alloc, count, line)? else {
             return Ok(None);
         };
-        let session = read_session(word)?;
-        let command = read_command(alloc, words)?;
-        if self.count >= REQUEST_LIMIT {
-            return Err(Stop::Fault(ScriptCode::TooManyRequests));
-        }
         match command {
-            Command::Whole(request) => {
-                self.count += 1;
-                Ok(Some((session, request)))
-            }
+            Command::Whole(request) => Ok(Some((session, request))),
             Command::Opens(opening) => {
-                let body = Items::new(alloc);
+                let body = List::new(alloc);
                 self.begun = Some(Begun {
                     session,
                     opening,

@@ -1,33 +1,35 @@
 //! The steps of some lines.
 
-ghost use Rattle.std.specs.Prelude.{◌≡◌, ◌≤◌, ◌+◌, ◌<◌, ◌^◌, ◌&&◌, None, length, IfOk};
+ghost use Rattle.std.specs.Prelude.{◌≡◌, ◌<◌, ◌^◌, ◌&&◌, None, length, IfOk};
 ghost use Rattle.std.specs.List.{All};
+ghost use Rattle.dita_doc.specs.Gives.{GivesSeen};
 ghost use Rattle.dita_doc.specs.declared.stop.Stop.TheVariants as stops;
-ghost use Rattle.dita_doc.specs.Lines.{lines_of};
-ghost use Rattle.dita_doc.specs.Seen.{HasOwnOrigin};
-ghost use Rattle.dita_doc.specs.Script.{steps_from, is_no_line, request_limit};
-ghost use Rattle.script_text.specs.Read.{AreStepsOf, at_line as at_line_of};
-ghost use Rattle.script_text.specs.Words.{IsSession};
+ghost use Rattle.dita_doc.specs.Lines as lines_spec;
+ghost use Rattle.script_text.specs.Facts as facts_spec;
+ghost use Rattle.script_text.specs.Read as read_spec;
+ghost use Rattle.script_text.specs.Script as script_spec;
 
+use crate::fault::{ScriptCode, ScriptFault};
 use crate::lines::split_line;
-use crate::machine::Machine;
-use dita_doc::{List as Items, Request, ScriptCode, ScriptFault, Stop};
+use crate::machine::ScriptMachine;
+use crate::outside::SessionLines;
+use dita_doc::{List, Request, Stop};
 use std::alloc::Global;
 
-/// The steps of a text, of which the last line is too long where it is cut.
+/// The steps of a text, of which the last line is too long if it is cut.
 pub fn read_lines(
     alloc: Global,
     text: &[u8],
     is_cut: bool,
-) -> Result<Items<(u32, Request)>, Stop<ScriptFault>>
+) -> Result<List<(u32, Request)>, Stop<ScriptFault>>
     requires { length text.now < 2 ^ 32 }
-    ensures steps { AreStepsOf result (steps_from is_cut 0 0 None (lines_of text.now)) }
-    ensures origins { IfOk result (λ steps. All (λ step. HasOwnOrigin step.1) steps) }
-    ensures few { IfOk result (λ steps. length steps ≤ request_limit) }
-    ensures sessions { IfOk result (λ steps. All (λ step. IsSession step.0) steps) }
+    ensures steps { GivesSeen read_spec.steps_seen result
+        (script_spec.steps_from script_spec.script_line is_cut 0 0 None
+        (lines_spec.lines_of text.now)) }
+    ensures origins { IfOk result (All facts_spec.IsOwnStep) }
 {
-    let mut machine = Machine::new();
-    let mut steps = Items::new(alloc);
+    let mut machine = ScriptMachine::new();
+    let mut steps = List::new(alloc);
     let mut number: u32 = 0;
     let mut rest = text;
     while let Some((line, more)) = split_line(rest) {
@@ -35,7 +37,7 @@ pub fn read_lines(
         if is_too_long(is_cut, more) {
             return Err(fault_at(ScriptCode::TooLong, number));
         }
-        match machine.line(alloc, line) {
+        match machine.line(alloc, &SessionLines, steps.len(), line) {
             Ok(None) => {}
             Ok(Some(step)) => steps.push(step)?,
             Err(stop) => return Err(at_line(stop, number)),
@@ -50,7 +52,7 @@ pub fn read_lines(
 
 // Whether a line, with this text behind it, is the last of a text that is cut.
 fn is_too_long(is_cut: bool, more: &[u8]) -> bool
-    ensures { result ≡ (is_cut && is_no_line (lines_of more.now)) }
+    ensures { result ≡ (is_cut && script_spec.is_no_line (lines_spec.lines_of more.now)) }
 {
     is_cut && more.is_empty()
 }
@@ -63,7 +65,7 @@ fn fault_at(code: ScriptCode, line: u32) -> Stop<ScriptFault>
 
 // The fault of a line, at its number.
 fn at_line(stop: Stop<ScriptCode>, line: u32) -> Stop<ScriptFault>
-    ensures { result ≡ at_line_of stop line }
+    ensures { result ≡ read_spec.at_line stop line }
 {
     match stop {
         Stop::Fault(code) => fault_at(code, line),

@@ -1,15 +1,15 @@
 //! Words of a line, and what a word says.
 
-ghost use Rattle.std.specs.Prelude.{◌≡◌, ◌↔◌, [], ◌∷◌, ◌==◌, ◌||◌, ◌≤◌, length, slice_index, MatchOption, IsTrue};
+ghost use Rattle.std.specs.Prelude.{◌≡◌, ◌↔◌, [], ◌≤◌, length, MatchOption, IsTrue};
 ghost use Rattle.std.specs.Option.{option_copied};
 ghost use Rattle.std.specs.List.{list_all};
-ghost use Rattle.std.specs.Str.{is_utf8 as is_utf8_of};
-ghost use Rattle.dita_doc.specs.PyxLine.{is_gap};
-ghost use Rattle.dita_doc.specs.Name.{is_name as is_name_of};
-ghost use Rattle.dita_doc.specs.Script.{words_of, number_of as number_of_word, value_after, is_digit, is_passed as is_passed_line};
-ghost use Rattle.script_text.specs.Words.{only, IsNameOf, IsSessionOf};
+ghost use Rattle.dita_doc.specs.Bytes as bytes_spec;
+ghost use Rattle.dita_doc.specs.Gives.{Gives};
+ghost use Rattle.script_text.specs.Script as script_spec;
+ghost use Rattle.script_text.specs.Words as words_spec;
 
-use dita_doc::{Name, ScriptCode, Stop, Text, is_name, split_at_first};
+use crate::fault::ScriptCode;
+use dita_doc::{Name, Stop, split_text_at_first};
 use std::alloc::Global;
 
 /// The most digits of a number, of which each value fits 64 bits.
@@ -18,41 +18,27 @@ const DIGIT_LIMIT: usize = 18;
 /// The most sessions of a script.
 const SESSION_LIMIT: u64 = 16;
 
-/// Whether bytes are UTF-8.
-pub fn is_utf8(bytes: &[u8]) -> bool
-    ensures { result ≡ is_utf8_of bytes.now }
-{
-    str::from_utf8(bytes).is_ok()
-}
-
 /// Whether a line is of spaces and tabs alone, or a comment.
-pub fn is_passed(line: &[u8]) -> bool
-    ensures { result ≡ is_passed_line line.now }
+pub fn is_passed(line: &str) -> bool
+    ensures { result ≡ script_spec.is_passed line.now }
 {
-    is_blank(line) || is_comment(line)
+    let bytes = line.as_bytes();
+    are_gaps(bytes) || bytes.first() == Some(&b'#')
 }
 
-fn is_blank(line: &[u8]) -> bool
-    ensures { result ≡ list_all is_gap line.now }
+fn are_gaps(bytes: &[u8]) -> bool
+    ensures { result ≡ list_all bytes_spec.is_gap bytes.now }
 {
-    line.iter().all(|b| *b == b' ' || *b == b'\t')
+    bytes.iter().all(|b| *b == b' ' || *b == b'\t')
 }
 
-fn is_comment(line: &[u8]) -> bool
-    ensures { result ≡ (slice_index line.now 0 == 35) }
-{
-    match line.first() {
-        Some(b) => *b == b'#',
-        None => false,
-    }
-}
-
-/// The first word of a line, and what stands behind it, where there is a word.
-pub fn split_word(line: &[u8]) -> Option<(&[u8], &[u8])>
-    ensures { MatchOption result (words_of line.now ≡ []) (λ parts. words_of line.now ≡ parts.0.now ∷ words_of parts.1.now) }
+/// The first word of a line and what stands behind it, if there is a word.
+pub fn split_word(line: &str) -> Option<(&str, &str)>
+    ensures { MatchOption result (bytes_spec.spaced_words line.now ≡ [])
+        (λ parts. words_spec.BeginsWord line.now parts.0.now parts.1.now) }
 {
     let mut rest = line;
-    while let Some((word, more)) = split_at_first(rest, b' ') {
+    while let Some((word, more)) = split_text_at_first(rest, b' ') {
         if !word.is_empty() {
             return Some((word, more));
         }
@@ -61,45 +47,46 @@ pub fn split_word(line: &[u8]) -> Option<(&[u8], &[u8])>
     if rest.is_empty() {
         None
     } else {
-        Some((rest, &[]))
+        Some((rest, ""))
     }
 }
 
 /// Whether a line has no word.
-pub fn has_no_word(line: &[u8]) -> bool
-    ensures { IsTrue result ↔ (words_of line.now ≡ []) }
+pub fn has_no_word(line: &str) -> bool
+    ensures { IsTrue result ↔ (bytes_spec.spaced_words line.now ≡ []) }
 {
     split_word(line).is_none()
 }
 
 /// The word of a line that has one word alone.
-pub fn only_word(line: &[u8]) -> Option<&[u8]>
-    ensures { option_copied result ≡ only (words_of line.now) }
+pub fn only_word(line: &str) -> Option<&str>
+    ensures { option_copied result ≡ words_spec.only (bytes_spec.spaced_words line.now) }
 {
     let (word, rest) = split_word(line)?;
     if has_no_word(rest) { Some(word) } else { None }
 }
 
 /// The number that a word is.
-pub fn number_of(word: &[u8]) -> Option<u64>
-    ensures { result ≡ number_of_word word.now }
+pub fn number_of(word: &str) -> Option<u64>
+    ensures { result ≡ script_spec.number_of word.now }
 {
-    if word.is_empty() || word.len() > DIGIT_LIMIT || !has_digits(word) {
+    let digits = word.as_bytes();
+    if digits.is_empty() || digits.len() > DIGIT_LIMIT || !are_digits(digits) {
         return None;
     }
-    Some(value_of(word))
+    Some(value_of(digits))
 }
 
-fn has_digits(word: &[u8]) -> bool
-    ensures { result ≡ list_all is_digit word.now }
+fn are_digits(bytes: &[u8]) -> bool
+    ensures { result ≡ list_all bytes_spec.is_digit bytes.now }
 {
-    word.iter().all(|b| *b >= b'0' && *b <= b'9')
+    bytes.iter().all(|b| *b >= b'0' && *b <= b'9')
 }
 
 fn value_of(digits: &[u8]) -> u64
-    requires all { IsTrue (list_all is_digit digits.now) }
+    requires all { IsTrue (list_all bytes_spec.is_digit digits.now) }
     requires few { length digits.now ≤ DIGIT_LIMIT }
-    ensures { result ≡ value_after 0 digits.now }
+    ensures { result ≡ script_spec.value_after 0 digits.now }
 {
     let mut value: u64 = 0;
     for digit in digits {
@@ -109,8 +96,8 @@ fn value_of(digits: &[u8]) -> u64
 }
 
 /// The session that a word is.
-pub fn read_session(word: &[u8]) -> Result<u32, Stop<ScriptCode>>
-    ensures { IsSessionOf result (number_of_word word.now) }
+pub fn read_session(word: &str) -> Result<u32, Stop<ScriptCode>>
+    ensures { Gives result (script_spec.session_of (script_spec.number_of word.now)) }
 {
     match number_of(word) {
         None | Some(0) => Err(Stop::Fault(ScriptCode::BadNumber)),
@@ -124,11 +111,12 @@ pub fn read_session(word: &[u8]) -> Result<u32, Stop<ScriptCode>>
 }
 
 /// The name that a word is.
-pub fn read_name(alloc: Global, word: &[u8]) -> Result<Name, Stop<ScriptCode>>
-    ensures { IsNameOf result word.now }
+pub fn read_name(alloc: Global, word: &str) -> Result<Name, Stop<ScriptCode>>
+    ensures { Gives result (script_spec.name_of word.now) }
 {
-    if !is_name(word) {
-        return Err(Stop::Fault(ScriptCode::BadName));
+    match Name::parse(alloc, word) {
+        Ok(name) => Ok(name),
+        Err(Stop::Fault(_)) => Err(Stop::Fault(ScriptCode::BadName)),
+        Err(Stop::NoMemory) => Err(Stop::NoMemory),
     }
-    Ok(Name::new(alloc, Text::from_slice(alloc, word)?)?)
 }

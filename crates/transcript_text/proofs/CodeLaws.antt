@@ -1,5 +1,5 @@
 -- The names of codes.
-use Rattle.std.specs.Prelude.{◌≡◌, ◌<◌, ◌≤◌, ◌==◌, ◌||◌, ℕ, Bool, true, false, List, [], ◌∷◌, nat_le, bytes_eq}
+use Rattle.std.specs.Prelude.{◌≡◌, ◌<◌, ◌≤◌, ◌==◌, ◌||◌, ℕ, Bool, true, false, List, [], ◌∷◌, nat_lt, nat_le, bytes_eq}
 use Rattle.std.specs.List.{list_any, list_all}
 use Rattle.std.proofs.Common.{refl, sym, ap, ◌∙◌, arith}
 use Rattle.std.proofs.lemmas.Bool.{or_from, and_parts, leb-true}
@@ -15,22 +15,26 @@ use Rattle.transcript_text.specs.Below.{is_pyx_code, is_fault_code}
 use Rattle.transcript_text.specs.declared.below.TheConstants.{PYX_CODES, FAULT_CODES}
 
 -- what one of some texts is, is the text of one of them
-found_first : {X : Type 0} (f : X → List ℕ) (word : List ℕ) (x : X) (xs : List X) (test : Bool) → bytes_eq (f x) word ≡ test → (test || list_any (λ y. bytes_eq (f y) word) xs) ≡ true
+found_first : {X : Type 0} (f : X → List ℕ) (word : List ℕ) (x : X) (xs : List X) (test : Bool)
+    → bytes_eq (f x) word ≡ test → (test || list_any (λ y. bytes_eq (f y) word) xs) ≡ true
     → (list_any (λ y. bytes_eq (f y) word) xs ≡ true → (y : X) × (f y ≡ word)) → (y : X) × (f y ≡ word)
 found_first f word x xs true is e rest = (x, (bytes_eq-Decides (f x) word).0 is)
 found_first f word x xs false is e rest = rest e
 
-found_one : {X : Type 0} (f : X → List ℕ) (word : List ℕ) (xs : List X) → list_any (λ y. bytes_eq (f y) word) xs ≡ true → (y : X) × (f y ≡ word)
+found_one : {X : Type 0} (f : X → List ℕ) (word : List ℕ) (xs : List X) → list_any (λ y. bytes_eq (f y) word) xs ≡ true
+    → (y : X) × (f y ≡ word)
 found_one f word [] e = absurd (cc)
 found_one f word (x ∷ xs) e = found_first f word x xs (bytes_eq (f x) word) refl e (found_one f word xs)
 
 -- what holds of all of them holds of it
-pass_first : {X : Type 0} (f : X → List ℕ) (p : List ℕ → Bool) (word : List ℕ) (x : X) (xs : List X) (test : Bool) → bytes_eq (f x) word ≡ test → (test || list_any (λ y. bytes_eq (f y) word) xs) ≡ true
+pass_first : {X : Type 0} (f : X → List ℕ) (p : List ℕ → Bool) (word : List ℕ) (x : X) (xs : List X) (test : Bool)
+    → bytes_eq (f x) word ≡ test → (test || list_any (λ y. bytes_eq (f y) word) xs) ≡ true
     → p (f x) ≡ true → (list_any (λ y. bytes_eq (f y) word) xs ≡ true → p word ≡ true) → p word ≡ true
 pass_first f p word x xs true is e first rest = ap p (sym ((bytes_eq-Decides (f x) word).0 is)) ∙ first
 pass_first f p word x xs false is e first rest = rest e
 
-pass_all : {X : Type 0} (f : X → List ℕ) (p : List ℕ → Bool) (word : List ℕ) (xs : List X) → list_any (λ y. bytes_eq (f y) word) xs ≡ true → list_all (λ y. p (f y)) xs ≡ true → p word ≡ true
+pass_all : {X : Type 0} (f : X → List ℕ) (p : List ℕ → Bool) (word : List ℕ) (xs : List X)
+    → list_any (λ y. bytes_eq (f y) word) xs ≡ true → list_all (λ y. p (f y)) xs ≡ true → p word ≡ true
 pass_all f p word [] e all = absurd (cc)
 pass_all f p word (x ∷ xs) e all =
     let parts = and_parts (p (f x)) _ all in
@@ -102,7 +106,21 @@ pyx_code_known pyx.TooLong = refl
 pyx_code_known pyx.NotUtf8 = refl
 
 pub fault_code_lacks : (byte : ℕ) (code : FaultCode) → byte < 49 → Lacks byte (fault_code_text code)
-fault_code_lacks byte code low = lettered_lack byte (fault_code_text code) low (pass_all fault_code_text is_lettered (fault_code_text code) FAULT_CODES (fault_code_known code) refl)
+fault_code_lacks byte code low =
+    lettered_lack byte (fault_code_text code) low
+    (pass_all fault_code_text is_lettered (fault_code_text code) FAULT_CODES (fault_code_known code) refl)
 
 pub pyx_code_lacks : (byte : ℕ) (code : PyxCode) → byte < 49 → Lacks byte (pyx_code_text code)
-pyx_code_lacks byte code low = lettered_lack byte (pyx_code_text code) low (pass_all pyx_code_text is_lettered (pyx_code_text code) PYX_CODES (pyx_code_known code) refl)
+pyx_code_lacks byte code low =
+    lettered_lack byte (pyx_code_text code) low
+    (pass_all pyx_code_text is_lettered (pyx_code_text code) PYX_CODES (pyx_code_known code) refl)
+
+-- bytes of ASCII alone
+abbrev pub is_low : List ℕ → Bool
+is_low text = list_all (λ b. nat_lt b 128) text
+
+pub fault_code_low : (code : FaultCode) → is_low (fault_code_text code) ≡ true
+fault_code_low code = pass_all fault_code_text is_low (fault_code_text code) FAULT_CODES (fault_code_known code) refl
+
+pub pyx_code_low : (code : PyxCode) → is_low (pyx_code_text code) ≡ true
+pyx_code_low code = pass_all pyx_code_text is_low (pyx_code_text code) PYX_CODES (pyx_code_known code) refl

@@ -32,7 +32,8 @@ digit_lacks byte b other low high = or_from _ _ (no_equal b byte (λ same. other
 pub lacks_decimal : (byte n : ℕ) → (IsInRange 48 57 byte → ⊥) → n < 2 ^ 64 → Lacks byte (decimal n)
 lacks_decimal byte n other small = decimal_by_steps (λ m ds. Lacks byte ds)
     (λ m less. let low : 48 + m ≤ 57 = omega arith in digit_lacks byte (48 + m) other (omega arith) low)
-    (λ m ds more rest. let low : 48 + m % 10 ≤ 57 = omega arith in lacks_append byte ds _ rest (digit_lacks byte (48 + m % 10) other (omega arith) low)) n small
+    (λ m ds more rest. let low : 48 + m % 10 ≤ 57 = omega arith in lacks_append byte ds _ rest
+    (digit_lacks byte (48 + m % 10) other (omega arith) low)) n small
 
 -- a name has no byte below 33
 name_bytes_lack : (byte : ℕ) (name : List ℕ) → byte < 33 → list_all is_name_byte name ≡ true → Lacks byte name
@@ -48,14 +49,21 @@ lacks_name byte name low e = name_bytes_lack byte name low (and_parts _ _ (and_p
 
 -- a text that has the byte does not lack it
 pub has_byte : (byte : ℕ) (x y : List ℕ) → Lacks byte (x ++ byte ∷ y) → ⊥
-has_byte byte [] y e = let same : (byte == byte) ≡ true = grind (arith, nat_tests) in let parts = or_parts (byte == byte) _ e in absurd (cc)
+has_byte byte [] y e =
+    let same : (byte == byte) ≡ true = grind (arith, nat_tests) in let parts =
+    or_parts (byte == byte) _ e in absurd (cc)
 has_byte byte (b ∷ x) y e = has_byte byte x y (or_parts (b == byte) _ e).1
 
 -- a text is cut at its first such byte in one way
-pub cut_once : (byte : ℕ) (f g k l : List ℕ) → Lacks byte f → Lacks byte g → f ++ byte ∷ k ≡ g ++ byte ∷ l → (f ≡ g) × (k ≡ l)
+pub cut_once : (byte : ℕ) (f g k l : List ℕ) → Lacks byte f → Lacks byte g → f ++ byte ∷ k ≡ g ++ byte ∷ l
+    → (f ≡ g) × (k ≡ l)
 cut_once byte [] [] k l first second e = (refl, cc)
-cut_once byte [] (b ∷ g) k l first second e = absurd (let same : b ≡ byte = cc in let is : (b == byte) ≡ true = grind (arith, nat_tests) in let parts = or_parts (b == byte) _ second in cc)
-cut_once byte (b ∷ f) [] k l first second e = absurd (let same : b ≡ byte = cc in let is : (b == byte) ≡ true = grind (arith, nat_tests) in let parts = or_parts (b == byte) _ first in cc)
+cut_once byte [] (b ∷ g) k l first second e =
+    absurd (let same : b ≡ byte = cc in let is : (b == byte) ≡ true = grind (arith, nat_tests) in let parts = or_parts
+    (b == byte) _ second in cc)
+cut_once byte (b ∷ f) [] k l first second e =
+    absurd (let same : b ≡ byte = cc in let is : (b == byte) ≡ true = grind (arith, nat_tests) in let parts = or_parts
+    (b == byte) _ first in cc)
 cut_once byte (b ∷ f) (c ∷ g) k l first second e =
     let head : b ≡ c = cc in
     let tail : f ++ byte ∷ k ≡ g ++ byte ∷ l = cc in
@@ -64,10 +72,13 @@ cut_once byte (b ∷ f) (c ∷ g) k l first second e =
     (cc, rest.1)
 
 -- and at its last
-pub cut_last : (byte : ℕ) (f g k l : List ℕ) → Lacks byte k → Lacks byte l → f ++ byte ∷ k ≡ g ++ byte ∷ l → (f ≡ g) × (k ≡ l)
+pub cut_last : (byte : ℕ) (f g k l : List ℕ) → Lacks byte k → Lacks byte l → f ++ byte ∷ k ≡ g ++ byte ∷ l
+    → (f ≡ g) × (k ≡ l)
 cut_last byte [] [] k l first second e = (refl, cc)
-cut_last byte [] (b ∷ g) k l first second e = let is : k ≡ g ++ byte ∷ l = cc in absurd (has_byte byte g l (rw is at first))
-cut_last byte (b ∷ f) [] k l first second e = let is : l ≡ f ++ byte ∷ k = cc in absurd (has_byte byte f k (rw is at second))
+cut_last byte [] (b ∷ g) k l first second e =
+    let is : k ≡ g ++ byte ∷ l = cc in absurd (has_byte byte g l (rw is at first))
+cut_last byte (b ∷ f) [] k l first second e =
+    let is : l ≡ f ++ byte ∷ k = cc in absurd (has_byte byte f k (rw is at second))
 cut_last byte (b ∷ f) (c ∷ g) k l first second e =
     let head : b ≡ c = cc in
     let tail : f ++ byte ∷ k ≡ g ++ byte ∷ l = cc in

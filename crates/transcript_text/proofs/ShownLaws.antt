@@ -10,10 +10,11 @@ use Rattle.std.proofs.lemmas.List.Elements.{All-nil, All-cons}
 use Rattle.std.proofs.lemmas.Slice.Eq.{bytes_eq-Decides}
 use Rattle.dita_doc.specs.Faults.{pyx_code_text}
 use Rattle.dita_doc.specs.declared.plan.PlanStop.TheVariants as stops
-use Rattle.dita_doc.specs.Transcript.{Shown, StoredAt, RemovedAt, ConflictAt, IsAbsent, IsFull, RefusedFor, Lines, Names, BuiltPages, StoppedBy, PagesTooLarge, NotYetBuilt, IsShown, shown_words, shown_lines, IsLineText, IsNameLine, name_line, PageShown, IsPageShown, page_line, FaultShown, IsFaultShown, fault_line}
+use Rattle.transcript_text.specs.Transcript.{Shown, StoredAt, RemovedAt, ConflictAt, IsAbsent, IsFull, RefusedFor, Lines, Names, OfBuild, BuiltPages, StoppedBy, PagesTooLarge, NotYetBuilt, IsShown, shown_words, shown_lines, IsLineText, IsNameLine, name_line, PageShown, IsPageShown, page_line, FaultShown, IsFaultShown, fault_line}
 use Rattle.transcript_text.specs.declared.below.Below.{Below}
 use Rattle.transcript_text.specs.declared.below.Below.TheVariants as belows
-use Rattle.transcript_text.specs.Words.{words_of, number_of}
+use Rattle.dita_doc.specs.Bytes.{spaced_parts}
+use Rattle.transcript_text.specs.Words.{number_of}
 use Rattle.transcript_text.specs.Below.{count_of, FitFrom, IsPageText, IsFaultText, none_below, none_if, both, below_of, below_two, below_three, lone_words, numbered_words, is_among}
 use Rattle.transcript_text.proofs.CodeLaws.{pyx_code_found}
 use Rattle.transcript_text.proofs.NumberLaws.{number_says}
@@ -44,7 +45,8 @@ names_fit count at (line ∷ lines) fit =
     record {
       names = fit.0.0 ∷ rest.names;
       valid = All-cons IsNameLine fit.0.0 rest.names fit.0.1 rest.valid;
-      same = ap (λ (l : List ℕ). l ∷ map name_line rest.names) (sym fit.0.2) ∙ ap (λ (ls : List (List ℕ)). line ∷ ls) rest.same;
+      same = ap (λ (l : List ℕ). l ∷ map name_line rest.names) (sym fit.0.2)
+          ∙ ap (λ (ls : List (List ℕ)). line ∷ ls) rest.same;
     }
 
 record HasFaults (lines : List (List ℕ)) : Type 0 where
@@ -52,11 +54,13 @@ record HasFaults (lines : List (List ℕ)) : Type 0 where
   valid : All IsFaultShown faults
   same : map fault_line faults ≡ lines
 
-page_there : (test : Bool) (line : List ℕ) → MatchBool test (IsPageText line) (IsFaultText line) → test ≡ true → IsPageText line
+page_there : (test : Bool) (line : List ℕ) → MatchBool test (IsPageText line) (IsFaultText line) → test ≡ true
+    → IsPageText line
 page_there true line fits e = fits
 page_there false line fits e = absurd (cc)
 
-fault_there : (test : Bool) (line : List ℕ) → MatchBool test (IsPageText line) (IsFaultText line) → test ≡ false → IsFaultText line
+fault_there : (test : Bool) (line : List ℕ) → MatchBool test (IsPageText line) (IsFaultText line) → test ≡ false
+    → IsFaultText line
 fault_there true line fits e = absurd (cc)
 fault_there false line fits e = fits
 
@@ -66,7 +70,8 @@ not_below at pages more = grind (arith, nat_tests)
 pub is_below : (at pages : ℕ) → at < pages → nat_lt at pages ≡ true
 is_below at pages less = grind (arith, nat_tests)
 
-faults_fit : (pages count at : ℕ) (lines : List (List ℕ)) → pages ≤ at → FitFrom (belows.Built pages count) at lines → HasFaults lines
+faults_fit : (pages count at : ℕ) (lines : List (List ℕ)) → pages ≤ at → FitFrom (belows.Built pages count) at lines
+    → HasFaults lines
 faults_fit pages count at [] past fit = record { faults = []; valid = All-nil IsFaultShown; same = refl }
 faults_fit pages count at (line ∷ lines) past fit =
     let here = fault_there (nat_lt at pages) line fit.0 (not_below at pages past) in
@@ -74,7 +79,8 @@ faults_fit pages count at (line ∷ lines) past fit =
     record {
       faults = here.0 ∷ rest.faults;
       valid = All-cons IsFaultShown here.0 rest.faults here.1 rest.valid;
-      same = ap (λ (l : List ℕ). l ∷ map fault_line rest.faults) (sym here.2) ∙ ap (λ (ls : List (List ℕ)). line ∷ ls) rest.same;
+      same = ap (λ (l : List ℕ). l ∷ map fault_line rest.faults) (sym here.2)
+          ∙ ap (λ (ls : List (List ℕ)). line ∷ ls) rest.same;
     }
 
 -- the pages from an index on, and then the faults
@@ -86,24 +92,35 @@ record HasPages (left : ℕ) (lines : List (List ℕ)) : Type 0 where
   sound : All IsFaultShown faults
   same : map page_line pages ++ map fault_line faults ≡ lines
 
-pages_past : (pages count at left : ℕ) (lines : List (List ℕ)) (test : Bool) → nat_lt at pages ≡ test → at + left ≡ pages → pages ≤ at + length lines → FitFrom (belows.Built pages count) at lines → HasPages left lines
+pages_past : (pages count at left : ℕ) (lines : List (List ℕ)) (test : Bool) → nat_lt at pages ≡ test
+    → at + left ≡ pages → pages ≤ at + length lines → FitFrom (belows.Built pages count) at lines → HasPages left lines
 pages_past pages count at left lines false e few enough fit =
     let past : pages ≤ at = ltb-false _ _ e in
     let none : left ≡ 0 = omega arith in
     let rest = faults_fit pages count at lines past fit in
-    record { pages = []; valid = All-nil IsPageShown; many = sym none; faults = rest.faults; sound = rest.valid; same = rest.same }
+    record {
+      pages = [];
+      valid = All-nil IsPageShown;
+      many = sym none;
+      faults = rest.faults;
+      sound = rest.valid;
+      same = rest.same;
+    }
 pages_past pages count at left [] true e few enough fit = let less : at < pages = ltb-true _ _ e in absurd (omega arith)
-pages_past pages count at zero (line ∷ lines) true e few enough fit = let less : at < pages = ltb-true _ _ e in absurd (omega arith)
+pages_past pages count at zero (line ∷ lines) true e few enough fit =
+    let less : at < pages = ltb-true _ _ e in absurd (omega arith)
 pages_past pages count at (suc left) (line ∷ lines) true e few enough fit =
     let here = page_there (nat_lt at pages) line fit.0 e in
-    let rest = pages_past pages count (at + 1) left lines (nat_lt (at + 1) pages) refl (omega arith) (omega arith) fit.1 in
+    let rest = pages_past pages count (at + 1) left lines (nat_lt (at + 1) pages) refl (omega arith)
+    (omega arith) fit.1 in
     record {
       pages = here.0 ∷ rest.pages;
       valid = All-cons IsPageShown here.0 rest.pages here.1 rest.valid;
       many = ap suc rest.many;
       faults = rest.faults;
       sound = rest.sound;
-      same = ap (λ (l : List ℕ). l ∷ (map page_line rest.pages ++ map fault_line rest.faults)) (sym here.2) ∙ ap (λ (ls : List (List ℕ)). line ∷ ls) rest.same;
+      same = ap (λ (l : List ℕ). l ∷ (map page_line rest.pages ++ map fault_line rest.faults)) (sym here.2)
+          ∙ ap (λ (ls : List (List ℕ)). line ∷ ls) rest.same;
     }
 
 -- replies
@@ -114,19 +131,24 @@ if_none false below e = absurd (cc)
 
 no_lines : (lines : List (List ℕ)) (below : Below) → none_below ≡ below → length lines ≡ count_of below → [] ≡ lines
 no_lines [] below is many = refl
-no_lines (line ∷ lines) below is many = let none : length (line ∷ lines) ≡ 0 = many ∙ ap count_of (sym is) in absurd (omega arith)
+no_lines (line ∷ lines) below is many =
+    let none : length (line ∷ lines) ≡ 0 = many ∙ ap count_of (sym is) in absurd (omega arith)
 
 -- what is shown without lines, by its words
-record IsPlain (shown : Shown) (word : List ℕ) : Type 0 where
+record ShowsAlone (shown : Shown) (word : List ℕ) : Type 0 where
   valid : IsShown shown
   words : shown_words shown ≡ word
   below : shown_lines shown ≡ []
 
-plainly : (shown : Shown) (word reply : List ℕ) (lines : List (List ℕ)) → IsPlain shown word → word ≡ reply → [] ≡ lines → HasShown reply lines
-plainly shown word reply lines plain is none = record { shown = shown; valid = plain.valid; words = plain.words ∙ is; below = plain.below ∙ none }
+plainly : (shown : Shown) (word reply : List ℕ) (lines : List (List ℕ)) → ShowsAlone shown word → word ≡ reply
+    → [] ≡ lines
+    → HasShown reply lines
+plainly shown word reply lines plain is none =
+    record { shown = shown; valid = plain.valid; words = plain.words ∙ is; below = plain.below ∙ none }
 
 -- one of some words
-among : (P : Type 0) (word first : List ℕ) (words : List (List ℕ)) (test : Bool) → bytes_eq word first ≡ test → (test || list_any (bytes_eq word) words) ≡ true
+among : (P : Type 0) (word first : List ℕ) (words : List (List ℕ)) (test : Bool) → bytes_eq word first ≡ test
+    → (test || list_any (bytes_eq word) words) ≡ true
     → (first ≡ word → P) → (list_any (bytes_eq word) words ≡ true → P) → P
 among P word first words true is e here there = here (sym ((bytes_eq-Decides word first).0 is))
 among P word first words false is e here there = there e
@@ -134,42 +156,64 @@ among P word first words false is e here there = there e
 none_among : (word : List ℕ) → list_any (bytes_eq word) [] ≡ true → ⊥
 none_among word e = absurd (cc)
 
-lone_shown : (word : List ℕ) → is_among lone_words word ≡ true → (shown : Shown) × IsPlain shown word
+lone_shown : (word : List ℕ) → is_among lone_words word ≡ true → (shown : Shown) × ShowsAlone shown word
 lone_shown word e =
-    let P : Type 0 = (shown : Shown) × IsPlain shown word in
-    let plain : (shown : Shown) → IsShown shown → shown_lines shown ≡ [] → shown_words shown ≡ word → P = λ shown valid none is. (shown, record { valid = valid; words = is; below = none }) in
+    let P : Type 0 = (shown : Shown) × ShowsAlone shown word in
+    let plain : (shown : Shown) → IsShown shown → shown_lines shown ≡ [] → shown_words shown ≡ word
+    → P = λ shown valid none is. (shown, record { valid = valid; words = is; below = none }) in
     among P word (codes "absent") (drop 1 lone_words) _ refl e (plain IsAbsent tt refl) (λ e1.
-    among P word (codes "notyet") (drop 2 lone_words) _ refl e1 (plain NotYetBuilt tt refl) (λ e2.
-    among P word (codes "nomap") (drop 3 lone_words) _ refl e2 (plain (StoppedBy stops.NoMap) tt refl) (λ e3.
-    among P word (codes "notmap") (drop 4 lone_words) _ refl e3 (plain (StoppedBy stops.NotMap) tt refl) (λ e4.
-    among P word (codes "noditaval") (drop 5 lone_words) _ refl e4 (plain (StoppedBy stops.NoDitaval) tt refl) (λ e5.
-    among P word (codes "toomanynodes") (drop 6 lone_words) _ refl e5 (plain (StoppedBy stops.TooManyNodes) tt refl) (λ e6.
-    among P word (codes "toomanypages") (drop 7 lone_words) _ refl e6 (plain (StoppedBy stops.TooManyPages) tt refl) (λ e7. absurd (none_among word e7))))))))
+    among P word (codes "notyet") (drop 2 lone_words) _ refl e1 (plain (OfBuild NotYetBuilt) tt refl) (λ e2.
+    among P word (codes "nomap") (drop 3 lone_words) _ refl e2 (plain (OfBuild (StoppedBy stops.NoMap)) tt refl) (λ e3.
+    among P word (codes "notmap") (drop 4 lone_words) _ refl e3 (plain (OfBuild (StoppedBy stops.NotMap)) tt refl)
+    (λ e4.
+    among P word (codes "noditaval") (drop 5 lone_words) _ refl e4 (plain (OfBuild (StoppedBy stops.NoDitaval)) tt refl)
+    (λ e5.
+    among P word (codes "toomanynodes") (drop 6 lone_words) _ refl e5
+    (plain (OfBuild (StoppedBy stops.TooManyNodes)) tt refl) (λ e6.
+    among P word (codes "toomanypages") (drop 7 lone_words) _ refl e6
+    (plain (OfBuild (StoppedBy stops.TooManyPages)) tt refl) (λ e7. absurd (none_among word e7))))))))
 
-numbered_shown : (word second : List ℕ) (n : ℕ) → n < 2 ^ 64 → decimal n ≡ second → is_among numbered_words word ≡ true → (shown : Shown) × IsPlain shown (word ++ 32 ∷ second)
+numbered_shown : (word second : List ℕ) (n : ℕ) → n < 2 ^ 64 → decimal n ≡ second → is_among numbered_words word ≡ true
+    → (shown : Shown) × ShowsAlone shown (word ++ 32 ∷ second)
 numbered_shown word second n small is e =
-    let P : Type 0 = (shown : Shown) × IsPlain shown (word ++ 32 ∷ second) in
-    let plain : (shown : Shown) (first : List ℕ) → IsShown shown → shown_lines shown ≡ [] → shown_words shown ≡ first ++ 32 ∷ decimal n → first ≡ word → P =
-    λ shown first valid none told same. (shown, record { valid = valid; words = told ∙ ap (λ (l : List ℕ). l ++ 32 ∷ decimal n) same ∙ ap (λ (l : List ℕ). word ++ 32 ∷ l) is; below = none }) in
-    among P word (codes "stored") (drop 1 numbered_words) _ refl e (plain (StoredAt n) (codes "stored") small refl refl) (λ e1.
-    among P word (codes "removed") (drop 2 numbered_words) _ refl e1 (plain (RemovedAt n) (codes "removed") small refl refl) (λ e2.
-    among P word (codes "conflict") (drop 3 numbered_words) _ refl e2 (plain (ConflictAt n) (codes "conflict") small refl refl) (λ e3.
-    among P word (codes "toolarge") (drop 4 numbered_words) _ refl e3 (plain (PagesTooLarge n) (codes "toolarge") small refl refl) (λ e4. absurd (none_among word e4)))))
+    let P : Type 0 = (shown : Shown) × ShowsAlone shown (word ++ 32 ∷ second) in
+    let plain : (shown : Shown) (first : List ℕ) → IsShown shown → shown_lines shown ≡ []
+    → shown_words shown ≡ first ++ 32 ∷ decimal n → first ≡ word → P =
+    λ shown first valid none told same. (
+      shown,
+      record {
+        valid = valid;
+        words = told ∙ ap (λ (l : List ℕ). l ++ 32 ∷ decimal n) same
+            ∙ ap (λ (l : List ℕ). word ++ 32 ∷ l) is;
+        below = none;
+      },
+    ) in
+    among P word (codes "stored") (drop 1 numbered_words) _ refl e (plain (StoredAt n) (codes "stored") small refl refl)
+    (λ e1.
+    among P word (codes "removed") (drop 2 numbered_words) _ refl e1
+    (plain (RemovedAt n) (codes "removed") small refl refl) (λ e2.
+    among P word (codes "conflict") (drop 3 numbered_words) _ refl e2
+    (plain (ConflictAt n) (codes "conflict") small refl refl) (λ e3.
+    among P word (codes "toolarge") (drop 4 numbered_words) _ refl e3
+    (plain (OfBuild (PagesTooLarge n)) (codes "toolarge") small refl refl) (λ e4. absurd (none_among word e4)))))
 
 -- replies of a word and a number, without lines, of a text and of names
 pub decimal_10000 : decimal 10000 ≡ codes "10000"
 unfolding digits
 decimal_10000 = refl
 
-number_there : (bits : ℕ) (word : List ℕ) (found : Option ℕ) → number_of bits word ≡ found → is_some found ≡ true → (n : ℕ) × (n < 2 ^ bits) × (decimal n ≡ word)
+number_there : (bits : ℕ) (word : List ℕ) (found : Option ℕ) → number_of bits word ≡ found → is_some found ≡ true
+    → (n : ℕ) × (n < 2 ^ bits) × (decimal n ≡ word)
 number_there bits word (Some n) is some = let says = number_says bits n word is in (n, says.0, says.1)
 number_there bits word None is some = absurd (cc)
 
-mapped : (f : ℕ → Below) (found : Option ℕ) (below : Below) → option_map f found ≡ Some below → (n : ℕ) × (found ≡ Some n) × (f n ≡ below)
+mapped : (f : ℕ → Below) (found : Option ℕ) (below : Below) → option_map f found ≡ Some below
+    → (n : ℕ) × (found ≡ Some n) × (f n ≡ below)
 mapped f (Some n) below e = (n, refl, cc)
 mapped f None below e = absurd (cc)
 
-both_there : (first second : Option ℕ) (below : Below) → both first second ≡ Some below → (pages : ℕ) × (faults : ℕ) × (first ≡ Some pages) × (second ≡ Some faults) × (belows.Built pages faults ≡ below)
+both_there : (first second : Option ℕ) (below : Below) → both first second ≡ Some below
+    → (pages : ℕ) × (faults : ℕ) × (first ≡ Some pages) × (second ≡ Some faults) × (belows.Built pages faults ≡ below)
 both_there (Some pages) (Some faults) below e = (pages, faults, refl, refl, cc)
 both_there (Some pages) None below e = absurd (cc)
 both_there None second below e = absurd (cc)
@@ -178,75 +222,105 @@ no_such : (below : Below) → None ≡ Some below → ⊥
 no_such below e = absurd (cc)
 
 -- a choice by a test
-either : (P : Type 0) (test : Bool) (found other : Option Below) (below : Below) → (if test then found else other) ≡ Some below → (test ≡ true → found ≡ Some below → P) → (other ≡ Some below → P) → P
+either : (P : Type 0) (test : Bool) (found other : Option Below) (below : Below)
+    → (if test then found else other) ≡ Some below → (test ≡ true → found ≡ Some below → P) → (other ≡ Some below → P)
+    → P
 either P true found other below e here there = here refl e
 either P false found other below e here there = there e
 
 is_word : (word other : List ℕ) → bytes_eq word other ≡ true → word ≡ other
 is_word word other e = (bytes_eq-Decides word other).0 e
 
-text_shown : (n : ℕ) (second : List ℕ) (below : Below) (lines : List (List ℕ)) → n < 2 ^ 64 → decimal n ≡ second → belows.Texts n ≡ below → FitFrom below 0 lines → length lines ≡ count_of below
+lines_shown : (n : ℕ) (second : List ℕ) (below : Below) (lines : List (List ℕ)) → n < 2 ^ 64 → decimal n ≡ second
+    → belows.Texts n ≡ below → FitFrom below 0 lines → length lines ≡ count_of below
     → HasShown (codes "text" ++ 32 ∷ second) lines
-text_shown n second below lines small is said fit many =
+lines_shown n second below lines small is said fit many =
     let counted : length lines ≡ n = many ∙ ap count_of (sym said) in
     let fits : FitFrom (belows.Texts n) 0 lines = subst (λ b. FitFrom b 0 lines) (sym said) fit in
     let few : length lines < 2 ^ 64 = omega arith in
-    record { shown = Lines lines; valid = (few, texts_fit n 0 lines fits); words = ap (λ (l : List ℕ). codes "text " ++ l) (ap decimal counted ∙ is); below = refl }
+    record {
+      shown = Lines lines;
+      valid = (few, texts_fit n 0 lines fits);
+      words = ap (λ
+          (l : List ℕ). codes "text " ++ l) (ap decimal counted ∙ is);
+      below = refl;
+    }
 
-names_shown : (n : ℕ) (second : List ℕ) (below : Below) (lines : List (List ℕ)) → n < 2 ^ 64 → decimal n ≡ second → belows.Names n ≡ below → FitFrom below 0 lines → length lines ≡ count_of below
+names_shown : (n : ℕ) (second : List ℕ) (below : Below) (lines : List (List ℕ)) → n < 2 ^ 64 → decimal n ≡ second
+    → belows.Names n ≡ below → FitFrom below 0 lines → length lines ≡ count_of below
     → HasShown (codes "names" ++ 32 ∷ second) lines
 names_shown n second below lines small is said fit many =
     let counted : length lines ≡ n = many ∙ ap count_of (sym said) in
     let told = names_fit n 0 lines (subst (λ b. FitFrom b 0 lines) (sym said) fit) in
-    let same : length told.names ≡ length lines = sym (length-map told.names name_line) ∙ ap (length {A = List ℕ}) told.same in
+    let same : length told.names ≡ length lines = sym (length-map told.names name_line)
+    ∙ ap (length {A = List ℕ}) told.same in
     let few : length told.names < 2 ^ 64 = omega arith in
-    record { shown = Names told.names; valid = (few, told.valid); words = ap (λ (l : List ℕ). codes "names " ++ l) (ap decimal (same ∙ counted) ∙ is); below = told.same }
+    record {
+      shown = Names told.names;
+      valid = (few, told.valid);
+      words = ap (λ (l : List ℕ). codes "names " ++ l)
+          (ap decimal (same ∙ counted) ∙ is);
+      below = told.same;
+    }
 
-two_shown : (word second reply : List ℕ) (below : Below) (lines : List (List ℕ)) → word ++ 32 ∷ second ≡ reply → below_two word second ≡ Some below → FitFrom below 0 lines → length lines ≡ count_of below → HasShown reply lines
+two_shown : (word second reply : List ℕ) (below : Below) (lines : List (List ℕ)) → word ++ 32 ∷ second ≡ reply
+    → below_two word second ≡ Some below → FitFrom below 0 lines → length lines ≡ count_of below → HasShown reply lines
 two_shown word second reply below lines is said fit many =
     either (HasShown reply lines) (is_among numbered_words word) _ _ below said
-    (λ among found. let test = if_none _ below found in let n = number_there 64 second _ refl test.0 in let plain = numbered_shown word second n.0 n.1 n.2 among in
+    (λ among found. let test = if_none _ below found in let n = number_there 64 second _ refl test.0
+    in let plain = numbered_shown word second n.0 n.1 n.2 among in
     plainly plain.0 (word ++ 32 ∷ second) reply lines plain.1 is (no_lines lines below test.1 many))
     (λ said1. either (HasShown reply lines) (bytes_eq word (codes "toomanynames")) _ _ below said1
     (λ full found. let test = if_none _ below found in
     record {
       shown = IsFull;
       valid = tt;
-      words = ap (λ (l : List ℕ). codes "toomanynames " ++ l) (decimal_10000 ∙ sym (is_word _ _ test.0)) ∙ ap (λ (l : List ℕ). l ++ 32 ∷ second) (sym (is_word _ _ full)) ∙ is;
+      words = ap (λ (l : List ℕ). codes "toomanynames " ++ l) (decimal_10000 ∙ sym (is_word _ _ test.0))
+          ∙ ap (λ (l : List ℕ). l ++ 32 ∷ second) (sym (is_word _ _ full)) ∙ is;
       below = no_lines lines below test.1 many;
     })
     (λ said2. either (HasShown reply lines) (bytes_eq word (codes "text")) _ _ below said2
     (λ text found. let n = mapped belows.Texts _ below found in let says = number_says 64 n.0 second n.1 in
-    subst (λ (l : List ℕ). HasShown l lines) (ap (λ (l : List ℕ). l ++ 32 ∷ second) (sym (is_word _ _ text)) ∙ is) (text_shown n.0 second below lines says.0 says.1 n.2 fit many))
+    subst (λ (l : List ℕ). HasShown l lines) (ap (λ (l : List ℕ). l ++ 32 ∷ second) (sym (is_word _ _ text)) ∙ is)
+    (lines_shown n.0 second below lines says.0 says.1 n.2 fit many))
     (λ said3. either (HasShown reply lines) (bytes_eq word (codes "names")) _ _ below said3
     (λ names found. let n = mapped belows.Names _ below found in let says = number_says 64 n.0 second n.1 in
-    subst (λ (l : List ℕ). HasShown l lines) (ap (λ (l : List ℕ). l ++ 32 ∷ second) (sym (is_word _ _ names)) ∙ is) (names_shown n.0 second below lines says.0 says.1 n.2 fit many))
+    subst (λ (l : List ℕ). HasShown l lines) (ap (λ (l : List ℕ). l ++ 32 ∷ second) (sym (is_word _ _ names)) ∙ is)
+    (names_shown n.0 second below lines says.0 says.1 n.2 fit many))
     (λ none. absurd (no_such below none)))))
 
-built_shown : (pages faults : ℕ) (second third : List ℕ) (below : Below) (lines : List (List ℕ)) → pages < 2 ^ 64 → faults < 2 ^ 64 → decimal pages ≡ second → decimal faults ≡ third
-    → belows.Built pages faults ≡ below → FitFrom below 0 lines → length lines ≡ count_of below → HasShown (codes "built" ++ 32 ∷ (second ++ 32 ∷ third)) lines
-built_shown pages faults second third below lines small few first last said fit many =
+pages_shown : (pages faults : ℕ) (second third : List ℕ) (below : Below) (lines : List (List ℕ)) → pages < 2 ^ 64
+    → faults < 2 ^ 64 → decimal pages ≡ second → decimal faults ≡ third
+    → belows.Built pages faults ≡ below → FitFrom below 0 lines → length lines ≡ count_of below
+    → HasShown (codes "built" ++ 32 ∷ (second ++ 32 ∷ third)) lines
+pages_shown pages faults second third below lines small few first last said fit many =
     let counted : length lines ≡ pages + faults = many ∙ ap count_of (sym said) in
     let fits : FitFrom (belows.Built pages faults) 0 lines = subst (λ b. FitFrom b 0 lines) (sym said) fit in
     let told = pages_past pages faults 0 pages lines (nat_lt 0 pages) refl (omega arith) (omega arith) fits in
     let all : length told.pages + length told.faults ≡ length lines =
-    ap (λ k. k + length told.faults) (sym (length-map told.pages page_line)) ∙ ap (λ k. length (map page_line told.pages) + k) (sym (length-map told.faults fault_line))
-    ∙ sym (length-append (map page_line told.pages) (map fault_line told.faults)) ∙ ap (length {A = List ℕ}) told.same in
+    ap (λ k. k + length told.faults) (sym (length-map told.pages page_line))
+    ∙ ap (λ k. length (map page_line told.pages) + k) (sym (length-map told.faults fault_line))
+    ∙ sym (length-append (map page_line told.pages) (map fault_line told.faults))
+    ∙ ap (length {A = List ℕ}) told.same in
     let many_pages : length told.pages ≡ pages = told.many in
     let many_faults : length told.faults ≡ faults = omega arith in
     let fits_pages : length told.pages < 2 ^ 64 = omega arith in
     let fits_faults : length told.faults < 2 ^ 64 = omega arith in
     record {
-      shown = BuiltPages told.pages told.faults;
+      shown = OfBuild (BuiltPages told.pages told.faults);
       valid = (fits_pages, fits_faults, told.valid, told.sound);
-      words = rw (many_pages, many_faults, first, last) (ap (λ (l : List ℕ). codes "built " ++ l) (append_assoc second (32 ∷ []) third));
+      words = rw (many_pages, many_faults, first, last)
+          (ap (λ (l : List ℕ). codes "built " ++ l) (append_assoc second (32 ∷ []) third));
       below = told.same;
     }
 
-refused_words : (code second third : List ℕ) → code ≡ second → codes "refused " ++ code ++ codes " " ++ third ≡ codes "refused" ++ 32 ∷ (second ++ 32 ∷ third)
-refused_words code second third is = rw is (ap (λ (l : List ℕ). codes "refused " ++ l) (append_assoc second (32 ∷ []) third))
+refused_words : (code second third : List ℕ) → code ≡ second
+    → codes "refused " ++ code ++ codes " " ++ third ≡ codes "refused" ++ 32 ∷ (second ++ 32 ∷ third)
+refused_words code second third is =
+    rw is (ap (λ (l : List ℕ). codes "refused " ++ l) (append_assoc second (32 ∷ []) third))
 
-three_shown : (word second third reply : List ℕ) (below : Below) (lines : List (List ℕ)) → word ++ 32 ∷ (second ++ 32 ∷ third) ≡ reply → below_three word second third ≡ Some below
+three_shown : (word second third reply : List ℕ) (below : Below) (lines : List (List ℕ))
+    → word ++ 32 ∷ (second ++ 32 ∷ third) ≡ reply → below_three word second third ≡ Some below
     → FitFrom below 0 lines → length lines ≡ count_of below → HasShown reply lines
 three_shown word second third reply below lines is said fit many =
     either (HasShown reply lines) (bytes_eq word (codes "refused")) _ _ below said
@@ -255,26 +329,33 @@ three_shown word second third reply below lines is said fit many =
     record {
       shown = RefusedFor code.0 n.0;
       valid = n.1;
-      words = ap (λ (l : List ℕ). codes "refused " ++ pyx_code_text code.0 ++ codes " " ++ l) n.2 ∙ refused_words (pyx_code_text code.0) second third code.1
+      words = ap (λ (l : List ℕ). codes "refused " ++ pyx_code_text code.0 ++ codes " " ++ l) n.2
+          ∙ refused_words (pyx_code_text code.0) second third code.1
           ∙ ap (λ (l : List ℕ). l ++ 32 ∷ (second ++ 32 ∷ third)) (sym (is_word _ _ refused)) ∙ is;
       below = no_lines lines below test.1 many;
     })
     (λ said1. either (HasShown reply lines) (bytes_eq word (codes "built")) _ _ below said1
-    (λ built found. let n = both_there _ _ below found in let first = number_says 64 n.0 second n.2 in let last = number_says 64 n.1 third n.3 in
-    subst (λ (l : List ℕ). HasShown l lines) (ap (λ (l : List ℕ). l ++ 32 ∷ (second ++ 32 ∷ third)) (sym (is_word _ _ built)) ∙ is)
-    (built_shown n.0 n.1 second third below lines first.0 last.0 first.1 last.1 n.4 fit many))
+    (λ built found. let n = both_there _ _ below found in let first = number_says 64 n.0 second n.2
+    in let last = number_says 64 n.1 third n.3 in
+    subst (λ (l : List ℕ). HasShown l lines)
+    (ap (λ (l : List ℕ). l ++ 32 ∷ (second ++ 32 ∷ third)) (sym (is_word _ _ built)) ∙ is)
+    (pages_shown n.0 n.1 second third below lines first.0 last.0 first.1 last.1 n.4 fit many))
     (λ none. absurd (no_such below none)))
 
-shown_by : (reply : List ℕ) (words : List (List ℕ)) (below : Below) (lines : List (List ℕ)) → words_of reply ≡ words → below_of words ≡ Some below → FitFrom below 0 lines → length lines ≡ count_of below → HasShown reply lines
+shown_by : (reply : List ℕ) (words : List (List ℕ)) (below : Below) (lines : List (List ℕ)) → spaced_parts reply ≡ words
+    → below_of words ≡ Some below → FitFrom below 0 lines → length lines ≡ count_of below → HasShown reply lines
 shown_by reply [] below lines is said fit many = absurd (no_such below said)
 shown_by reply (word ∷ []) below lines is said fit many =
     let test = if_none _ below said in
     let plain = lone_shown word test.0 in
     plainly plain.0 word reply lines plain.1 (words_one reply word is) (no_lines lines below test.1 many)
-shown_by reply (word ∷ second ∷ []) below lines is said fit many = two_shown word second reply below lines (words_two reply word second is) said fit many
-shown_by reply (word ∷ second ∷ third ∷ []) below lines is said fit many = three_shown word second third reply below lines (words_three reply word second third is) said fit many
+shown_by reply (word ∷ second ∷ []) below lines is said fit many =
+    two_shown word second reply below lines (words_two reply word second is) said fit many
+shown_by reply (word ∷ second ∷ third ∷ []) below lines is said fit many =
+    three_shown word second third reply below lines (words_three reply word second third is) said fit many
 shown_by reply (word ∷ second ∷ third ∷ fourth ∷ words) below lines is said fit many = absurd (no_such below said)
 
 -- what the reply announces stands below, and so it is shown
-pub shown_of : (reply : List ℕ) (below : Below) (lines : List (List ℕ)) → below_of (words_of reply) ≡ Some below → FitFrom below 0 lines → length lines ≡ count_of below → HasShown reply lines
-shown_of reply below lines said fit many = shown_by reply (words_of reply) below lines refl said fit many
+pub shown_of : (reply : List ℕ) (below : Below) (lines : List (List ℕ)) → below_of (spaced_parts reply) ≡ Some below
+    → FitFrom below 0 lines → length lines ≡ count_of below → HasShown reply lines
+shown_of reply below lines said fit many = shown_by reply (spaced_parts reply) below lines refl said fit many

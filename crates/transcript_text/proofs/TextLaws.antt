@@ -2,16 +2,17 @@
 use Rattle.std.specs.Prelude.{◌≡◌, ◌⊎◌, ◌<◌, ◌^◌, ℕ, Bool, true, false, List, [], ◌∷◌, ◌++◌, None, codes, MatchBool}
 use Rattle.std.specs.Fmt.{decimal}
 use Rattle.std.proofs.Common.{refl, sym, ap, ◌∙◌, inl, inr, arith}
-use Rattle.dita_doc.specs.Transcript.{IsNameShown, name_line, PageMark, InOutlet, InRow, IsMark, mark_words, PageShown, page_line}
-use Rattle.transcript_text.specs.Words.{words_of}
+use Rattle.transcript_text.specs.Transcript.{IsNameShown, name_line, PageMark, InOutlet, InRow, IsMark, mark_words, PageShown, page_line}
+use Rattle.dita_doc.specs.Bytes.{spaced_parts}
 use Rattle.transcript_text.specs.Below.{IsLastNumber, IsNameText, IsPageText, below_of}
 use Rattle.transcript_text.proofs.LackLaws.{lacks_decimal, lacks_name}
 use Rattle.transcript_text.proofs.WordLaws.{words_behind, words_some, one_word, words_same}
 
-pub decimal_word : (n : ℕ) → n < 2 ^ 64 → words_of (decimal n) ≡ decimal n ∷ []
+pub decimal_word : (n : ℕ) → n < 2 ^ 64 → spaced_parts (decimal n) ≡ decimal n ∷ []
 decimal_word n small = one_word (decimal n) (lacks_decimal 32 n (λ range. omega (arith, range.0)) small)
 
-pub name_word : (name rest : List ℕ) → IsNameShown name → words_of (name ++ 32 ∷ [] ++ rest) ≡ name ∷ words_of rest
+pub name_word : (name rest : List ℕ) → IsNameShown name
+    → spaced_parts (name ++ 32 ∷ [] ++ rest) ≡ name ∷ spaced_parts rest
 name_word name rest is = words_behind name rest (lacks_name 32 name (omega arith) is.named)
 
 -- a name with its version
@@ -20,10 +21,11 @@ pub record HasNameWords (text : List ℕ) : Type 0 where
   pub name : List ℕ
   pub rest : List (List ℕ)
   pub named : IsNameShown name
-  pub words : words_of text ≡ name ∷ rest
+  pub words : spaced_parts text ≡ name ∷ rest
   pub last : IsLastNumber rest
 
-pub name_words : (name : List ℕ) (n : ℕ) → IsNameShown name → n < 2 ^ 64 → words_of (name_line (name, n)) ≡ name ∷ decimal n ∷ []
+pub name_words : (name : List ℕ) (n : ℕ) → IsNameShown name → n < 2 ^ 64
+    → spaced_parts (name_line (name, n)) ≡ name ∷ decimal n ∷ []
 name_words name n is small = name_word name (decimal n) is ∙ ap (λ words. name ∷ words) (decimal_word n small)
 
 pub name_text_words : (text : List ℕ) → IsNameText text → HasNameWords text
@@ -34,17 +36,23 @@ name_text_words text is =
       name = named.0;
       rest = decimal named.1 ∷ [];
       named = valid.name;
-      words = ap words_of is.2 ∙ name_words named.0 named.1 valid.name valid.version;
+      words = ap spaced_parts is.2 ∙ name_words named.0 named.1 valid.name valid.version;
       last = (named.1, valid.version, refl);
     }
 
-pub name_text_from : (text name : List ℕ) (rest : List (List ℕ)) → IsNameShown name → words_of text ≡ name ∷ rest → IsLastNumber rest → IsNameText text
+pub name_text_from : (text name : List ℕ) (rest : List (List ℕ)) → IsNameShown name → spaced_parts text ≡ name ∷ rest
+    → IsLastNumber rest → IsNameText text
 name_text_from text name rest named words last =
     let n = last.0 in
-    let small = last.1 in
-    ((name, n), record { name = named; version = small }, words_same text (name_line (name, n)) (words ∙ ap (λ more. name ∷ more) last.2 ∙ sym (name_words name n named small)))
+    let small = last.1 in (
+      (name, n),
+      record { name = named; version = small },
+      words_same text (name_line (name, n))
+          (words ∙ ap (λ more. name ∷ more) last.2 ∙ sym (name_words name n named small)),
+    )
 
-pub name_text_by : (text name : List ℕ) (rest : List (List ℕ)) (test : Bool) → IsNameShown name → words_of text ≡ name ∷ rest → MatchBool test (IsLastNumber rest) (IsLastNumber rest → ⊥)
+pub name_text_by : (text name : List ℕ) (rest : List (List ℕ)) (test : Bool) → IsNameShown name
+    → spaced_parts text ≡ name ∷ rest → MatchBool test (IsLastNumber rest) (IsLastNumber rest → ⊥)
     → MatchBool test (IsNameText text) (IsNameText text → ⊥)
 name_text_by text name rest true named words last = name_text_from text name rest named words last
 name_text_by text name rest false named words none = λ is.
@@ -59,20 +67,24 @@ pub record HasPageWords (text : List ℕ) : Type 0 where
   pub mark : List ℕ
   pub rest : List (List ℕ)
   pub named : IsNameShown name
-  pub words : words_of text ≡ codes "page" ∷ name ∷ mark ∷ rest
+  pub words : spaced_parts text ≡ codes "page" ∷ name ∷ mark ∷ rest
   pub kind : (mark ≡ codes "bytes") ⊎ (mark ≡ codes "row")
   pub last : IsLastNumber rest
 
-pub page_words : (name : List ℕ) (mark : PageMark) → IsNameShown name → words_of (page_line (record { name = name; mark = mark })) ≡ codes "page" ∷ name ∷ words_of (mark_words mark)
+pub page_words : (name : List ℕ) (mark : PageMark) → IsNameShown name
+    → spaced_parts (page_line (record { name = name; mark = mark })) ≡ codes "page" ∷ name ∷ spaced_parts
+    (mark_words mark)
 page_words name mark is = ap (λ words. codes "page" ∷ words) (name_word name (mark_words mark) is)
 
-page_text_of : (text name : List ℕ) (mark : PageMark) → IsNameShown name → IsMark mark → text ≡ page_line (record { name = name; mark = mark }) → HasPageWords text
+page_text_of : (text name : List ℕ) (mark : PageMark) → IsNameShown name → IsMark mark
+    → text ≡ page_line (record { name = name; mark = mark }) → HasPageWords text
 page_text_of text name (InOutlet n) named small is = record {
   name = name;
   mark = codes "bytes";
   rest = decimal n ∷ [];
   named = named;
-  words = ap words_of is ∙ page_words name (InOutlet n) named ∙ ap (λ words. codes "page" ∷ name ∷ codes "bytes" ∷ words) (decimal_word n small);
+  words = ap spaced_parts is ∙ page_words name (InOutlet n) named
+      ∙ ap (λ words. codes "page" ∷ name ∷ codes "bytes" ∷ words) (decimal_word n small);
   kind = inl refl;
   last = (n, small, refl);
 }
@@ -81,7 +93,8 @@ page_text_of text name (InRow n) named small is = record {
   mark = codes "row";
   rest = decimal n ∷ [];
   named = named;
-  words = ap words_of is ∙ page_words name (InRow n) named ∙ ap (λ words. codes "page" ∷ name ∷ codes "row" ∷ words) (decimal_word n small);
+  words = ap spaced_parts is ∙ page_words name (InRow n) named
+      ∙ ap (λ words. codes "page" ∷ name ∷ codes "row" ∷ words) (decimal_word n small);
   kind = inr refl;
   last = (n, small, refl);
 }
@@ -89,7 +102,8 @@ page_text_of text name (InRow n) named small is = record {
 pub page_text_words : (text : List ℕ) → IsPageText text → HasPageWords text
 page_text_words text is = page_text_of text is.0.name is.0.mark is.1.name is.1.mark is.2
 
-pub page_text_from : (text name mark : List ℕ) (rest : List (List ℕ)) → IsNameShown name → words_of text ≡ codes "page" ∷ name ∷ mark ∷ rest
+pub page_text_from : (text name mark : List ℕ) (rest : List (List ℕ)) → IsNameShown name
+    → spaced_parts text ≡ codes "page" ∷ name ∷ mark ∷ rest
     → (mark ≡ codes "bytes") ⊎ (mark ≡ codes "row") → IsLastNumber rest → IsPageText text
 page_text_from text name mark rest named words (inl kind) last =
     let n = last.0 in
@@ -98,7 +112,9 @@ page_text_from text name mark rest named words (inl kind) last =
       page,
       record { name = named; mark = small },
       words_same text (page_line page)
-          (words ∙ ap (λ m. codes "page" ∷ name ∷ m ∷ rest) kind ∙ ap (λ more. codes "page" ∷ name ∷ codes "bytes" ∷ more) (last.2 ∙ sym (decimal_word n small)) ∙ sym (page_words name (InOutlet n) named)),
+          (words ∙ ap (λ m. codes "page" ∷ name ∷ m ∷ rest) kind
+          ∙ ap (λ more. codes "page" ∷ name ∷ codes "bytes" ∷ more) (last.2 ∙ sym (decimal_word n small))
+          ∙ sym (page_words name (InOutlet n) named)),
     )
 page_text_from text name mark rest named words (inr kind) last =
     let n = last.0 in
@@ -107,11 +123,15 @@ page_text_from text name mark rest named words (inr kind) last =
       page,
       record { name = named; mark = small },
       words_same text (page_line page)
-          (words ∙ ap (λ m. codes "page" ∷ name ∷ m ∷ rest) kind ∙ ap (λ more. codes "page" ∷ name ∷ codes "row" ∷ more) (last.2 ∙ sym (decimal_word n small)) ∙ sym (page_words name (InRow n) named)),
+          (words ∙ ap (λ m. codes "page" ∷ name ∷ m ∷ rest) kind
+          ∙ ap (λ more. codes "page" ∷ name ∷ codes "row" ∷ more) (last.2 ∙ sym (decimal_word n small))
+          ∙ sym (page_words name (InRow n) named)),
     )
 
-pub page_text_by : (text name mark : List ℕ) (rest : List (List ℕ)) (test : Bool) → IsNameShown name → words_of text ≡ codes "page" ∷ name ∷ mark ∷ rest
-    → (mark ≡ codes "bytes") ⊎ (mark ≡ codes "row") → MatchBool test (IsLastNumber rest) (IsLastNumber rest → ⊥) → MatchBool test (IsPageText text) (IsPageText text → ⊥)
+pub page_text_by : (text name mark : List ℕ) (rest : List (List ℕ)) (test : Bool) → IsNameShown name
+    → spaced_parts text ≡ codes "page" ∷ name ∷ mark ∷ rest
+    → (mark ≡ codes "bytes") ⊎ (mark ≡ codes "row") → MatchBool test (IsLastNumber rest) (IsLastNumber rest → ⊥)
+    → MatchBool test (IsPageText text) (IsPageText text → ⊥)
 page_text_by text name mark rest true named words kind last = page_text_from text name mark rest named words kind last
 page_text_by text name mark rest false named words kind none = λ is.
     let told = page_text_words text is in
@@ -123,5 +143,8 @@ four_words : (a b c : List ℕ) (words : List (List ℕ)) → (words ≡ [] → 
 four_words a b c [] some = absurd (some refl)
 four_words a b c (word ∷ words) some = refl
 
-pub below_many : (reply first a second b third c : List ℕ) → words_of reply ≡ first ∷ words_of a → words_of a ≡ second ∷ words_of b → words_of b ≡ third ∷ words_of c → None ≡ below_of (words_of reply)
-below_many reply first a second b third c one two three = rw (one, two, three) (four_words first second third (words_of c) (words_some c))
+pub below_many : (reply first a second b third c : List ℕ) → spaced_parts reply ≡ first ∷ spaced_parts a
+    → spaced_parts a ≡ second ∷ spaced_parts b → spaced_parts b ≡ third ∷ spaced_parts c
+    → None ≡ below_of (spaced_parts reply)
+below_many reply first a second b third c one two three =
+    rw (one, two, three) (four_words first second third (spaced_parts c) (words_some c))

@@ -1,140 +1,128 @@
--- UTF-8, byte by byte: texts with escapes, and the lines of a text.
-use Rattle.std.specs.Prelude.{◌≡◌, ◌<◌, ◌≤◌, ◌==◌, ℕ, suc, Bool, true, false, List, [], ◌∷◌, ◌++◌, length, All, if◌then◌else◌}
-use Rattle.std.specs.Str.{IsUtf8, is_utf8}
-use Rattle.std.proofs.Common.{refl, sym, subst, arith, get_or, ltb, eqb}
-use Rattle.std.proofs.Math.Utf8.{scalar, scalars, encode, encodes}
-use Rattle.std.proofs.lemmas.Bool.{and_parts, ltb-true, ltb-false}
-use Rattle.std.proofs.lemmas.Bool.Decides.{nat_tests}
-use Rattle.std.proofs.lemmas.List.{append-nil}
-use Rattle.std.proofs.lemmas.List.Elements.{All-nil, All-cons, All-head, All-tail}
-use Rattle.std.proofs.lemmas.Str.{inside_one, encode_ascii, length-encode, len_utf8_bounds, IsUtf8-encode, IsUtf8-append, IsUtf8-nil, IsUtf8-from_ascii, IsUtf8-from_is_utf8, is_utf8-from_IsUtf8}
-use Rattle.std.proofs.lemmas.Str.Ascii.{IsAscii-cons, IsAscii-nil}
-use Rattle.dita_doc.specs.Canonical.{escaped, escaped_byte}
-use Rattle.dita_doc.specs.Lines.{lines_of, before_lines}
+-- What is shown is UTF-8: the words of replies, and the lines below entries.
+use Rattle.std.specs.Prelude.{◌≡◌, ◌<◌, ◌^◌, ℕ, Bool, true, false, List, [], ◌∷◌, ◌++◌, Some, codes, length, nat_lt, MatchBool}
+use Rattle.std.specs.Fmt.{decimal}
+use Rattle.std.specs.Str.{IsUtf8}
+use Rattle.std.proofs.Common.{refl, subst, sym, arith}
+use Rattle.std.proofs.lemmas.Bool.{and_parts, ltb-true}
+use Rattle.std.proofs.lemmas.Fmt.{IsAscii-decimal}
+use Rattle.std.proofs.lemmas.Str.{IsUtf8-nil, IsUtf8-append, IsUtf8-from_ascii, IsUtf8-from_is_utf8}
+use Rattle.dita_doc.specs.declared.plan.PlanStop.{PlanStop}
+use Rattle.dita_doc.specs.declared.plan.PlanStop.TheVariants as stops
+use Rattle.dita_doc.specs.Bytes.{space, spaced_parts}
+use Rattle.dita_doc.specs.Desk.{stored_limit}
+use Rattle.dita_doc.specs.Faults.{pyx_code_text, fault_code_text}
+use Rattle.dita_doc.proofs.Utf8Laws.{utf8_cons}
+use Rattle.transcript_text.specs.Transcript.{Shown, StoredAt, RemovedAt, ConflictAt, IsAbsent, IsFull, RefusedFor, Lines, Names, OfBuild, BuildShown, BuiltPages, StoppedBy, PagesTooLarge, NotYetBuilt, IsBuildShown, IsShown, shown_words, built_words, stop_text, IsNameShown, PageMark, InOutlet, InRow, IsMark, mark_words, with_detail}
+use Rattle.transcript_text.specs.declared.below.Below.{Below}
+use Rattle.transcript_text.specs.declared.below.Below.TheVariants as belows
+use Rattle.transcript_text.specs.Below.{count_of, FitsAt, IsNameText, IsPageText, IsFaultText, below_of}
+use Rattle.transcript_text.proofs.AliveLaws.{pads, pads_fit, pads_many}
+use Rattle.transcript_text.proofs.CodeLaws.{is_low, fault_code_low, pyx_code_low}
+use Rattle.transcript_text.proofs.HeadLaws.{small_from}
+use Rattle.transcript_text.proofs.ShownLaws.{shown_of}
 
--- bytes of characters that are no ASCII
-abbrev pub AreHigh : List ℕ → Type 0
-AreHigh [] = Unit {0}
-AreHigh (b ∷ bytes) = (128 ≤ b) × AreHigh bytes
+-- bytes of ASCII alone
+low_utf8 : (text : List ℕ) → is_low text ≡ true → IsUtf8 text
+low_utf8 [] e = IsUtf8-nil
+low_utf8 (b ∷ text) e =
+    let parts = and_parts (nat_lt b 128) (is_low text) e in
+    utf8_cons b text (ltb-true _ _ parts.0) (low_utf8 text parts.1)
 
-high_from : (bytes : List ℕ) → ((k : ℕ) → k < length bytes → 128 ≤ get_or bytes k 0) → AreHigh bytes
-high_from [] each = tt
-high_from (b ∷ bytes) each = (each 0 (omega arith), high_from bytes (λ k less. each (suc k) (omega arith)))
+number_utf8 : (n : ℕ) → n < 2 ^ 64 → IsUtf8 (decimal n)
+number_utf8 n small = IsUtf8-from_ascii (decimal n) (IsAscii-decimal n small)
 
-high_byte : (x c : ℕ) (low : Bool) → ltb x 128 ≡ low → (x < 128 → c ≡ x) → 128 ≤ c → 128 ≤ x
-high_byte x c true e one high = let less : x < 128 = ltb-true _ _ e in let same = one less in omega arith
-high_byte x c false e one high = ltb-false _ _ e
+-- words of ASCII, and a number
+numbered_utf8 : (words : List ℕ) (n : ℕ) → is_low words ≡ true → n < 2 ^ 64 → IsUtf8 (words ++ decimal n)
+numbered_utf8 words n low small = IsUtf8-append words (decimal n) (low_utf8 words low) (number_utf8 n small)
 
--- such a character has no ASCII byte
-high_encode : (c : ℕ) → 128 ≤ c → AreHigh (encode c)
-high_encode c high = high_from (encode c) (λ k less.
-    high_byte (get_or (encode c) k 0) c _ refl (λ low. inside_one c [] (encode c) k (sym (append-nil (encode c))) less low) high)
+-- two parts with a space between them
+spaced_utf8 : (x y : List ℕ) → IsUtf8 x → IsUtf8 y → IsUtf8 (x ++ space ∷ [] ++ y)
+spaced_utf8 x y first second =
+    IsUtf8-append (x ++ space ∷ []) y (IsUtf8-append x (space ∷ []) first (low_utf8 (space ∷ []) refl)) second
 
--- what holds of the empty text, and of one more character in front, ASCII or not
-record Grows (P : List ℕ → Type 0) : Type 0 where
-  none : P []
-  low : (b : ℕ) (rest : List ℕ) → b < 128 → P rest → P (b ∷ rest)
-  high : (char rest : List ℕ) → AreHigh char → 0 < length char → IsUtf8 char → P rest → P (char ++ rest)
+-- Replies
 
-grow_char : (P : List ℕ → Type 0) (c : ℕ) (cs : List ℕ) (low : Bool) → ltb c 128 ≡ low → Grows P → scalar c ≡ true → P (encodes cs) → P (encode c ++ encodes cs)
-grow_char P c cs true e grows first p =
-    let less : c < 128 = ltb-true _ _ e in
-    subst (λ (front : List ℕ). P (front ++ encodes cs)) (sym (encode_ascii c less)) (grows.low c (encodes cs) less p)
-grow_char P c cs false e grows first p =
-    let some : 0 < length (encode c) = omega (arith, length-encode c, len_utf8_bounds c) in
-    grows.high (encode c) (encodes cs) (high_encode c (ltb-false _ _ e)) some (IsUtf8-encode c first) p
+stop_low : (stop : PlanStop) → is_low (stop_text stop) ≡ true
+stop_low stops.NoMap = refl
+stop_low stops.NotMap = refl
+stop_low stops.NoDitaval = refl
+stop_low stops.TooManyNodes = refl
+stop_low stops.TooManyPages = refl
 
-grow_chars : (P : List ℕ → Type 0) (cs : List ℕ) → Grows P → scalars cs ≡ true → P (encodes cs)
-grow_chars P [] grows e = grows.none
-grow_chars P (c ∷ cs) grows e =
-    let parts = and_parts (scalar c) (scalars cs) e in
-    grow_char P c cs (ltb c 128) refl grows parts.0 (grow_chars P cs grows parts.1)
+build_utf8 : (built : BuildShown) → IsBuildShown built → IsUtf8 (built_words built)
+build_utf8 (BuiltPages pages faults) valid =
+    spaced_utf8 (codes "built " ++ decimal (length pages)) (decimal (length faults))
+    (numbered_utf8 (codes "built ") (length pages) refl valid.0) (number_utf8 (length faults) valid.1)
+build_utf8 (StoppedBy stop) valid = low_utf8 (stop_text stop) (stop_low stop)
+build_utf8 (PagesTooLarge total) small = numbered_utf8 (codes "toolarge ") total refl small
+build_utf8 NotYetBuilt valid = low_utf8 (codes "notyet") refl
 
--- holds of each text
-utf8_grows : (P : List ℕ → Type 0) (bytes : List ℕ) → Grows P → IsUtf8 bytes → P bytes
-utf8_grows P bytes grows utf8 = subst P utf8.1.1 (grow_chars P utf8.0 grows utf8.1.0)
+words_utf8 : (shown : Shown) → IsShown shown → IsUtf8 (shown_words shown)
+words_utf8 (StoredAt version) small = numbered_utf8 (codes "stored ") version refl small
+words_utf8 (RemovedAt version) small = numbered_utf8 (codes "removed ") version refl small
+words_utf8 (ConflictAt version) small = numbered_utf8 (codes "conflict ") version refl small
+words_utf8 IsAbsent valid = low_utf8 (codes "absent") refl
+words_utf8 IsFull valid = numbered_utf8 (codes "toomanynames ") stored_limit refl (omega arith)
+words_utf8 (RefusedFor code number) less =
+    spaced_utf8 (codes "refused " ++ pyx_code_text code) (decimal number)
+    (IsUtf8-append (codes "refused ") (pyx_code_text code) (low_utf8 (codes "refused ") refl)
+    (low_utf8 (pyx_code_text code) (pyx_code_low code))) (number_utf8 number (small_from number less))
+words_utf8 (Lines lines) valid = numbered_utf8 (codes "text ") (length lines) refl valid.0
+words_utf8 (Names names) valid = numbered_utf8 (codes "names ") (length names) refl valid.0
+words_utf8 (OfBuild built) valid = build_utf8 built valid
 
-utf8_cons : (b : ℕ) (rest : List ℕ) → b < 128 → IsUtf8 rest → IsUtf8 (b ∷ rest)
-utf8_cons b rest less utf8 = IsUtf8-append (b ∷ []) rest (IsUtf8-from_ascii (b ∷ []) (IsAscii-cons b [] less IsAscii-nil)) utf8
+-- a reply that says what stands below is one that is shown with such lines, and so its words are UTF-8
+pub reply_utf8 : (reply : List ℕ) (below : Below) → below_of (spaced_parts reply) ≡ Some below → IsUtf8 reply
+reply_utf8 reply below said =
+    let shown = shown_of reply below (pads below 0 (count_of below)) said (pads_fit below 0 (count_of below))
+    (pads_many below 0 (count_of below)) in
+    subst IsUtf8 shown.words (words_utf8 shown.shown shown.valid)
 
--- Escapes
+-- The lines below an entry
 
-utf8_if : (test : Bool) (x y : List ℕ) → IsUtf8 x → IsUtf8 y → IsUtf8 (if test then x else y)
-utf8_if true x y first second = first
-utf8_if false x y first second = second
+name_utf8 : (name : List ℕ) → IsNameShown name → IsUtf8 name
+name_utf8 name is = IsUtf8-from_is_utf8 name is.utf8
 
-utf8_escaped_byte : (b : ℕ) → b < 128 → IsUtf8 (escaped_byte b)
-utf8_escaped_byte b less =
-    utf8_if (b == 10) _ _ (utf8_cons 92 _ (omega arith) (utf8_cons 110 _ (omega arith) IsUtf8-nil))
-    (utf8_if (b == 9) _ _ (utf8_cons 92 _ (omega arith) (utf8_cons 116 _ (omega arith) IsUtf8-nil))
-    (utf8_if (b == 92) _ _ (utf8_cons 92 _ (omega arith) (utf8_cons 92 _ (omega arith) IsUtf8-nil)) (utf8_cons b _ less IsUtf8-nil)))
+name_text_utf8 : (text : List ℕ) → IsNameText text → IsUtf8 text
+name_text_utf8 text is =
+    subst IsUtf8 (sym is.2)
+    (spaced_utf8 is.0.0 (decimal is.0.1) (name_utf8 is.0.0 is.1.name) (number_utf8 is.0.1 is.1.version))
 
-high_escaped : (char rest : List ℕ) → AreHigh char → escaped (char ++ rest) ≡ char ++ escaped rest
-high_escaped [] rest high = refl
-high_escaped (b ∷ char) rest high =
-    let above : 128 ≤ b = high.0 in
-    let feed : eqb b 10 ≡ false = grind (arith, nat_tests) in
-    let tab : eqb b 9 ≡ false = grind (arith, nat_tests) in
-    let slash : eqb b 92 ≡ false = grind (arith, nat_tests) in
-    rw (feed, tab, slash, high_escaped char rest high.1) refl
+mark_utf8 : (mark : PageMark) → IsMark mark → IsUtf8 (mark_words mark)
+mark_utf8 (InOutlet n) small = numbered_utf8 (codes "bytes ") n refl small
+mark_utf8 (InRow n) small = numbered_utf8 (codes "row ") n refl small
 
-abbrev EscapesWell : List ℕ → Type 0
-EscapesWell bytes = IsUtf8 (escaped bytes)
+page_text_utf8 : (text : List ℕ) → IsPageText text → IsUtf8 text
+page_text_utf8 text is =
+    subst IsUtf8 (sym is.2)
+    (spaced_utf8 (codes "page " ++ is.0.name) (mark_words is.0.mark)
+    (IsUtf8-append (codes "page ") is.0.name (low_utf8 (codes "page ") refl) (name_utf8 is.0.name is.1.name))
+    (mark_utf8 is.0.mark is.1.mark))
 
-escapes_grow : Grows EscapesWell
-escapes_grow = record {
-  none = IsUtf8-nil;
-  low = λ b rest less well. IsUtf8-append (escaped_byte b) (escaped rest) (utf8_escaped_byte b less) well;
-  high = λ char rest high some first well. subst IsUtf8 (sym (high_escaped char rest high)) (IsUtf8-append char _ first well);
-}
+detail_utf8 : (detail : List ℕ) → IsUtf8 detail → IsUtf8 (with_detail detail)
+detail_utf8 [] utf8 = IsUtf8-nil
+detail_utf8 (b ∷ detail) utf8 = utf8_cons space (b ∷ detail) (omega arith) utf8
 
--- a text with escapes is UTF-8
-pub utf8_escaped : (bytes : List ℕ) → is_utf8 bytes ≡ true → is_utf8 (escaped bytes) ≡ true
-utf8_escaped bytes utf8 = is_utf8-from_IsUtf8 (escaped bytes) (utf8_grows EscapesWell bytes escapes_grow (IsUtf8-from_is_utf8 bytes utf8))
+fault_text_utf8 : (text : List ℕ) → IsFaultText text → IsUtf8 text
+fault_text_utf8 text is =
+    let fault = is.0 in
+    let valid = is.1 in
+    let name = IsUtf8-append fault.name (codes ":") (name_utf8 fault.name valid.name) (low_utf8 (codes ":") refl) in
+    let place = IsUtf8-append (fault.name ++ codes ":") (decimal fault.line) name
+    (number_utf8 fault.line (small_from fault.line valid.line)) in
+    let coded = spaced_utf8 (fault.name ++ codes ":" ++ decimal fault.line) (fault_code_text fault.code) place
+    (low_utf8 (fault_code_text fault.code) (fault_code_low fault.code)) in
+    subst IsUtf8 (sym is.2)
+    (IsUtf8-append (fault.name ++ codes ":" ++ decimal fault.line ++ codes " " ++ fault_code_text fault.code)
+    (with_detail fault.detail) coded
+    (detail_utf8 fault.detail (IsUtf8-from_is_utf8 fault.detail valid.detail.utf8)))
 
--- Lines
+built_text_utf8 : (test : Bool) (text : List ℕ) → MatchBool test (IsPageText text) (IsFaultText text) → IsUtf8 text
+built_text_utf8 true text is = page_text_utf8 text is
+built_text_utf8 false text is = fault_text_utf8 text is
 
--- a text, put before the first of some lines
-abbrev onto_lines : List ℕ → List (List ℕ) → List (List ℕ)
-onto_lines [] lines = lines
-onto_lines (b ∷ text) lines = before_lines b (onto_lines text lines)
-
-onto_some : (text first : List ℕ) (lines : List (List ℕ)) → onto_lines text (first ∷ lines) ≡ (text ++ first) ∷ lines
-onto_some [] first lines = refl
-onto_some (b ∷ text) first lines = rw (onto_some text first lines) refl
-
-onto_none : (b : ℕ) (text : List ℕ) → onto_lines (b ∷ text) [] ≡ (b ∷ text) ∷ []
-onto_none b [] = refl
-onto_none b (c ∷ text) = rw (onto_none c text) refl
-
-high_lines : (char rest : List ℕ) → AreHigh char → lines_of (char ++ rest) ≡ onto_lines char (lines_of rest)
-high_lines [] rest high = refl
-high_lines (b ∷ char) rest high =
-    let above : 128 ≤ b = high.0 in
-    let feed : eqb b 10 ≡ false = grind (arith, nat_tests) in
-    rw (feed, high_lines char rest high.1) refl
-
-utf8_onto : (char : List ℕ) (lines : List (List ℕ)) → 0 < length char → IsUtf8 char → All IsUtf8 lines → All IsUtf8 (onto_lines char lines)
-utf8_onto [] lines some first all = absurd (omega arith)
-utf8_onto (b ∷ char) [] some first all = rw (onto_none b char) (All-cons IsUtf8 (b ∷ char) [] first (All-nil IsUtf8))
-utf8_onto (b ∷ char) (text ∷ lines) some first all =
-    subst (All IsUtf8) (sym (onto_some (b ∷ char) text lines))
-    (All-cons IsUtf8 ((b ∷ char) ++ text) lines (IsUtf8-append (b ∷ char) text first (All-head IsUtf8 text lines all)) (All-tail IsUtf8 text lines all))
-
-low_lines : (b : ℕ) (lines : List (List ℕ)) (feed : Bool) → b < 128 → All IsUtf8 lines → All IsUtf8 (if feed then [] ∷ lines else before_lines b lines)
-low_lines b lines true less all = All-cons IsUtf8 [] lines IsUtf8-nil all
-low_lines b lines false less all = utf8_onto (b ∷ []) lines (omega arith) (utf8_cons b [] less IsUtf8-nil) all
-
-abbrev LinesWell : List ℕ → Type 0
-LinesWell bytes = All IsUtf8 (lines_of bytes)
-
-lines_grow : Grows LinesWell
-lines_grow = record {
-  none = All-nil IsUtf8;
-  low = λ b rest less well. low_lines b (lines_of rest) (b == 10) less well;
-  high = λ char rest high some first well. subst (All IsUtf8) (sym (high_lines char rest high)) (utf8_onto char (lines_of rest) some first well);
-}
-
--- the lines of a text are UTF-8
-pub utf8_lines : (bytes : List ℕ) → is_utf8 bytes ≡ true → All IsUtf8 (lines_of bytes)
-utf8_lines bytes utf8 = utf8_grows LinesWell bytes lines_grow (IsUtf8-from_is_utf8 bytes utf8)
+-- what may stand on a line is UTF-8
+pub fits_utf8 : (below : Below) (at : ℕ) (text : List ℕ) → FitsAt below at text → IsUtf8 text
+fits_utf8 (belows.Texts count) at text is = IsUtf8-from_is_utf8 text is.utf8
+fits_utf8 (belows.Names count) at text is = name_text_utf8 text is
+fits_utf8 (belows.Built pages faults) at text is = built_text_utf8 (nat_lt at pages) text is

@@ -3,10 +3,9 @@ use Rattle.std.specs.Prelude.{◌≡◌, ◌<◌, ◌⊎◌, ℕ, List, ◌++◌
 use Rattle.std.specs.List.{flat_map}
 use Rattle.dita_doc.specs.declared.stop.Stop.{Stop}
 use Rattle.dita_doc.specs.declared.stop.Stop.TheVariants.{Fault, NoMemory}
-use Rattle.dita_doc.specs.Lines.{lines_of}
-use Rattle.dita_doc.specs.Page.{line}
-use Rattle.dita_doc.specs.Transcript.{IsTranscript, transcript_text}
-use Rattle.dita_doc.specs.Transcript as shown
+use Rattle.dita_doc.specs.Lines.{lines_of, line}
+use Rattle.transcript_text.specs.Transcript.{IsTranscript, transcript_text}
+use Rattle.transcript_text.specs.Transcript as shown
 use Rattle.transcript_text.specs.declared.transcript.Transcript.{Transcript}
 use Rattle.transcript_text.specs.declared.transcript.BadTranscript.{BadTranscript}
 use Rattle.transcript_text.specs.Told.{told}
@@ -23,8 +22,8 @@ Begins front = (s : shown.Transcript) × IsTranscript s × (rest : List ℕ) × 
 abbrev pub first_lines : ℕ → List ℕ → List ℕ
 first_lines count bytes = flat_map line (take count (lines_of bytes))
 
--- The bytes are no transcript, and this is the first line up to which none begins so, or else the last one. A rest without LF is
--- a line.
+-- The bytes are no transcript, and this is the first line up to which none begins so, or else the last one. A rest
+-- without LF is a line.
 pub record IsBadAt (bytes : List ℕ) (number : ℕ) : Type 0 where
   pub none : (s : shown.Transcript) → IsTranscript s → transcript_text s ≡ bytes → ⊥
   pub before : (m : ℕ) → m < number → Begins (first_lines m bytes)

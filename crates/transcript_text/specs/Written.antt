@@ -1,12 +1,12 @@
 -- What is written of entries, in the words of `Transcript`.
-use Rattle.std.specs.Prelude.{◌≡◌, ℕ, Bool, true, false, List, ◌++◌, Option, Some, None, map, codes}
+use Rattle.std.specs.Prelude.{◌≡◌, ◌++◌, ℕ, Bool, true, false, List, Option, codes, map, option_map}
 use Rattle.std.specs.Fmt.{decimal}
 use Rattle.std.specs.List.{flat_map}
 use Rattle.std.specs.Str.{is_utf8}
 use Rattle.dita_doc.specs.Desk.{Reply, IsStored, IsRemoved, Bytes, NameList, IsRefused, Conflict, Absent, TooManyNames, Begun}
-use Rattle.dita_doc.specs.Page.{line}
-use Rattle.dita_doc.specs.Transcript.{Shown, PageShown, BuiltPages, StoppedBy, PagesTooLarge, NotYetBuilt, InOutlet, InRow, shown_words, shown_lines, bar_line, fault_shown}
-use Rattle.dita_doc.specs.Transcript as shown
+use Rattle.dita_doc.specs.Lines.{line}
+use Rattle.transcript_text.specs.Transcript.{Shown, PageShown, BuildShown, BuiltPages, StoppedBy, PagesTooLarge, NotYetBuilt, InOutlet, InRow, shown_words, shown_lines, bar_line, fault_shown}
+use Rattle.transcript_text.specs.Transcript as shown
 use Rattle.transcript_text.specs.declared.built.PageMark.{PageMark}
 use Rattle.transcript_text.specs.declared.built.PageMark.TheVariants as marks
 use Rattle.transcript_text.specs.declared.built.BuiltText.{BuiltText}
@@ -19,16 +19,16 @@ mark_shown (marks.Row serial) = InRow serial
 abbrev pub page_shown : List ℕ × PageMark → PageShown
 page_shown page = record { name = page.0; mark = mark_shown page.1 }
 
-abbrev pub build_shown : BuiltText → Shown
-build_shown (builds.Pages pages faults) = BuiltPages (map page_shown pages) (map fault_shown faults)
-build_shown (builds.Stopped stop) = StoppedBy stop
-build_shown (builds.TooLarge total) = PagesTooLarge total
-build_shown builds.NotYet = NotYetBuilt
+-- what a build gave, as it is shown
+abbrev pub text_shown : BuiltText → BuildShown
+text_shown (builds.Pages pages faults) = BuiltPages (map page_shown pages) (map fault_shown faults)
+text_shown (builds.Stopped stop) = StoppedBy stop
+text_shown (builds.TooLarge total) = PagesTooLarge total
+text_shown builds.NotYet = NotYetBuilt
 
--- what is shown of the build of an entry
-abbrev pub built_shown : Option BuiltText → Shown
-built_shown None = NotYetBuilt
-built_shown (Some built) = build_shown built
+-- and that of the build of an entry, if it has one
+abbrev pub built_shown : Option BuiltText → Option BuildShown
+built_shown built = option_map text_shown built
 
 -- the reply is that a build has its place
 abbrev pub is_begun : Reply → Bool
@@ -56,7 +56,8 @@ IsText Begun = Unit {0}
 
 -- the beginning of an entry: its three numbers
 abbrev pub numbers_text : ℕ → ℕ → ℕ → List ℕ
-numbers_text place session number = codes "entry " ++ decimal place ++ codes " " ++ decimal session ++ codes " " ++ decimal number ++ codes " "
+numbers_text place session number =
+    codes "entry " ++ decimal place ++ codes " " ++ decimal session ++ codes " " ++ decimal number ++ codes " "
 
 -- the rest of an entry behind its three numbers: the rest of its line, and the lines below
 abbrev pub shown_text : Shown → List ℕ

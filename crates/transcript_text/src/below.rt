@@ -1,14 +1,15 @@
 //! The lines below an entry.
 
-ghost use Rattle.std.specs.Prelude.{◌≡◌, ◌∷◌, codes, MatchBool, MatchOption, true};
-ghost use Rattle.dita_doc.specs.Cut.{Lacks};
-ghost use Rattle.transcript_text.specs.Words.{words_of, words_in, IsCutAtLast};
-ghost use Rattle.transcript_text.specs.Below.{below_of, below_one, below_two, below_three, lone_words, numbered_words, is_among, is_pyx_code as is_pyx_code_of, is_fault_code as is_fault_code_of, FitsAt, IsNameText, IsPageText, IsFaultText, IsCodeText, IsDetail, IsPlaceText, IsLastNumber};
+ghost use Rattle.std.specs.Prelude.{◌≡◌, MatchBool};
+ghost use Rattle.dita_doc.specs.Bytes as bytes_spec;
+ghost use Rattle.dita_doc.specs.Cut as cut_spec;
+ghost use Rattle.transcript_text.specs.Below as below_spec;
+ghost use Rattle.transcript_text.specs.Words as words_spec;
 
 use crate::word::{
-    is_name_word, is_utf8, number32, number64, split_word, take_name, take_number64, take_word,
+    is_name_word, number32, number64, split_word, take_name, take_number64, take_word,
 };
-use dita_doc::{FaultCode, PyxCode, split_at_first};
+use dita_doc::{FaultCode, PyxCode, is_utf8, split_at_first, split_at_last};
 
 /// What lines stand below an entry.
 #[derive(Clone, Copy, Debug)]
@@ -21,7 +22,7 @@ pub enum Below {
     Built(u64, u64),
 }
 
-/// All codes, in their order.
+/// All codes of PYX faults, in their order.
 pub const PYX_CODES: [PyxCode; 12] = [
     PyxCode::BadLine,
     PyxCode::Entity,
@@ -37,7 +38,7 @@ pub const PYX_CODES: [PyxCode; 12] = [
     PyxCode::NotUtf8,
 ];
 
-/// All codes, in their order.
+/// All codes of a build's faults, in their order.
 pub const FAULT_CODES: [FaultCode; 31] = [
     FaultCode::NoClass,
     FaultCode::BadClass,
@@ -74,7 +75,7 @@ pub const FAULT_CODES: [FaultCode; 31] = [
 
 /// What the words of a reply say of the lines below it, if they are a reply's.
 pub fn read_reply(reply: &[u8]) -> Option<Below>
-    ensures { result ≡ below_of (words_of reply.now) }
+    ensures { result ≡ below_spec.below_of (bytes_spec.spaced_parts reply.now) }
 {
     let (first, rest) = split_word(reply);
     let Some(rest) = rest else {
@@ -92,7 +93,7 @@ pub fn read_reply(reply: &[u8]) -> Option<Below>
 }
 
 fn read_one(word: &[u8]) -> Option<Below>
-    ensures { result ≡ below_one word.now }
+    ensures { result ≡ below_spec.below_one word.now }
 {
     if is_lone(word) {
         Some(Below::Texts(0))
@@ -102,7 +103,7 @@ fn read_one(word: &[u8]) -> Option<Below>
 }
 
 fn is_lone(word: &[u8]) -> bool
-    ensures { result ≡ is_among lone_words word.now }
+    ensures { result ≡ below_spec.is_among below_spec.lone_words word.now }
 {
     word == b"absent".as_slice()
         || word == b"notyet".as_slice()
@@ -114,7 +115,7 @@ fn is_lone(word: &[u8]) -> bool
 }
 
 fn read_two(word: &[u8], second: &[u8]) -> Option<Below>
-    ensures { result ≡ below_two word.now second.now }
+    ensures { result ≡ below_spec.below_two word.now second.now }
 {
     if is_numbered(word) {
         number64(second)?;
@@ -137,7 +138,7 @@ fn read_two(word: &[u8], second: &[u8]) -> Option<Below>
 }
 
 fn is_numbered(word: &[u8]) -> bool
-    ensures { result ≡ is_among numbered_words word.now }
+    ensures { result ≡ below_spec.is_among below_spec.numbered_words word.now }
 {
     word == b"stored".as_slice()
         || word == b"removed".as_slice()
@@ -146,7 +147,7 @@ fn is_numbered(word: &[u8]) -> bool
 }
 
 fn read_three(word: &[u8], second: &[u8], third: &[u8]) -> Option<Below>
-    ensures { result ≡ below_three word.now second.now third.now }
+    ensures { result ≡ below_spec.below_three word.now second.now third.now }
 {
     if word == b"refused".as_slice() {
         if !is_pyx_code(second) {
@@ -162,13 +163,13 @@ fn read_three(word: &[u8], second: &[u8], third: &[u8]) -> Option<Below>
 }
 
 fn is_pyx_code(word: &[u8]) -> bool
-    ensures { result ≡ is_pyx_code_of word.now }
+    ensures { result ≡ below_spec.is_pyx_code word.now }
 {
     PYX_CODES.iter().any(|code| code.text().as_bytes() == word)
 }
 
 fn is_fault_code(word: &[u8]) -> bool
-    ensures { result ≡ is_fault_code_of word.now }
+    ensures { result ≡ below_spec.is_fault_code word.now }
 {
     FAULT_CODES
         .iter()
@@ -177,8 +178,9 @@ fn is_fault_code(word: &[u8]) -> bool
 
 /// Whether a text may stand on the line of this index below an entry, without its `|`.
 pub fn fits(below: Below, at: usize, text: &[u8]) -> bool
-    requires { Lacks 10 text.now }
-    ensures { MatchBool result (FitsAt below at text.now) (FitsAt below at text.now → ⊥) }
+    requires { cut_spec.Lacks bytes_spec.line_feed text.now }
+    ensures { MatchBool result (below_spec.FitsAt below at text.now)
+        (below_spec.FitsAt below at text.now → ⊥) }
 {
     match below {
         Below::Texts(_) => is_utf8(text),
@@ -194,7 +196,8 @@ pub fn fits(below: Below, at: usize, text: &[u8]) -> bool
 }
 
 fn is_name_text(text: &[u8]) -> bool
-    ensures { MatchBool result (IsNameText text.now) (IsNameText text.now → ⊥) }
+    ensures { MatchBool result (below_spec.IsNameText text.now)
+        (below_spec.IsNameText text.now → ⊥) }
 {
     let Some((_, rest)) = take_name(Some(text)) else {
         return false;
@@ -202,9 +205,10 @@ fn is_name_text(text: &[u8]) -> bool
     ends_with_number(rest)
 }
 
-/// Whether one word is left, and it is a number below 2^64.
+// Whether one word is left, and it is a number below 2^64.
 fn ends_with_number(rest: Option<&[u8]>) -> bool
-    ensures { MatchBool result (IsLastNumber (words_in rest.entry)) (IsLastNumber (words_in rest.entry) → ⊥) }
+    ensures { MatchBool result (below_spec.IsLastNumber (words_spec.words_in rest.entry))
+        (below_spec.IsLastNumber (words_spec.words_in rest.entry) → ⊥) }
 {
     match take_number64(rest) {
         Some((_, behind)) => behind.is_none(),
@@ -213,7 +217,8 @@ fn ends_with_number(rest: Option<&[u8]>) -> bool
 }
 
 fn is_page_text(text: &[u8]) -> bool
-    ensures { MatchBool result (IsPageText text.now) (IsPageText text.now → ⊥) }
+    ensures { MatchBool result (below_spec.IsPageText text.now)
+        (below_spec.IsPageText text.now → ⊥) }
 {
     let Some(rest) = take_word(Some(text), b"page") else {
         return false;
@@ -231,8 +236,9 @@ fn is_page_text(text: &[u8]) -> bool
 }
 
 fn is_fault_text(text: &[u8]) -> bool
-    requires { Lacks 10 text.now }
-    ensures { MatchBool result (IsFaultText text.now) (IsFaultText text.now → ⊥) }
+    requires { cut_spec.Lacks bytes_spec.line_feed text.now }
+    ensures { MatchBool result (below_spec.IsFaultText text.now)
+        (below_spec.IsFaultText text.now → ⊥) }
 {
     let Some((place, code)) = split_at_first(text, b' ') else {
         return false;
@@ -240,9 +246,10 @@ fn is_fault_text(text: &[u8]) -> bool
     is_place(place) && is_code_text(code)
 }
 
-/// Whether a text is a name, a colon and a line.
+// Whether a text is a name, a colon and a line.
 fn is_place(text: &[u8]) -> bool
-    ensures { MatchBool result (IsPlaceText text.now) (IsPlaceText text.now → ⊥) }
+    ensures { MatchBool result (below_spec.IsPlaceText text.now)
+        (below_spec.IsPlaceText text.now → ⊥) }
 {
     match split_at_last(text, b':') {
         Some((name, line)) => is_name_word(name) && number32(line).is_some(),
@@ -250,10 +257,11 @@ fn is_place(text: &[u8]) -> bool
     }
 }
 
-/// Whether a text is a code, and a detail behind a space or none.
+// Whether a text is a code, and a detail behind a space or none.
 fn is_code_text(text: &[u8]) -> bool
-    requires { Lacks 10 text.now }
-    ensures { MatchBool result (IsCodeText text.now) (IsCodeText text.now → ⊥) }
+    requires { cut_spec.Lacks bytes_spec.line_feed text.now }
+    ensures { MatchBool result (below_spec.IsCodeText text.now)
+        (below_spec.IsCodeText text.now → ⊥) }
 {
     match split_at_first(text, b' ') {
         Some((code, detail)) => is_fault_code(code) && is_detail(detail),
@@ -262,22 +270,9 @@ fn is_code_text(text: &[u8]) -> bool
 }
 
 fn is_detail(detail: &[u8]) -> bool
-    requires { Lacks 10 detail.now }
-    ensures { MatchBool result (IsDetail detail.now) (IsDetail detail.now → ⊥) }
+    requires { cut_spec.Lacks bytes_spec.line_feed detail.now }
+    ensures { MatchBool result (below_spec.IsDetail detail.now)
+        (below_spec.IsDetail detail.now → ⊥) }
 {
     !detail.is_empty() && is_utf8(detail)
-}
-
-/// What stands before and behind the last such byte, where there is one.
-fn split_at_last(bytes: &[u8], byte: u8) -> Option<(&[u8], &[u8])>
-    ensures { MatchOption result (Lacks byte bytes.now) (λ parts. IsCutAtLast byte bytes.now parts.0.now parts.1.now) }
-{
-    let mut end = bytes.len();
-    while end > 0 {
-        if bytes[end - 1] == byte {
-            return Some((&bytes[..end - 1], &bytes[end..]));
-        }
-        end -= 1;
-    }
-    None
 }

@@ -1,6 +1,6 @@
 //! What an entry shows of a build.
 
-use dita_doc::{Fault, List as Items, Name, PlanStop};
+use dita_doc::{Fault, List, Name, PlanStop};
 
 /// Where the bytes of a page are.
 #[derive(Clone, Copy, Debug, PartialEq, Eq)]
@@ -15,7 +15,7 @@ pub enum PageMark {
 #[derive(Debug, Drop)]
 pub enum BuiltText {
     /// The pages, the contents page last, and the faults.
-    Pages(Items<(Name, PageMark)>, Items<Fault>),
+    Pages(List<(Name, PageMark)>, List<Fault>),
     Stopped(PlanStop),
     /// The pages have so many bytes, which are too many.
     TooLarge(u64),

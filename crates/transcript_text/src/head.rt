@@ -1,11 +1,12 @@
 //! The lines that begin an entry or a row, and the last line.
 
-ghost use Rattle.std.specs.Prelude.{◌≡◌, ◌∷◌, ℕ, List, Option, MatchOption};
+ghost use Rattle.std.specs.Prelude.{◌≡◌, ◌∷◌, ℕ, Option, MatchOption};
 ghost use Rattle.std.specs.Option.{option_copied};
-ghost use Rattle.dita_doc.specs.Transcript.{PartShown, IsValShown, part_text, part_index, val_text};
+ghost use Rattle.dita_doc.specs.Bytes.{Bytes};
 ghost use Rattle.transcript_text.specs.declared.below.Below.{Below as BelowShown};
-ghost use Rattle.transcript_text.specs.Words.{words_in};
-ghost use Rattle.transcript_text.specs.Heads.{IsEntryLine, IsRowLine, IsEndLine, part_word, part_seen};
+ghost use Rattle.transcript_text.specs.Heads as heads_spec;
+ghost use Rattle.transcript_text.specs.Transcript as transcript_spec;
+ghost use Rattle.transcript_text.specs.Words as words_spec;
 
 use crate::below::{Below, read_reply};
 use crate::word::{is_name_word, split_word, take_name, take_number32, take_number64, take_word};
@@ -34,8 +35,11 @@ pub struct RowLine<'a> {
 
 /// Reads the first line of an entry, if it is one.
 pub fn read_entry_line(line: &[u8]) -> Option<EntryLine<'_>>
-    ensures { MatchOption result ((place session number : ℕ) (reply : List ℕ) (below : BelowShown) → IsEntryLine line.now place session number reply below → ⊥)
-        (λ head. IsEntryLine line.now head.place head.session head.number head.reply.now head.below) }
+    ensures { MatchOption result
+        ((place session number : ℕ) (reply : Bytes) (below : BelowShown) →
+        heads_spec.IsEntryLine line.now place session number reply below → ⊥)
+        (λ head. heads_spec.IsEntryLine line.now
+        head.place head.session head.number head.reply.now head.below) }
 {
     let rest = take_word(Some(line), b"entry")?;
     let (place, rest) = take_number64(rest)?;
@@ -54,8 +58,12 @@ pub fn read_entry_line(line: &[u8]) -> Option<EntryLine<'_>>
 
 /// Reads the first line of a row, if it is one.
 pub fn read_row_line(line: &[u8]) -> Option<RowLine<'_>>
-    ensures { MatchOption result ((serial : ℕ) (part : PartShown) (map : List ℕ) (val : Option (List ℕ)) (count : ℕ) → IsRowLine line.now serial part map val count → ⊥)
-        (λ row. (part : PartShown) × (row.part ≡ part_seen part) × IsRowLine line.now row.serial part row.map.now (option_copied row.val) row.count) }
+    ensures { MatchOption result
+        ((serial : ℕ) (part : transcript_spec.PartShown) (map : Bytes) (val : Option Bytes)
+        (count : ℕ) → heads_spec.IsRowLine line.now serial part map val count → ⊥)
+        (λ row. (part : transcript_spec.PartShown) × (row.part ≡ heads_spec.part_seen part)
+        × heads_spec.IsRowLine line.now
+        row.serial part row.map.now (option_copied row.val) row.count) }
 {
     let rest = take_word(Some(line), b"row")?;
     let (serial, rest) = take_number64(rest)?;
@@ -77,10 +85,15 @@ pub fn read_row_line(line: &[u8]) -> Option<RowLine<'_>>
     })
 }
 
-/// The part of this word and index: the contents page has index 0.
+// The part of this word and index: the contents page has index 0.
 fn part_at(is_page: bool, index: u32) -> Option<Part>
-    ensures { MatchOption result ((part : PartShown) → part_word is_page ≡ part_text part → index ≡ part_index part → ⊥)
-        (λ found. (part : PartShown) × (found ≡ part_seen part) × (part_word is_page ≡ part_text part) × (index ≡ part_index part)) }
+    ensures { MatchOption result
+        ((part : transcript_spec.PartShown) →
+        heads_spec.part_word is_page ≡ transcript_spec.part_text part →
+        index ≡ transcript_spec.part_index part → ⊥)
+        (λ found. (part : transcript_spec.PartShown) × (found ≡ heads_spec.part_seen part)
+        × (heads_spec.part_word is_page ≡ transcript_spec.part_text part)
+        × (index ≡ transcript_spec.part_index part)) }
 {
     if is_page {
         Some(Part::Page(index))
@@ -91,10 +104,13 @@ fn part_at(is_page: bool, index: u32) -> Option<Part>
     }
 }
 
-/// Takes the word of a page, which gives true, or that of the contents page.
+// Takes the word of a page, which gives true, or that of the contents page.
 fn take_part(rest: Option<&[u8]>) -> Option<(bool, Option<&[u8]>)>
-    ensures { MatchOption result ((part : PartShown) (more : List (List ℕ)) → words_in rest.entry ≡ part_text part ∷ more → ⊥)
-        (λ taken. words_in rest.entry ≡ part_word taken.0 ∷ words_in taken.1) }
+    ensures { MatchOption result
+        ((part : transcript_spec.PartShown) (more : words_spec.Words) →
+        words_spec.words_in rest.entry ≡ transcript_spec.part_text part ∷ more → ⊥)
+        (λ taken. words_spec.words_in rest.entry
+        ≡ heads_spec.part_word taken.0 ∷ words_spec.words_in taken.1) }
 {
     let (word, behind) = split_word(rest?);
     if word == b"page".as_slice() {
@@ -106,10 +122,14 @@ fn take_part(rest: Option<&[u8]>) -> Option<(bool, Option<&[u8]>)>
     }
 }
 
-/// Takes the name of a DITAVAL, or the word that says that there is none.
+// Takes the name of a DITAVAL, or the word that says that there is none.
 fn take_val(rest: Option<&[u8]>) -> Option<(Option<&[u8]>, Option<&[u8]>)>
-    ensures { MatchOption result ((val : Option (List ℕ)) (more : List (List ℕ)) → IsValShown val → words_in rest.entry ≡ val_text val ∷ more → ⊥)
-        (λ taken. (words_in rest.entry ≡ val_text (option_copied taken.0) ∷ words_in taken.1) × IsValShown (option_copied taken.0)) }
+    ensures { MatchOption result
+        ((val : Option Bytes) (more : words_spec.Words) → transcript_spec.IsValShown val →
+        words_spec.words_in rest.entry ≡ transcript_spec.val_text val ∷ more → ⊥)
+        (λ taken. (words_spec.words_in rest.entry
+        ≡ transcript_spec.val_text (option_copied taken.0) ∷ words_spec.words_in taken.1)
+        × transcript_spec.IsValShown (option_copied taken.0)) }
 {
     let (word, behind) = split_word(rest?);
     if word == b"-".as_slice() {
@@ -121,10 +141,11 @@ fn take_val(rest: Option<&[u8]>) -> Option<(Option<&[u8]>, Option<&[u8]>)>
     }
 }
 
-/// Reads the last line: the counts of entries, and of rows made and dropped.
+/// Reads the last line: how many entries there are, and how many rows were made and dropped.
 pub fn read_end_line(line: &[u8]) -> Option<(u64, u64, u64)>
-    ensures { MatchOption result ((entries made dropped : ℕ) → IsEndLine line.now entries made dropped → ⊥)
-        (λ total. IsEndLine line.now total.0 total.1 total.2) }
+    ensures { MatchOption result
+        ((entries made dropped : ℕ) → heads_spec.IsEndLine line.now entries made dropped → ⊥)
+        (λ total. heads_spec.IsEndLine line.now total.0 total.1 total.2) }
 {
     let rest = take_word(Some(line), b"end")?;
     let (entries, rest) = take_number64(rest)?;

@@ -1,13 +1,12 @@
 //! The transcript of a run: its entries to lines, and lines back to what they tell.
 //!
-//! What is used above it: the contracts of `write_entry` and `read_transcript`. What is written has the
-//! form of transcripts, and bytes are read exactly where they have it.
+//! What is used above it: the contracts of `write_entry` and `read_transcript`. What is written has
+//! the form of transcripts, and bytes are read exactly if they have it.
 #![tactic(auto)]
 
 mod below;
 mod built;
 mod head;
-mod law;
 mod read;
 mod state;
 #[cfg(test)]
@@ -17,7 +16,6 @@ mod word;
 mod write;
 
 pub use built::{BuiltText, PageMark};
-pub use law::written_is_read;
 pub use read::read_transcript;
 pub use transcript::{BadTranscript, EntryText, RowText, Transcript};
 pub use write::{write_end, write_entry, write_head};

@@ -1,7 +1,7 @@
 //! Bytes to a transcript.
 
 ghost use Rattle.std.specs.Prelude.{IfOk, IfErr};
-ghost use Rattle.transcript_text.specs.Read.{IsRead, IsFaultOf, IsLine};
+ghost use Rattle.transcript_text.specs.Read as read_spec;
 
 use crate::state::State;
 use crate::transcript::{BadTranscript, Transcript};
@@ -12,11 +12,11 @@ use std::alloc::Global;
 ///
 /// # Errors
 ///
-/// The first line up to which no transcript begins so, or else the last one; or want of memory, which
-/// also stands for a fault in a line that is past number 2^32 - 1.
+/// The first line up to which no transcript begins so, or else the last one; or want of memory,
+/// which also stands for a fault in a line that is past number 2^32 - 1.
 pub fn read_transcript(alloc: Global, bytes: &[u8]) -> Result<Transcript, Stop<BadTranscript>>
-    ensures read { IfOk result (λ transcript. IsRead transcript bytes.now) }
-    ensures refused { IfErr result (λ stop. IsFaultOf stop bytes.now) }
+    ensures read { IfOk result (λ transcript. read_spec.IsRead transcript bytes.now) }
+    ensures refused { IfErr result (λ stop. read_spec.IsFaultOf stop bytes.now) }
 {
     let mut state = State::Start;
     let mut rest = bytes;
@@ -38,9 +38,9 @@ pub fn read_transcript(alloc: Global, bytes: &[u8]) -> Result<Transcript, Stop<B
     }
 }
 
-/// The fault of this line.
+// The fault of this line.
 fn bad_at(line: usize) -> Stop<BadTranscript>
-    ensures { IsLine result line }
+    ensures { read_spec.IsLine result line }
 {
     match u32::try_from(line) {
         Ok(line) => Stop::Fault(BadTranscript { line }),

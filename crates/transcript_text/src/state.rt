@@ -1,18 +1,22 @@
 //! A transcript, line by line.
 
-ghost use Rattle.std.specs.Prelude.{◌≡◌, ◌<◌, ◌==◌, ◌∷◌, [], ◌++◌, ℕ, List, length, map, IfOk, IfSome, MatchOption};
+ghost use Rattle.std.specs.Prelude.{◌≡◌, ◌<◌, ◌==◌, ◌∷◌, [], ◌++◌, length};
+ghost use Rattle.std.specs.Prelude.{IfOk, IfSome, MatchOption};
 ghost use Rattle.std.specs.Option.{option_copied};
-ghost use Rattle.dita_doc.specs.Cut.{Lacks};
-ghost use Rattle.dita_doc.specs.Transcript.{IsNameShown, IsValShown};
-ghost use Rattle.transcript_text.specs.Below.{count_of};
-ghost use Rattle.transcript_text.specs.State.{HasEntries, HasOpenEntry, HasRows, HasOpenRow, HasRead, MayEntries, MayEntryLines, MayRows, MayRowLines, MayStart, May};
-ghost use Rattle.transcript_text.specs.Told.{bar};
+ghost use Rattle.std.specs.Str.{IsUtf8};
+ghost use Rattle.dita_doc.specs.Bytes.{Bytes};
+ghost use Rattle.dita_doc.specs.Bytes as bytes_spec;
+ghost use Rattle.dita_doc.specs.Cut as cut_spec;
+ghost use Rattle.transcript_text.specs.Below as below_spec;
+ghost use Rattle.transcript_text.specs.State as state_spec;
+ghost use Rattle.transcript_text.specs.Told as told_spec;
+ghost use Rattle.transcript_text.specs.Transcript as transcript_spec;
+ghost use Rattle.transcript_text.specs.Words.{TextLines};
 
 use crate::below::{Below, fits};
 use crate::head::{EntryLine, RowLine, read_end_line, read_entry_line, read_row_line};
 use crate::transcript::{EntryText, RowText, Transcript};
-use crate::word::is_utf8;
-use dita_doc::{FactKey, List as Items, Name, Text};
+use dita_doc::{FactKey, List, Name, Text, is_utf8};
 use std::alloc::{AllocError, Global};
 
 /// What was read of a transcript.
@@ -21,13 +25,13 @@ pub enum State {
     /// Nothing.
     Start,
     /// Whole entries.
-    Entries(Items<EntryText>),
+    Entries(List<EntryText>),
     /// And an entry of which lines are to come.
-    Entry(Items<EntryText>, EntryText, Below),
+    Entry(List<EntryText>, EntryText, Below),
     /// All entries, and whole rows; the serial of the last one, or 0.
-    Rows(Items<EntryText>, Items<RowText>, u64),
+    Rows(List<EntryText>, List<RowText>, u64),
     /// And a row of which so many lines are to come.
-    Row(Items<EntryText>, Items<RowText>, RowText, u64),
+    Row(List<EntryText>, List<RowText>, RowText, u64),
     /// All.
     End(Transcript),
 }
@@ -35,9 +39,12 @@ pub enum State {
 impl State {
     /// Takes the next line, without its LF; nothing is made of one that may not stand there.
     pub fn next(self, alloc: Global, line: &[u8]) -> Result<Option<State>, AllocError>
-        requires { Lacks 10 line.now }
-        ensures sound { (read : List (List ℕ)) → HasRead self read → IfOk result (λ next. IfSome next (λ state. HasRead state (read ++ line.now ∷ []))) }
-        ensures complete { (more : List (List ℕ)) → May self (line.now ∷ more) → IfOk result (λ next. MatchOption next ⊥ (λ state. May state more)) }
+        requires { cut_spec.Lacks bytes_spec.line_feed line.now }
+        ensures sound { (read : TextLines) → state_spec.HasRead self read →
+            IfOk result (λ next. IfSome next
+            (λ state. state_spec.HasRead state (read ++ line.now ∷ []))) }
+        ensures complete { (more : TextLines) → state_spec.May self (line.now ∷ more) →
+            IfOk result (λ next. MatchOption next ⊥ (λ state. state_spec.May state more)) }
     {
         match self {
             State::Start => Ok(start(alloc, line)),
@@ -53,11 +60,12 @@ impl State {
 }
 
 fn start(alloc: Global, line: &[u8]) -> Option<State>
-    ensures sound { IfSome result (λ state. HasRead state (line.now ∷ [])) }
-    ensures complete { (more : List (List ℕ)) → MayStart (line.now ∷ more) → MatchOption result ⊥ (λ state. May state more) }
+    ensures sound { IfSome result (λ state. state_spec.HasRead state (line.now ∷ [])) }
+    ensures complete { (more : TextLines) → state_spec.MayStart (line.now ∷ more) →
+        MatchOption result ⊥ (λ state. state_spec.May state more) }
 {
     if line == b"dita transcript 1".as_slice() {
-        Some(State::Entries(Items::new(alloc)))
+        Some(State::Entries(List::new(alloc)))
     } else {
         None
     }
@@ -65,41 +73,54 @@ fn start(alloc: Global, line: &[u8]) -> Option<State>
 
 fn entry_or_row(
     alloc: Global,
-    entries: Items<EntryText>,
+    entries: List<EntryText>,
     line: &[u8],
 ) -> Result<Option<State>, AllocError>
-    ensures sound { (read : List (List ℕ)) → HasEntries entries read → IfOk result (λ next. IfSome next (λ state. HasRead state (read ++ line.now ∷ []))) }
-    ensures complete { (more : List (List ℕ)) → MayEntries (line.now ∷ more) → IfOk result (λ next. MatchOption next ⊥ (λ state. May state more)) }
+    ensures sound { (read : TextLines) → state_spec.HasEntries entries read →
+        IfOk result (λ next. IfSome next
+        (λ state. state_spec.HasRead state (read ++ line.now ∷ []))) }
+    ensures complete { (more : TextLines) → state_spec.MayEntries (line.now ∷ more) →
+        IfOk result (λ next. MatchOption next ⊥ (λ state. state_spec.May state more)) }
 {
     match read_entry_line(line) {
         Some(head) => {
             let opened = open_entry(alloc, &head)?;
             Ok(Some(with_entry(entries, opened, head.below)?))
         }
-        None => row_or_end(alloc, entries, Items::new(alloc), 0, line),
+        None => row_or_end(alloc, entries, List::new(alloc), 0, line),
     }
 }
 
 fn open_entry(alloc: Global, head: &EntryLine<'_>) -> Result<EntryText, AllocError>
-    ensures { IfOk result (λ opened. opened ≡ record { place = head.now.place; session = head.now.session; number = head.now.number; reply = head.now.reply.now; lines = [] }) }
+    requires { IsUtf8 head.now.reply.now }
+    ensures { IfOk result (λ opened. opened ≡ record {
+      place = head.now.place;
+      session = head.now.session;
+      number = head.now.number;
+      reply = head.now.reply.now;
+      lines = [];
+    }) }
 {
     Ok(EntryText {
         place: head.place,
         session: head.session,
         number: head.number,
-        reply: Text::from_slice(alloc, head.reply)?,
-        lines: Items::new(alloc),
+        reply: Text::from_bytes(alloc, head.reply)?,
+        lines: List::new(alloc),
     })
 }
 
-/// The state with an entry, which is whole if no lines of it are to come.
+// The state with an entry, which is whole if no lines of it are to come.
 fn with_entry(
-    entries: Items<EntryText>,
+    entries: List<EntryText>,
     opened: EntryText,
     below: Below,
 ) -> Result<State, AllocError>
-    ensures sound { (read : List (List ℕ)) → HasOpenEntry entries opened below read → IfOk result (λ state. HasRead state read) }
-    ensures complete { (more : List (List ℕ)) → MayEntryLines below (length opened.lines) more → IfOk result (λ state. May state more) }
+    ensures sound { (read : TextLines) → state_spec.HasOpenEntry entries opened below read →
+        IfOk result (λ state. state_spec.HasRead state read) }
+    ensures complete { (more : TextLines) →
+        state_spec.MayEntryLines below (length opened.lines) more →
+        IfOk result (λ state. state_spec.May state more) }
 {
     if is_whole(below, opened.lines.len()) {
         let mut entries = entries;
@@ -110,9 +131,9 @@ fn with_entry(
     }
 }
 
-/// Whether so many lines are all.
+// Whether so many lines are all.
 fn is_whole(below: Below, lines: usize) -> bool
-    ensures { result ≡ (lines == count_of below) }
+    ensures { result ≡ (lines == below_spec.count_of below) }
 {
     let lines = lines as u64;
     match below {
@@ -121,19 +142,23 @@ fn is_whole(below: Below, lines: usize) -> bool
     }
 }
 
-/// Takes a line of an entry.
+// Takes a line of an entry.
 fn entry_text(
     alloc: Global,
-    entries: Items<EntryText>,
+    entries: List<EntryText>,
     opened: EntryText,
     below: Below,
     line: &[u8],
 ) -> Result<Option<State>, AllocError>
-    requires { Lacks 10 line.now }
-    ensures sound { (read : List (List ℕ)) → HasOpenEntry entries opened below read → length opened.lines < count_of below →
-        IfOk result (λ next. IfSome next (λ state. HasRead state (read ++ line.now ∷ []))) }
-    ensures complete { (more : List (List ℕ)) → MayEntryLines below (length opened.lines) (line.now ∷ more) → length opened.lines < count_of below →
-        IfOk result (λ next. MatchOption next ⊥ (λ state. May state more)) }
+    requires { cut_spec.Lacks bytes_spec.line_feed line.now }
+    ensures sound { (read : TextLines) → state_spec.HasOpenEntry entries opened below read →
+        length opened.lines < below_spec.count_of below →
+        IfOk result (λ next. IfSome next
+        (λ state. state_spec.HasRead state (read ++ line.now ∷ []))) }
+    ensures complete { (more : TextLines) →
+        state_spec.MayEntryLines below (length opened.lines) (line.now ∷ more) →
+        length opened.lines < below_spec.count_of below →
+        IfOk result (λ next. MatchOption next ⊥ (λ state. state_spec.May state more)) }
 {
     let Some(text) = text_of(line) else {
         return Ok(None);
@@ -142,13 +167,14 @@ fn entry_text(
         return Ok(None);
     }
     let mut opened = opened;
-    opened.lines.push(Text::from_slice(alloc, text)?)?;
+    opened.lines.push(Text::from_bytes(alloc, text)?)?;
     Ok(Some(with_entry(entries, opened, below)?))
 }
 
-/// What stands behind the `|` of a line.
+// What stands behind the `|` of a line.
 fn text_of(line: &[u8]) -> Option<&[u8]>
-    ensures { MatchOption result ((text : List ℕ) → line.now ≡ bar text → ⊥) (λ text. line.now ≡ bar text.now) }
+    ensures { MatchOption result ((text : Bytes) → line.now ≡ told_spec.bar text → ⊥)
+        (λ text. line.now ≡ told_spec.bar text.now) }
 {
     match line.split_first() {
         Some((first, text)) if *first == b'|' => Some(text),
@@ -158,13 +184,16 @@ fn text_of(line: &[u8]) -> Option<&[u8]>
 
 fn row_or_end(
     alloc: Global,
-    entries: Items<EntryText>,
-    rows: Items<RowText>,
+    entries: List<EntryText>,
+    rows: List<RowText>,
     last: u64,
     line: &[u8],
 ) -> Result<Option<State>, AllocError>
-    ensures sound { (read : List (List ℕ)) → HasRows entries rows last read → IfOk result (λ next. IfSome next (λ state. HasRead state (read ++ line.now ∷ []))) }
-    ensures complete { (more : List (List ℕ)) → MayRows last (line.now ∷ more) → IfOk result (λ next. MatchOption next ⊥ (λ state. May state more)) }
+    ensures sound { (read : TextLines) → state_spec.HasRows entries rows last read →
+        IfOk result (λ next. IfSome next
+        (λ state. state_spec.HasRead state (read ++ line.now ∷ []))) }
+    ensures complete { (more : TextLines) → state_spec.MayRows last (line.now ∷ more) →
+        IfOk result (λ next. MatchOption next ⊥ (λ state. state_spec.May state more)) }
 {
     match read_row_line(line) {
         Some(row) => {
@@ -186,9 +215,17 @@ fn row_or_end(
 }
 
 fn open_row(alloc: Global, row: &RowLine<'_>) -> Result<RowText, AllocError>
-    requires map { IsNameShown row.now.map.now }
-    requires val { IsValShown (option_copied row.now.val) }
-    ensures { IfOk result (λ opened. opened ≡ record { serial = row.now.serial; key = record { map = row.now.map.now; val = option_copied row.now.val; part = row.now.part }; bytes = [] }) }
+    requires map { transcript_spec.IsNameShown row.now.map.now }
+    requires val { transcript_spec.IsValShown (option_copied row.now.val) }
+    ensures { IfOk result (λ opened. opened ≡ record {
+      serial = row.now.serial;
+      key = record {
+        map = row.now.map.now;
+        val = option_copied row.now.val;
+        part = row.now.part;
+      };
+      bytes = [];
+    }) }
 {
     let map = name_of(alloc, row.map)?;
     let val = match row.val {
@@ -202,26 +239,28 @@ fn open_row(alloc: Global, row: &RowLine<'_>) -> Result<RowText, AllocError>
             val,
             part: row.part,
         },
-        bytes: Items::new(alloc),
+        bytes: List::new(alloc),
     })
 }
 
 fn name_of(alloc: Global, bytes: &[u8]) -> Result<Name, AllocError>
-    requires { IsNameShown bytes.now }
+    requires { transcript_spec.IsNameShown bytes.now }
     ensures { IfOk result (λ name. name ≡ bytes.now) }
 {
-    Name::new(alloc, Text::from_slice(alloc, bytes)?)
+    Name::new(alloc, Text::from_bytes(alloc, bytes)?)
 }
 
-/// The state with a row, which is whole if no lines of it are left.
+// The state with a row, which is whole if no lines of it are left.
 fn with_row(
-    entries: Items<EntryText>,
-    rows: Items<RowText>,
+    entries: List<EntryText>,
+    rows: List<RowText>,
     opened: RowText,
     left: u64,
 ) -> Result<State, AllocError>
-    ensures sound { (read : List (List ℕ)) → HasOpenRow entries rows opened left read → IfOk result (λ state. HasRead state read) }
-    ensures complete { (more : List (List ℕ)) → MayRowLines left opened.serial more → IfOk result (λ state. May state more) }
+    ensures sound { (read : TextLines) → state_spec.HasOpenRow entries rows opened left read →
+        IfOk result (λ state. state_spec.HasRead state read) }
+    ensures complete { (more : TextLines) → state_spec.MayRowLines left opened.serial more →
+        IfOk result (λ state. state_spec.May state more) }
 {
     if left == 0 {
         let last = opened.serial;
@@ -233,17 +272,22 @@ fn with_row(
     }
 }
 
-/// Takes a line of a row.
+// Takes a line of a row.
 fn row_text(
-    entries: Items<EntryText>,
-    rows: Items<RowText>,
+    entries: List<EntryText>,
+    rows: List<RowText>,
     opened: RowText,
     left: u64,
     line: &[u8],
 ) -> Result<Option<State>, AllocError>
-    requires { Lacks 10 line.now }
-    ensures sound { (read : List (List ℕ)) → HasOpenRow entries rows opened left read → 0 < left → IfOk result (λ next. IfSome next (λ state. HasRead state (read ++ line.now ∷ []))) }
-    ensures complete { (more : List (List ℕ)) → MayRowLines left opened.serial (line.now ∷ more) → 0 < left → IfOk result (λ next. MatchOption next ⊥ (λ state. May state more)) }
+    requires { cut_spec.Lacks bytes_spec.line_feed line.now }
+    ensures sound { (read : TextLines) → state_spec.HasOpenRow entries rows opened left read →
+        0 < left →
+        IfOk result (λ next. IfSome next
+        (λ state. state_spec.HasRead state (read ++ line.now ∷ []))) }
+    ensures complete { (more : TextLines) →
+        state_spec.MayRowLines left opened.serial (line.now ∷ more) → 0 < left →
+        IfOk result (λ next. MatchOption next ⊥ (λ state. state_spec.May state more)) }
 {
     let Some(text) = text_of(line) else {
         return Ok(None);

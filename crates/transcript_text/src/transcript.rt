@@ -1,6 +1,6 @@
 //! A transcript as it is read.
 
-use dita_doc::{FactKey, List as Items, Text};
+use dita_doc::{FactKey, List, Text};
 
 /// An entry of a transcript.
 #[derive(Debug, Drop)]
@@ -11,7 +11,7 @@ pub struct EntryText {
     /// The words of its line behind the numbers.
     pub reply: Text,
     /// The lines below, without `|` and LF.
-    pub lines: Items<Text>,
+    pub lines: List<Text>,
 }
 
 /// A row of a transcript.
@@ -20,19 +20,20 @@ pub struct RowText {
     pub serial: u64,
     pub key: FactKey,
     /// The lines below, without `|`, each with its LF.
-    pub bytes: Items<u8>,
+    pub bytes: List<u8>,
 }
 
-/// A transcript: its entries, its rows, and the counts of entries, of rows made and of rows dropped.
+/// A transcript: its entries, its rows, and how many entries there are and how many rows were made
+/// and dropped.
 #[derive(Debug, Drop)]
 pub struct Transcript {
-    pub entries: Items<EntryText>,
-    pub rows: Items<RowText>,
+    pub entries: List<EntryText>,
+    pub rows: List<RowText>,
     pub total: (u64, u64, u64),
 }
 
-/// Bytes are no transcript: the first line up to which no transcript begins so, or else the last one.
-/// Lines are counted from 1; the empty text has line 0.
+/// Bytes are no transcript: the first line up to which no transcript begins so, or else the last
+/// one. Lines are counted from 1; the empty text has line 0.
 #[derive(Clone, Copy, Debug, PartialEq, Eq)]
 pub struct BadTranscript {
     pub line: u32,

@@ -1,16 +1,17 @@
 //! The words of a line.
 
-ghost use Rattle.std.specs.Prelude.{◌≡◌, ◌^◌, ◌<◌, ◌∷◌, ℕ, List, true, MatchOption, MatchBool};
+ghost use Rattle.std.specs.Prelude.{◌≡◌, ◌^◌, ◌<◌, ◌∷◌, ℕ, MatchOption, MatchBool};
 ghost use Rattle.std.specs.Fmt.{decimal};
-ghost use Rattle.std.specs.Str.{is_utf8 as is_utf8_of};
-ghost use Rattle.dita_doc.specs.Transcript.{IsNameShown};
-ghost use Rattle.transcript_text.specs.Words.{words_of, words_in, number_of, IsPlain};
+ghost use Rattle.dita_doc.specs.Bytes.{Bytes};
+ghost use Rattle.dita_doc.specs.Bytes as bytes_spec;
+ghost use Rattle.transcript_text.specs.Transcript as transcript_spec;
+ghost use Rattle.transcript_text.specs.Words as words_spec;
 
-use dita_doc::{is_name, split_at_first};
+use dita_doc::{is_name, is_utf8, split_at_first};
 
-/// The first word, and what stands behind its space; without one there is no more.
+/// The first word, and what stands behind its space, if it has one.
 pub fn split_word(line: &[u8]) -> (&[u8], Option<&[u8]>)
-    ensures { words_of line.now ≡ result.0.now ∷ words_in result.1 }
+    ensures { bytes_spec.spaced_parts line.now ≡ result.0.now ∷ words_spec.words_in result.1 }
 {
     match split_at_first(line, b' ') {
         Some((word, rest)) => (word, Some(rest)),
@@ -18,16 +19,9 @@ pub fn split_word(line: &[u8]) -> (&[u8], Option<&[u8]>)
     }
 }
 
-/// Whether bytes are UTF-8.
-pub fn is_utf8(bytes: &[u8]) -> bool
-    ensures { result ≡ is_utf8_of bytes.now }
-{
-    str::from_utf8(bytes).is_ok()
-}
-
 /// The number below 2^64 whose decimal the word is.
 pub fn number64(word: &[u8]) -> Option<u64>
-    ensures { result ≡ number_of 64 word.now }
+    ensures { result ≡ words_spec.number_of 64 word.now }
 {
     if !is_plain(word) {
         return None;
@@ -36,9 +30,9 @@ pub fn number64(word: &[u8]) -> Option<u64>
     text.parse::<u64>().ok()
 }
 
-/// Whether a word has no sign, and no zero before its other digits.
+// Whether a word has no sign, and no zero before its other digits.
 fn is_plain(word: &[u8]) -> bool
-    ensures { MatchBool result (IsPlain word.now) (IsPlain word.now → ⊥) }
+    ensures { MatchBool result (words_spec.IsPlain word.now) (words_spec.IsPlain word.now → ⊥) }
 {
     let Some((first, rest)) = word.split_first() else {
         return false;
@@ -52,14 +46,16 @@ fn is_plain(word: &[u8]) -> bool
 
 /// The number below 2^32 whose decimal the word is.
 pub fn number32(word: &[u8]) -> Option<u32>
-    ensures { result ≡ number_of 32 word.now }
+    ensures { result ≡ words_spec.number_of 32 word.now }
 {
     u32::try_from(number64(word)?).ok()
 }
 
 /// Takes this word.
 pub fn take_word<'a>(rest: Option<&'a [u8]>, expected: &[u8]) -> Option<Option<&'a [u8]>>
-    ensures { MatchOption result ((more : List (List ℕ)) → words_in rest.entry ≡ expected.now ∷ more → ⊥) (λ behind. words_in rest.entry ≡ expected.now ∷ words_in behind) }
+    ensures { MatchOption result
+        ((more : words_spec.Words) → words_spec.words_in rest.entry ≡ expected.now ∷ more → ⊥)
+        (λ behind. words_spec.words_in rest.entry ≡ expected.now ∷ words_spec.words_in behind) }
 {
     let (word, behind) = split_word(rest?);
     if word == expected { Some(behind) } else { None }
@@ -67,8 +63,11 @@ pub fn take_word<'a>(rest: Option<&'a [u8]>, expected: &[u8]) -> Option<Option<&
 
 /// Takes a number below 2^64.
 pub fn take_number64(rest: Option<&[u8]>) -> Option<(u64, Option<&[u8]>)>
-    ensures { MatchOption result ((n : ℕ) (more : List (List ℕ)) → n < 2 ^ 64 → words_in rest.entry ≡ decimal n ∷ more → ⊥)
-        (λ taken. (words_in rest.entry ≡ decimal taken.0 ∷ words_in taken.1) × (taken.0 < 2 ^ 64)) }
+    ensures { MatchOption result
+        ((n : ℕ) (more : words_spec.Words) → n < 2 ^ 64 →
+        words_spec.words_in rest.entry ≡ decimal n ∷ more → ⊥)
+        (λ taken. (words_spec.words_in rest.entry ≡ decimal taken.0 ∷ words_spec.words_in taken.1)
+        × (taken.0 < 2 ^ 64)) }
 {
     let (word, behind) = split_word(rest?);
     Some((number64(word)?, behind))
@@ -76,8 +75,11 @@ pub fn take_number64(rest: Option<&[u8]>) -> Option<(u64, Option<&[u8]>)>
 
 /// Takes a number below 2^32.
 pub fn take_number32(rest: Option<&[u8]>) -> Option<(u32, Option<&[u8]>)>
-    ensures { MatchOption result ((n : ℕ) (more : List (List ℕ)) → n < 2 ^ 32 → words_in rest.entry ≡ decimal n ∷ more → ⊥)
-        (λ taken. (words_in rest.entry ≡ decimal taken.0 ∷ words_in taken.1) × (taken.0 < 2 ^ 32)) }
+    ensures { MatchOption result
+        ((n : ℕ) (more : words_spec.Words) → n < 2 ^ 32 →
+        words_spec.words_in rest.entry ≡ decimal n ∷ more → ⊥)
+        (λ taken. (words_spec.words_in rest.entry ≡ decimal taken.0 ∷ words_spec.words_in taken.1)
+        × (taken.0 < 2 ^ 32)) }
 {
     let (word, behind) = split_word(rest?);
     Some((number32(word)?, behind))
@@ -85,15 +87,19 @@ pub fn take_number32(rest: Option<&[u8]>) -> Option<(u32, Option<&[u8]>)>
 
 /// Whether a word is a document name, in UTF-8.
 pub fn is_name_word(word: &[u8]) -> bool
-    ensures { MatchBool result (IsNameShown word.now) (IsNameShown word.now → ⊥) }
+    ensures { MatchBool result (transcript_spec.IsNameShown word.now)
+        (transcript_spec.IsNameShown word.now → ⊥) }
 {
     is_name(word) && is_utf8(word)
 }
 
 /// Takes a document name.
 pub fn take_name(rest: Option<&[u8]>) -> Option<(&[u8], Option<&[u8]>)>
-    ensures { MatchOption result ((name : List ℕ) (more : List (List ℕ)) → IsNameShown name → words_in rest.entry ≡ name ∷ more → ⊥)
-        (λ taken. (words_in rest.entry ≡ taken.0.now ∷ words_in taken.1) × IsNameShown taken.0.now) }
+    ensures { MatchOption result
+        ((name : Bytes) (more : words_spec.Words) → transcript_spec.IsNameShown name →
+        words_spec.words_in rest.entry ≡ name ∷ more → ⊥)
+        (λ taken. (words_spec.words_in rest.entry ≡ taken.0.now ∷ words_spec.words_in taken.1)
+        × transcript_spec.IsNameShown taken.0.now) }
 {
     let (word, behind) = split_word(rest?);
     if is_name_word(word) {

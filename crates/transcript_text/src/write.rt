@@ -1,19 +1,19 @@
 //! Entries to lines.
 
-ghost use Rattle.std.specs.Prelude.{◌≡◌, ◌+◌, ◌++◌, length, codes, map, is_some, OnOk, IfOk};
+ghost use Rattle.std.specs.Prelude.{◌≡◌, ◌++◌, length, map, option_map, is_some};
+ghost use Rattle.std.specs.Prelude.{IfOk, IfSome, OnOk};
 ghost use Rattle.std.specs.Fmt.{decimal};
 ghost use Rattle.std.specs.List.{flat_map};
 ghost use Rattle.std.specs.Option.{option_copied};
-ghost use Rattle.dita_doc.specs.Canonical.{escaped_byte, escaped};
-ghost use Rattle.dita_doc.specs.Lines.{lines_of};
-ghost use Rattle.dita_doc.specs.Page.{line};
-ghost use Rattle.dita_doc.specs.Seen.{reply_seen, read_seen, entry_seen};
-ghost use Rattle.dita_doc.specs.Transcript.{NotYetBuilt, Names, Lines, reply_shown, entry_shown, entry_text, fault_shown, stop_text, with_detail, fault_line, page_line, name_line, mark_words, bar_line, head_text, end_head};
-ghost use Rattle.transcript_text.specs.Written.{mark_shown, page_shown, build_shown, built_shown, numbers_text, shown_text, is_begun, IsText};
+ghost use Rattle.dita_doc.specs.Lines as lines_spec;
+ghost use Rattle.dita_doc.specs.PyxEscapes as pyx_escapes_spec;
+ghost use Rattle.dita_doc.specs.Seen as seen_spec;
+ghost use Rattle.transcript_text.specs.Transcript as transcript_spec;
+ghost use Rattle.transcript_text.specs.Written as written_spec;
 
 use crate::built::{BuiltText, PageMark};
 use dita_doc::{
-    Entry, Fault, List as Items, Name, NoMemory, PlanStop, Read, Reply, Text, split_at_first,
+    Entry, Fault, List, Name, NoMemory, PlanStop, Read, Reply, append_pyx, split_at_first,
 };
 use std::alloc::{AllocError, Global};
 
@@ -23,110 +23,110 @@ pub fn write_entry(
     place: u64,
     entry: &Entry,
     built: Option<&BuiltText>,
-) -> Result<Items<u8>, NoMemory>
-    // A built text is given exactly where the reply is that a build has its place.
-    requires built { is_some built ≡ is_begun (reply_seen entry.now.reply) }
-    requires text { IsText (reply_seen entry.now.reply) }
-    ensures { IfOk result (λ text. text ≡ entry_text (entry_shown place (entry_seen entry.now) (built_shown (option_copied built.entry)))) }
+) -> Result<List<u8>, NoMemory>
+    // A built text is given exactly if the reply is that a build has its place.
+    requires built { is_some built ≡ written_spec.is_begun (seen_spec.reply_seen entry.now.reply) }
+    requires text { written_spec.IsText (seen_spec.reply_seen entry.now.reply) }
+    ensures { IfOk result (λ text. Some text ≡ option_map transcript_spec.entry_text
+        (transcript_spec.entry_shown place (seen_spec.entry_seen entry.now)
+        (written_spec.built_shown (option_copied built.entry)))) }
 {
-    let mut out = Text::new(alloc);
-    put_numbers(alloc, &mut out, place, entry.session, entry.number)?;
-    put_reply(alloc, &mut out, &entry.reply, built)?;
+    let mut out = List::new(alloc);
+    append_numbers(alloc, &mut out, place, entry.session, entry.number)?;
+    match built {
+        Some(built) => append_built(alloc, &mut out, built)?,
+        None => append_reply(alloc, &mut out, &entry.reply)?,
+    }
     Ok(out)
 }
 
 /// The first line of a transcript.
-pub fn write_head(alloc: Global) -> Result<Items<u8>, NoMemory>
-    ensures { IfOk result (λ text. text ≡ head_text) }
+pub fn write_head(alloc: Global) -> Result<List<u8>, NoMemory>
+    ensures { IfOk result (λ text. text ≡ transcript_spec.head_text) }
 {
-    Ok(Text::from_slice(alloc, b"dita transcript 1\n")?)
+    Ok(List::from_slice(alloc, b"dita transcript 1\n")?)
 }
 
 /// The last line: how many entries there are, and how many rows were made and dropped.
-pub fn write_end(
-    alloc: Global,
-    entries: u64,
-    made: u64,
-    dropped: u64,
-) -> Result<Items<u8>, NoMemory>
-    ensures { IfOk result (λ text. text ≡ line (end_head (record { entries = entries; made = made; dropped = dropped }))) }
+pub fn write_end(alloc: Global, entries: u64, made: u64, dropped: u64) -> Result<List<u8>, NoMemory>
+    ensures { let totals : transcript_spec.Totals =
+        record { entries = entries; made = made; dropped = dropped } in
+        IfOk result (λ text. text ≡ lines_spec.line (transcript_spec.end_head totals)) }
 {
-    let mut out = Text::new(alloc);
+    let mut out = List::new(alloc);
     out.append(format!(in alloc; "end {entries} {made} {dropped}\n")?.as_bytes())?;
     Ok(out)
 }
 
-/// Puts the beginning of an entry: its three numbers.
-fn put_numbers(
+// Appends the beginning of an entry: its three numbers.
+fn append_numbers(
     alloc: Global,
-    out: &mut Text,
+    out: &mut List<u8>,
     place: u64,
     session: u32,
     number: u32,
 ) -> Result<(), AllocError>
-    ensures { OnOk result (out.new ≡ out.old ++ numbers_text place session number) }
+    ensures { OnOk result (out.new ≡ out.old ++ written_spec.numbers_text place session number) }
 {
     out.append(format!(in alloc; "entry {place} {session} {number} ")?.as_bytes())
 }
 
-/// Puts a reply and the lines below it.
-fn put_reply(
-    alloc: Global,
-    out: &mut Text,
-    reply: &Reply,
-    built: Option<&BuiltText>,
-) -> Result<(), AllocError>
-    ensures { OnOk result (out.new ≡ out.old ++ shown_text (reply_shown (reply_seen reply.now) (built_shown (option_copied built.entry)))) }
+// Appends a reply and the lines below it. Of the reply that a build has its place there is nothing
+// to show without the build.
+fn append_reply(alloc: Global, out: &mut List<u8>, reply: &Reply) -> Result<(), AllocError>
+    ensures { let shown = transcript_spec.reply_shown (seen_spec.reply_seen reply.now) None in
+        OnOk result (IfSome shown (λ what. out.new ≡ out.old ++ written_spec.shown_text what)) }
 {
     match reply {
-        Reply::Stored(version) => put_number(alloc, out, b"stored ", *version),
-        Reply::Removed(version) => put_number(alloc, out, b"removed ", *version),
-        Reply::Bytes(bytes) => put_text(alloc, out, bytes.as_slice()),
-        Reply::NameList(names) => put_names(alloc, out, names.as_slice()),
+        Reply::Stored(version) => append_number(alloc, out, b"stored ", *version),
+        Reply::Removed(version) => append_number(alloc, out, b"removed ", *version),
+        Reply::Bytes(bytes) => append_text(alloc, out, bytes.as_slice()),
+        Reply::NameList(names) => append_names(alloc, out, names.as_slice()),
         Reply::Refused(fault) => {
-            let code = fault.code.text();
-            let line = fault.line;
             out.append(b"refused ")?;
-            out.append(code.as_bytes())?;
-            put_number(alloc, out, b" ", u64::from(line))
+            out.append(fault.code.text().as_bytes())?;
+            append_number(alloc, out, b" ", u64::from(fault.line))
         }
-        Reply::Conflict(version) => put_number(alloc, out, b"conflict ", *version),
+        Reply::Conflict(version) => append_number(alloc, out, b"conflict ", *version),
         Reply::Absent => out.append(b"absent\n"),
-        Reply::TooManyNames(_) => put_number(alloc, out, b"toomanynames ", 10000),
-        Reply::Begun => match built {
-            Some(built) => put_built(alloc, out, built),
-            None => out.append(b"notyet\n"),
-        },
+        Reply::TooManyNames(_) => append_number(alloc, out, b"toomanynames ", 10000),
+        Reply::Begun => Ok(()),
     }
 }
 
-/// Puts the end of a line: words, and a number.
-fn put_number(alloc: Global, out: &mut Text, words: &[u8], number: u64) -> Result<(), AllocError>
-    ensures { OnOk result (out.new ≡ out.old ++ line (words.now ++ decimal number)) }
+// Appends the end of a line: words, and a number.
+fn append_number(
+    alloc: Global,
+    out: &mut List<u8>,
+    words: &[u8],
+    number: u64,
+) -> Result<(), AllocError>
+    ensures { OnOk result (out.new ≡ out.old ++ lines_spec.line (words.now ++ decimal number)) }
 {
     out.append(words)?;
     out.append(format!(in alloc; "{number}\n")?.as_bytes())
 }
 
-/// Puts a text line by line.
-fn put_text(alloc: Global, out: &mut Text, bytes: &[u8]) -> Result<(), AllocError>
-    ensures { OnOk result (out.new ≡ out.old ++ shown_text (Lines (lines_of bytes.now))) }
+// Appends a text line by line.
+fn append_text(alloc: Global, out: &mut List<u8>, bytes: &[u8]) -> Result<(), AllocError>
+    ensures { let shown = transcript_spec.Lines (lines_spec.lines_of bytes.now) in
+        OnOk result (out.new ≡ out.old ++ written_spec.shown_text shown) }
 {
-    put_number(alloc, out, b"text ", count_lines(bytes) as u64)?;
+    append_number(alloc, out, b"text ", count_lines(bytes) as u64)?;
     let mut rest = bytes;
     while let Some((front, back)) = split_at_first(rest, b'\n') {
-        put_line(out, front)?;
+        append_line(out, front)?;
         rest = back;
     }
     if !rest.is_empty() {
-        put_line(out, rest)?;
+        append_line(out, rest)?;
     }
     Ok(())
 }
 
-/// How many lines there are; a rest without LF is one.
+// How many lines there are; a rest without LF is one.
 fn count_lines(bytes: &[u8]) -> usize
-    ensures { result ≡ length (lines_of bytes.now) }
+    ensures { result ≡ length (lines_spec.lines_of bytes.now) }
 {
     let mut count = 0;
     let mut rest = bytes;
@@ -137,53 +137,56 @@ fn count_lines(bytes: &[u8]) -> usize
     if rest.is_empty() { count } else { count + 1 }
 }
 
-fn put_line(out: &mut Text, text: &[u8]) -> Result<(), AllocError>
-    ensures { OnOk result (out.new ≡ out.old ++ bar_line text.now) }
+fn append_line(out: &mut List<u8>, text: &[u8]) -> Result<(), AllocError>
+    ensures { OnOk result (out.new ≡ out.old ++ transcript_spec.bar_line text.now) }
 {
     out.append(b"|")?;
     out.append(text)?;
     out.append(b"\n")
 }
 
-/// Puts names with their versions.
-fn put_names(alloc: Global, out: &mut Text, names: &[Read]) -> Result<(), AllocError>
-    ensures { OnOk result (out.new ≡ out.old ++ shown_text (Names (map read_seen names.now))) }
+// Appends names with their versions.
+fn append_names(alloc: Global, out: &mut List<u8>, names: &[Read]) -> Result<(), AllocError>
+    ensures { let shown = transcript_spec.Names (map seen_spec.read_seen names.now) in
+        OnOk result (out.new ≡ out.old ++ written_spec.shown_text shown) }
 {
-    put_number(alloc, out, b"names ", names.len() as u64)?;
+    append_number(alloc, out, b"names ", names.len() as u64)?;
     for read in names {
-        put_name(alloc, out, read)?;
+        append_name(alloc, out, read)?;
     }
     Ok(())
 }
 
-fn put_name(alloc: Global, out: &mut Text, read: &Read) -> Result<(), AllocError>
-    ensures { OnOk result (out.new ≡ out.old ++ bar_line (name_line (read_seen read.now))) }
+fn append_name(alloc: Global, out: &mut List<u8>, read: &Read) -> Result<(), AllocError>
+    ensures { let text = transcript_spec.name_line (seen_spec.read_seen read.now) in
+        OnOk result (out.new ≡ out.old ++ transcript_spec.bar_line text) }
 {
     out.append(b"|")?;
-    out.append(read.name.as_slice())?;
-    put_number(alloc, out, b" ", read.version)
+    out.append(read.name.as_bytes())?;
+    append_number(alloc, out, b" ", read.version)
 }
 
-/// Puts what a build gave.
-fn put_built(alloc: Global, out: &mut Text, built: &BuiltText) -> Result<(), AllocError>
-    ensures { OnOk result (out.new ≡ out.old ++ shown_text (build_shown built.now)) }
+// Appends what a build gave.
+fn append_built(alloc: Global, out: &mut List<u8>, built: &BuiltText) -> Result<(), AllocError>
+    ensures { let shown = transcript_spec.OfBuild (written_spec.text_shown built.now) in
+        OnOk result (out.new ≡ out.old ++ written_spec.shown_text shown) }
 {
     match built {
         BuiltText::Pages(pages, faults) => {
             let count = pages.len();
             out.append(format!(in alloc; "built {count} ")?.as_bytes())?;
-            put_number(alloc, out, b"", faults.len() as u64)?;
-            put_pages(alloc, out, pages.as_slice())?;
-            put_faults(alloc, out, faults.as_slice())
+            append_number(alloc, out, b"", faults.len() as u64)?;
+            append_pages(alloc, out, pages.as_slice())?;
+            append_faults(alloc, out, faults.as_slice())
         }
-        BuiltText::Stopped(stop) => put_stop(out, *stop),
-        BuiltText::TooLarge(total) => put_number(alloc, out, b"toolarge ", *total),
+        BuiltText::Stopped(stop) => append_stop(out, *stop),
+        BuiltText::TooLarge(total) => append_number(alloc, out, b"toolarge ", *total),
         BuiltText::NotYet => out.append(b"notyet\n"),
     }
 }
 
-fn put_stop(out: &mut Text, stop: PlanStop) -> Result<(), AllocError>
-    ensures { OnOk result (out.new ≡ out.old ++ line (stop_text stop)) }
+fn append_stop(out: &mut List<u8>, stop: PlanStop) -> Result<(), AllocError>
+    ensures { OnOk result (out.new ≡ out.old ++ lines_spec.line (transcript_spec.stop_text stop)) }
 {
     match stop {
         PlanStop::NoMap => out.append(b"nomap\n"),
@@ -194,68 +197,69 @@ fn put_stop(out: &mut Text, stop: PlanStop) -> Result<(), AllocError>
     }
 }
 
-fn put_pages(alloc: Global, out: &mut Text, pages: &[(Name, PageMark)]) -> Result<(), AllocError>
-    ensures { OnOk result (out.new ≡ out.old ++ flat_map bar_line (map page_line (map page_shown pages.now))) }
+fn append_pages(
+    alloc: Global,
+    out: &mut List<u8>,
+    pages: &[(Name, PageMark)],
+) -> Result<(), AllocError>
+    ensures { let texts = map transcript_spec.page_line (map written_spec.page_shown pages.now) in
+        OnOk result (out.new ≡ out.old ++ flat_map transcript_spec.bar_line texts) }
 {
     for page in pages {
-        put_page(alloc, out, &page.0, page.1)?;
+        append_page(alloc, out, &page.0, page.1)?;
     }
     Ok(())
 }
 
-fn put_page(alloc: Global, out: &mut Text, name: &Name, mark: PageMark) -> Result<(), AllocError>
-    ensures { OnOk result (out.new ≡ out.old ++ bar_line (page_line (page_shown (name.now, mark)))) }
+fn append_page(
+    alloc: Global,
+    out: &mut List<u8>,
+    name: &Name,
+    mark: PageMark,
+) -> Result<(), AllocError>
+    ensures { let text = transcript_spec.page_line (written_spec.page_shown (name.now, mark)) in
+        OnOk result (out.new ≡ out.old ++ transcript_spec.bar_line text) }
 {
     out.append(b"|page ")?;
-    out.append(name.as_slice())?;
+    out.append(name.as_bytes())?;
     match mark {
-        PageMark::Bytes(bytes) => put_number(alloc, out, b" bytes ", bytes),
-        PageMark::Row(serial) => put_number(alloc, out, b" row ", serial),
+        PageMark::Bytes(bytes) => append_number(alloc, out, b" bytes ", bytes),
+        PageMark::Row(serial) => append_number(alloc, out, b" row ", serial),
     }
 }
 
-fn put_faults(alloc: Global, out: &mut Text, faults: &[Fault]) -> Result<(), AllocError>
-    ensures { OnOk result (out.new ≡ out.old ++ flat_map bar_line (map fault_line (map fault_shown faults.now))) }
+fn append_faults(alloc: Global, out: &mut List<u8>, faults: &[Fault]) -> Result<(), AllocError>
+    ensures { let shown = map transcript_spec.fault_shown faults.now in
+        let texts = map transcript_spec.fault_line shown in
+        OnOk result (out.new ≡ out.old ++ flat_map transcript_spec.bar_line texts) }
 {
     for fault in faults {
-        put_fault(alloc, out, fault)?;
+        append_fault(alloc, out, fault)?;
     }
     Ok(())
 }
 
-fn put_fault(alloc: Global, out: &mut Text, fault: &Fault) -> Result<(), AllocError>
-    ensures { OnOk result (out.new ≡ out.old ++ bar_line (fault_line (fault_shown fault.now))) }
+fn append_fault(alloc: Global, out: &mut List<u8>, fault: &Fault) -> Result<(), AllocError>
+    ensures { let text = transcript_spec.fault_line (transcript_spec.fault_shown fault.now) in
+        OnOk result (out.new ≡ out.old ++ transcript_spec.bar_line text) }
 {
     let line = fault.line;
     out.append(b"|")?;
-    out.append(fault.name.as_slice())?;
+    out.append(fault.name.as_bytes())?;
     out.append(format!(in alloc; ":{line} ")?.as_bytes())?;
     out.append(fault.code.text().as_bytes())?;
-    put_detail(out, fault.detail.as_slice())?;
+    append_detail(out, fault.detail.as_bytes())?;
     out.append(b"\n")
 }
 
-/// Puts the detail of a fault, with its escapes, behind a space; an empty one has no space.
-fn put_detail(out: &mut Text, detail: &[u8]) -> Result<(), AllocError>
-    ensures { OnOk result (out.new ≡ out.old ++ with_detail (escaped detail.now)) }
+// Appends the detail of a fault, with its escapes, behind a space; an empty one has no space.
+fn append_detail(out: &mut List<u8>, detail: &[u8]) -> Result<(), AllocError>
+    ensures { let shown = pyx_escapes_spec.escaped detail.now in
+        OnOk result (out.new ≡ out.old ++ transcript_spec.with_detail shown) }
 {
     if detail.is_empty() {
         return Ok(());
     }
     out.append(b" ")?;
-    for byte in detail {
-        put_byte(out, *byte)?;
-    }
-    Ok(())
-}
-
-fn put_byte(out: &mut Text, byte: u8) -> Result<(), AllocError>
-    ensures { OnOk result (out.new ≡ out.old ++ escaped_byte byte) }
-{
-    match byte {
-        b'\n' => out.append(b"\\n"),
-        b'\t' => out.append(b"\\t"),
-        b'\\' => out.append(b"\\\\"),
-        other => out.push(other),
-    }
+    append_pyx(out, detail)
 }

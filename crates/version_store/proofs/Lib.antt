@@ -1,2 +1,4 @@
 mod NameListLaws
 mod KeptLaws
+pub mod FoundLaws
+pub mod HistoryLaws

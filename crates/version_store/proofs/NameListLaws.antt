@@ -8,17 +8,22 @@ use Rattle.dita_doc.specs.Seen.{read_seen}
 use Rattle.dita_doc.specs.Sources.{document_seen}
 
 -- one more name is that of the next document
-pub names_more : (documents : List Document) (state : State) (reads more : List Read) (read : Read) (document : Document) (i : ℕ)
-    → map document_seen documents ≡ state → i < length documents → document ≡ get_or documents i document → read_seen read ≡ listed (document_seen document)
-    → more ≡ reads ++ read ∷ [] → map read_seen reads ≡ take i (map listed state) → map read_seen more ≡ take (i + 1) (map listed state)
+pub names_more : (documents : List Document) (state : State) (reads more : List Read) (read : Read)
+    (document : Document)
+    → (i : ℕ) → map document_seen documents ≡ state → i < length documents → document ≡ get_or documents i document
+    → read_seen read ≡ listed (document_seen document) → more ≡ reads ++ read ∷ []
+    → map read_seen reads ≡ take i (map listed state) → map read_seen more ≡ take (i + 1) (map listed state)
 names_more documents state reads more read document i seen within is alike added so_far =
     let all = map document_seen documents in
+    let names = map listed all in
     let next = listed (document_seen document) in
-    let stands : get_or (map listed all) i next ≡ next =
+    let stands : get_or names i next ≡ next =
     get_or-map listed all i (document_seen document) next (omega (arith, length-map documents document_seen, within))
-    ∙ ap listed (get_or-map document_seen documents i document (document_seen document) within ∙ ap document_seen (sym is)) in
-    let step : take (i + 1) (map listed all) ≡ take i (map listed all) ++ next ∷ [] =
-    take_more (map listed all) i next (omega (arith, length-map all listed, length-map documents document_seen, within)) ∙ ap (λ name. take i (map listed all) ++ name ∷ []) stands in
+    ∙ ap listed (get_or-map document_seen documents i document (document_seen document) within)
+    ∙ ap (λ document. listed (document_seen document)) (sym is) in
+    let step : take (i + 1) names ≡ take i names ++ next ∷ [] =
+    take_more names i next (omega (arith, length-map all listed, length-map documents document_seen, within))
+    ∙ ap (λ name. take i names ++ name ∷ []) stands in
     ap (map read_seen) added
     ∙ map_push read_seen reads read
     ∙ ap (λ front. front ++ read_seen read ∷ []) so_far

@@ -1,9 +1,11 @@
--- What a store keeps (own): the history of all that it has answered, within two limits. One more request stands at the end of the
--- history, with the reply that the desk gives at its place; so the sources are always the history's replay.
-use Rattle.std.specs.Prelude.{◌≡◌, ◌+◌, ◌<◌, ◌≤◌, ◌⊎◌, ℕ, List, [], ◌∷◌, ◌++◌, length}
+-- What a store keeps (own): the history of all that it has answered, within two limits. One more request stands at the
+-- end of the history, with the reply that the desk gives at its place; so the sources are always the history's replay.
+use Rattle.std.specs.Prelude.{◌≡◌, ◌+◌, ◌<◌, ◌≤◌, ◌⊎◌, ℕ, List, [], ◌∷◌, ◌++◌, length, map}
+use Rattle.dita_doc.specs.declared.request.Entry as given
 use Rattle.dita_doc.specs.Request.{Request, text_size}
-use Rattle.dita_doc.specs.Desk.{State, reply}
+use Rattle.dita_doc.specs.Desk.{State, Reply, reply}
 use Rattle.dita_doc.specs.History.{Entry, IsLegal, sources, history_size}
+use Rattle.dita_doc.specs.Seen.{entry_seen}
 use Rattle.dita_doc.specs.declared.stop.Stop.{Stop}
 use Rattle.dita_doc.specs.declared.stop.Stop.TheVariants.{Fault, NoMemory}
 use Rattle.version_store.specs.declared.full.Full.{Full}
@@ -13,6 +15,14 @@ pub record Kept : Type 0 where
   pub history : List Entry
   pub entry_limit : ℕ
   pub text_limit : ℕ
+
+-- these entries, within these limits
+abbrev pub kept_of : List given.Entry → ℕ → ℕ → Kept
+kept_of entries entry_limit text_limit = record {
+  history = map entry_seen entries;
+  entry_limit = entry_limit;
+  text_limit = text_limit;
+}
 
 -- the limits of a desk
 abbrev pub entry_limit_of_desk : ℕ
@@ -29,10 +39,23 @@ nothing_kept entries bytes = record { history = []; entry_limit = entries; text_
 abbrev pub stored_now : Kept → State
 stored_now kept = sources kept.history (length kept.history)
 
+-- the desk's reply to a request at the end of the history
+abbrev pub reply_now : Kept → Request → Reply
+reply_now kept request = reply (stored_now kept) (length kept.history) request
+
+-- the entry of a request of a session at the end of the history
+abbrev pub next_entry : ℕ → ℕ → Request → Kept → Entry
+next_entry session number request kept = record {
+  session = session;
+  number = number;
+  request = request;
+  reply = reply_now kept request;
+}
+
 -- what is kept once a request of a session has been answered
 abbrev pub answered : ℕ → ℕ → Request → Kept → Kept
 answered session number request kept = record {
-  history = kept.history ++ record { session = session; number = number; request = request; reply = reply (stored_now kept) (length kept.history) request } ∷ [];
+  history = kept.history ++ next_entry session number request kept ∷ [];
   entry_limit = kept.entry_limit;
   text_limit = kept.text_limit;
 }
@@ -46,7 +69,9 @@ pub record Fits (kept : Kept) (request : Request) : Type 0 where
 pub record IsFull (kept : Kept) (request : Request) (full : Full) : Type 0 where
   pub entries : full.entries ≡ length kept.history
   pub bytes : full.bytes ≡ history_size kept.history
-  pub passed : (kept.entry_limit ≤ length kept.history) ⊎ (kept.text_limit < history_size kept.history + text_size request)
+  pub passed :
+      (kept.entry_limit ≤ length kept.history)
+      ⊎ (kept.text_limit < history_size kept.history + text_size request)
 
 -- why a request was not answered; want of memory says nothing
 abbrev pub IsFullIf : Kept → Request → Stop Full → Type 0

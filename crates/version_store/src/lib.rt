@@ -1,16 +1,16 @@
 //! What the desk keeps: the history of all that was asked, and what is stored after it.
 //!
-//! What is used above it: the clause `ok` of `Store::answer`. A request is put at the end of the history
-//! with the reply that the desk gives at its place, and what is stored is always the history's replay.
+//! What is used above it: the clause `ok` of `Store::answer` and `Store::answer_with_reply`. A
+//! request is put at the end of the history with the reply that the desk gives at its place, and
+//! what is stored is always the history's replay.
 #![tactic(auto)]
 
+mod change;
 mod full;
-mod laws;
-mod respond;
+mod reply;
 mod store;
 #[cfg(test)]
 mod tests;
 
 pub use full::Full;
-pub use laws::{names_rise, prefixes_stay, versions_tell};
 pub use store::{ENTRY_LIMIT, Store, TEXT_LIMIT};

@@ -1,16 +1,18 @@
 //! The history of all that was asked, with what is stored after it.
 
-ghost use Rattle.std.specs.Prelude.{◌≡◌, ◌<◌, ◌≤◌, ◌^◌, Some, IfOk, IfErr, OnOk, OnErr, length};
+ghost use Rattle.std.specs.Prelude.{◌≡◌, ◌<◌, ◌≤◌, Some, IfOk, IfErr, OnOk, OnErr, length};
 ghost use Rattle.std.specs.Arc.{arc_value};
 ghost use Rattle.std.specs.List.{slice_get};
-ghost use Rattle.dita_doc.specs.History.{IsLegal, history_size};
-ghost use Rattle.dita_doc.specs.Seen.{HasOwnOrigin, entry_seen, request_seen};
-ghost use Rattle.version_store.specs.Kept.{Fits, IsFullIf, answered, nothing_kept, stored_now, entry_limit_of_desk, text_limit_of_desk};
+ghost use Rattle.dita_doc.specs.History as history_spec;
+ghost use Rattle.dita_doc.specs.Request as request_spec;
+ghost use Rattle.dita_doc.specs.Seen as seen_spec;
+ghost use Rattle.version_store.specs.Kept as kept_spec;
 
+use crate::change::change;
 use crate::full::Full;
-use crate::respond::{respond, text_bytes};
-use dita_doc::{Entry, NoMemory, Request, Sources, Stop};
-use std::alloc::Global;
+use crate::reply::{copy_of, reply_to};
+use dita_doc::{Entry, NoMemory, Reply, Request, Sources, Stop};
+use std::alloc::{AllocError, Global};
 use std::marker::Model;
 use std::sync::Arc;
 
@@ -25,35 +27,38 @@ pub const TEXT_LIMIT: u64 = 67_108_864;
 pub struct Store {
     sources: Arc<Sources>,
     entries: Vec<Entry>,
+    /// The bytes of the names and bodies of all entries.
     text: u64,
     entry_limit: u64,
     text_limit: u64,
 }
 
 impl Model for Store {
-    ghost use Rattle.std.specs.Prelude.{map};
     ghost use Rattle.std.specs.Arc.{arc_value};
-    ghost use Rattle.dita_doc.specs.Seen.{entry_seen};
-    ghost use Rattle.version_store.specs.Kept.{Kept, IsKept};
+    ghost use Rattle.version_store.specs.Kept as kept_spec;
 
-    ghost Value = { Kept };
+    ghost Value = { kept_spec.Kept };
 
-    ghost view = { λ store. record { history = map entry_seen store.entries.items; entry_limit = store.entry_limit; text_limit = store.text_limit } };
+    ghost view = { λ store.
+        kept_spec.kept_of store.entries.items store.entry_limit store.text_limit };
 
-    ghost invariant = { λ store. IsKept (arc_value store.sources) store.text (record { history = map entry_seen store.entries.items; entry_limit = store.entry_limit; text_limit = store.text_limit }) };
+    ghost invariant = { λ store. kept_spec.IsKept (arc_value store.sources) store.text
+        (kept_spec.kept_of store.entries.items store.entry_limit store.text_limit) };
 }
 
 impl Store {
     /// Nothing was asked yet, and the limits are a desk's.
     pub fn new(alloc: Global) -> Result<Store, NoMemory>
-        ensures { IfOk result (λ store. store ≡ nothing_kept entry_limit_of_desk text_limit_of_desk) }
+        ensures { IfOk result (λ store. store
+            ≡ kept_spec.nothing_kept kept_spec.entry_limit_of_desk kept_spec.text_limit_of_desk) }
     {
         Store::with_limits(alloc, ENTRY_LIMIT, TEXT_LIMIT)
     }
 
-    /// Nothing was asked yet. So many entries, and so many bytes of their names and bodies, are the most.
+    /// Nothing was asked yet. So many entries, and so many bytes of their names and bodies, are the
+    /// most.
     pub fn with_limits(alloc: Global, entries: u64, text_bytes: u64) -> Result<Store, NoMemory>
-        ensures { IfOk result (λ store. store ≡ nothing_kept entries text_bytes) }
+        ensures { IfOk result (λ store. store ≡ kept_spec.nothing_kept entries text_bytes) }
     {
         Ok(Store {
             sources: Arc::new(alloc, Sources::new(alloc))?,
@@ -64,12 +69,12 @@ impl Store {
         })
     }
 
-    /// Answers a request of a session, puts it at the end of the history, and says at which place. A reply
-    /// shares the stored bytes, and a request is kept as it is: no text is copied.
+    /// Answers a request of a session, puts it at the end of the history, and says at which place.
+    /// A reply shares the stored bytes, and a request is kept as it is: no text is copied.
     ///
     /// # Errors
     ///
-    /// What stands in the history, where one more request would pass a limit, or want of memory.
+    /// What stands in the history, if one more request would pass a limit, or want of memory.
     pub fn answer(
         &mut self,
         alloc: Global,
@@ -77,44 +82,71 @@ impl Store {
         number: u32,
         request: Request,
     ) -> Result<u64, Stop<Full>>
-        requires origin { HasOwnOrigin request }
+        requires origin { seen_spec.HasOwnOrigin request }
         ensures place { IfOk result (λ place. place ≡ length self.old.history) }
-        ensures ok { OnOk result (self.new ≡ answered session number (request_seen request) self.old) }
-        ensures room { OnOk result (Fits self.old (request_seen request)) }
+        ensures ok { OnOk result (self.new
+            ≡ kept_spec.answered session number (seen_spec.request_seen request) self.old) }
+        ensures room { OnOk result (kept_spec.Fits self.old (seen_spec.request_seen request)) }
         ensures err { OnErr result (self.new ≡ self.old) }
-        ensures full { IfErr result (IsFullIf self.old (request_seen request)) }
+        ensures full { IfErr result
+            (kept_spec.IsFullIf self.old (seen_spec.request_seen request)) }
     {
-        let size = text_bytes(&request);
-        let place = self.entries.len() as u64;
-        if place >= self.entry_limit || size > self.text_limit - self.text {
-            return Err(Stop::Fault(Full {
-                entries: place,
-                bytes: self.text,
-            }));
-        }
-        self.entries.reserve(1)?;
-        let reply = respond(alloc, &mut self.sources, place, &request)?;
-        self.entries.push(Entry {
+        let reply = self.reply_to(alloc, &request)?;
+        let place = self.push(Entry {
             session,
             number,
             request,
             reply,
         })?;
-        self.text += size;
         Ok(place)
+    }
+
+    /// Answers a request as `answer` does, and hands out the reply too. It shares its bytes with
+    /// the reply of the entry; a list of names is copied, before anything changes.
+    ///
+    /// # Errors
+    ///
+    /// Those of `answer`.
+    pub fn answer_with_reply(
+        &mut self,
+        alloc: Global,
+        session: u32,
+        number: u32,
+        request: Request,
+    ) -> Result<(u64, Reply), Stop<Full>>
+        requires origin { seen_spec.HasOwnOrigin request }
+        ensures place { IfOk result (λ answer. answer.0 ≡ length self.old.history) }
+        ensures reply { IfOk result (λ answer. seen_spec.reply_seen answer.1
+            ≡ kept_spec.reply_now self.old (seen_spec.request_seen request)) }
+        ensures ok { OnOk result (self.new
+            ≡ kept_spec.answered session number (seen_spec.request_seen request) self.old) }
+        ensures room { OnOk result (kept_spec.Fits self.old (seen_spec.request_seen request)) }
+        ensures err { OnErr result (self.new ≡ self.old) }
+        ensures full { IfErr result
+            (kept_spec.IsFullIf self.old (seen_spec.request_seen request)) }
+    {
+        let reply = self.reply_to(alloc, &request)?;
+        let copy = copy_of(alloc, &reply)?;
+        let place = self.push(Entry {
+            session,
+            number,
+            request,
+            reply,
+        })?;
+        Ok((place, copy))
     }
 
     /// The entry at a place.
     pub fn entry(&self, place: u64) -> &Entry
         requires { place < length self.now.history }
-        ensures { slice_get self.now.history place ≡ Some (entry_seen result.now) }
+        ensures { slice_get self.now.history place ≡ Some (seen_spec.entry_seen result.now) }
     {
         &self.entries[place as usize]
     }
 
     /// What is stored after all that was asked. A clone of it stays what it is when more is asked.
     pub fn sources(&self) -> &Arc<Sources>
-        ensures { arc_value result.now ≡ stored_now self.now }
+        ensures { arc_value result.now ≡ kept_spec.stored_now self.now }
     {
         &self.sources
     }
@@ -122,9 +154,66 @@ impl Store {
     /// How many requests were answered.
     pub fn entries(&self) -> u64
         ensures value { result ≡ length self.now.history }
-        ensures legal { IsLegal self.now.history }
-        ensures within { (length self.now.history ≤ self.now.entry_limit) × (history_size self.now.history ≤ self.now.text_limit) }
+        ensures legal { history_spec.IsLegal self.now.history }
+        ensures within { (length self.now.history ≤ self.now.entry_limit)
+            × (history_spec.history_size self.now.history ≤ self.now.text_limit) }
     {
         self.entries.len() as u64
+    }
+
+    // The reply to one more request, if there is room for it.
+    fn reply_to(&self, alloc: Global, request: &Request) -> Result<Reply, Stop<Full>>
+        ensures reply { IfOk result (λ reply. seen_spec.reply_seen reply
+            ≡ kept_spec.reply_now self.now (seen_spec.request_seen request.now)) }
+        ensures room { OnOk result
+            (kept_spec.Fits self.now (seen_spec.request_seen request.now)) }
+        ensures full { IfErr result
+            (kept_spec.IsFullIf self.now (seen_spec.request_seen request.now)) }
+    {
+        let place = self.entries();
+        if place >= self.entry_limit || text_bytes(request) > self.text_limit - self.text {
+            return Err(Stop::Fault(Full {
+                entries: place,
+                bytes: self.text,
+            }));
+        }
+        Ok(reply_to(alloc, &self.sources, place, request)?)
+    }
+
+    // Puts an entry at the end of the history, stores or removes what it says, and tells its place.
+    fn push(&mut self, entry: Entry) -> Result<u64, AllocError>
+        requires origin { seen_spec.HasOwnOrigin entry.request }
+        requires room { kept_spec.Fits self.old (seen_spec.request_seen entry.request) }
+        requires reply { seen_spec.reply_seen entry.reply
+            ≡ kept_spec.reply_now self.old (seen_spec.request_seen entry.request) }
+        ensures place { IfOk result (λ place. place ≡ length self.old.history) }
+        ensures ok { OnOk result (self.new ≡ kept_spec.answered entry.session entry.number
+            (seen_spec.request_seen entry.request) self.old) }
+        ensures err { OnErr result (self.new ≡ self.old) }
+    {
+        let size = text_bytes(&entry.request);
+        let place = self.entries();
+        self.entries.reserve(1)?;
+        change(&mut self.sources, &entry.request, &entry.reply)?;
+        self.entries.push(entry)?;
+        self.text += size;
+        Ok(place)
+    }
+}
+
+// The bytes of a request's names and body.
+fn text_bytes(request: &Request) -> u64
+    ensures { result ≡ request_spec.text_size (seen_spec.request_seen request.now) }
+{
+    match request {
+        Request::Put(name, body) | Request::PutIf(_, name, body) => {
+            name.as_bytes().len() as u64 + body.bytes.len() as u64
+        }
+        Request::Remove(name) | Request::Get(name) => name.as_bytes().len() as u64,
+        Request::Names => 0,
+        Request::Build(map, None) => map.as_bytes().len() as u64,
+        Request::Build(map, Some(val)) => {
+            map.as_bytes().len() as u64 + val.as_bytes().len() as u64
+        }
     }
 }

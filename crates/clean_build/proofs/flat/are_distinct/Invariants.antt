@@ -1,5 +1,5 @@
 use Rattle.std.proofs.Common.{◌≡◌, length}
-use Rattle.dita_doc.specs.Flat.{are_distinct}
+use Rattle.clean_build.specs.Flat.{are_distinct}
 use Rattle.clean_build.proofs.flat.are_distinct.Given as goal
 
 abbrev pub invariant-loop-name : goal.invariant-loop-name

@@ -1,5 +1,5 @@
 use Rattle.std.proofs.Common.{◌≡◌, drop}
-use Rattle.dita_doc.specs.Flat.{value_of}
+use Rattle.dita_doc.specs.ClassValue.{value_of}
 use Rattle.clean_build.proofs.flat.value_of.Given as goal
 
 abbrev pub invariant-loop-attribute : goal.invariant-loop-attribute

@@ -1,8 +1,21 @@
-use Rattle.desk_top.proofs.EndsLaws.{ends_written}
+use Rattle.std.proofs.Common.{inr, rules}
+use Rattle.desk_top.proofs.EndsLaws.{clean_over, ends_written}
 use Rattle.desk_top.proofs.clean.run_clean.Goals as goal
 
 pub returns-in-Ok-answered : goal.returns-in-Ok-answered
 returns-in-Ok-answered g c =
     let answer = rw c.as_slice.ensures at c.in-Ok-answered.ensures.ok in
+    let pages = rw c.as_slice.ensures at c.in-Ok-answered.ensures.pages in
     let written = rw c.as_slice-in-Ok-answered.ensures at c.written.ensures in
-    ends_written _ _ c.in-Ok.input c.in-Ok-answered.output c.in-Ok-answered.status _ c.in-Ok.ensures.ok answer.0 answer.1 answer.2 written
+    ends_written _ _ c.in-Ok.input c.in-Ok-answered.output c.in-Ok-answered.status _ c.in-Ok.ensures.ok answer.0
+    answer.1 pages written
+
+pub returns-in-Err-Fault-answered : goal.returns-in-Err-Fault-answered
+returns-in-Err-Fault-answered g c =
+    let pages = rw c.as_slice.ensures at c.in-Err-Fault-answered.ensures.pages in
+    (search rules, (clean_over _ _ c.in-Ok.input c.in-Ok.ensures.ok, pages, search rules))
+
+pub returns : goal.returns
+returns g c =
+    let pages = rw c.as_slice.ensures at c.in-Err-NoMemory-answered.ensures.pages in
+    inr (clean_over _ _ c.in-Ok.input c.in-Ok.ensures.ok, pages, search rules)

@@ -1,15 +1,17 @@
 use Rattle.std.proofs.Common.{Err}
 use Rattle.std.proofs.lemmas.Result.{err_from_is_err_and}
 use Rattle.desk_top.proofs.DeliverLaws.{put_front}
-use Rattle.desk_top.proofs.TakesLaws.{cause_from}
+use Rattle.desk_top.proofs.TakesLaws.{cause_from, puts_front}
 use Rattle.desk_top.proofs.deliver.deliver.Goals as goal
 
-pub returns-in_err-put-clause-err : goal.returns-in_err-put-clause-err
-returns-in_err-put-clause-err g c =
-    let p = err_from_is_err_and c.from_residual.result c.from_residual.ensures.1 in
-    rw p.1 (put_front c.args.number c.loop-page.page-index c.args.pages.now _ _ _ c.loop-page.invariant.taken c.in_err-put.ensures.page)
+pub returns-in_err-put-clause-pages : goal.returns-in_err-put-clause-pages
+returns-in_err-put-clause-pages g c =
+    puts_front _ _ _ _ c.from_residual.result c.from_residual.ensures.1
+    (put_front c.args.number c.loop-page.page-index c.args.pages.now _ _ _ c.loop-page.invariant.taken
+    c.in_err-put.ensures.page)
 
 pub returns-in_err-put-clause-cause : goal.returns-in_err-put-clause-cause
 returns-in_err-put-clause-cause g c =
     let p = err_from_is_err_and c.from_residual.result c.from_residual.ensures.1 in
-    rw (p.1, p.2) (cause_from _ _ _ (Err c.in_err-put.field-0.0) c.loop-page.invariant.counted c.in_err-put.ensures.cause)
+    rw (p.1, p.2) (cause_from _ _ _ (Err c.in_err-put.field-0.0) c.loop-page.invariant.counted
+    c.in_err-put.ensures.cause)

@@ -1,5 +1,5 @@
 use Rattle.std.proofs.Common.{◌≡◌, ◌<◌, ◌^◌, drop}
-use Rattle.dita_doc.specs.Script.{value_after}
+use Rattle.script_text.specs.Script.{value_after}
 use Rattle.script_text.proofs.words.value_of.Given as goal
 
 abbrev pub invariant-loop-digit : goal.invariant-loop-digit

@@ -5,7 +5,8 @@ use Rattle.transcript_text.proofs.below.read_reply.Goals as goal
 
 pub returns-in-Some-rest-2 : goal.returns-in-Some-rest-2
 returns-in-Some-rest-2 c =
-    below_many c.args.reply.now c.split_word.result.0.now c.in-Some.rest.now c.split_word-2.result.0.now c.in-Some-rest.rest.now c.split_word-3.result.0.now c.in-Some-rest-2.field-0.now
+    below_many c.args.reply.now c.split_word.result.0.now c.in-Some.rest.now c.split_word-2.result.0.now
+    c.in-Some-rest.rest.now c.split_word-3.result.0.now c.in-Some-rest-2.field-0.now
     (c.split_word.ensures ∙ ap (λ rest. c.split_word.result.0.now ∷ words_in rest) c.in-Some.is)
     (c.split_word-2.ensures ∙ ap (λ rest. c.split_word-2.result.0.now ∷ words_in rest) c.in-Some-rest.is)
     (c.split_word-3.ensures ∙ ap (λ rest. c.split_word-3.result.0.now ∷ words_in rest) c.in-Some-rest-2.is)

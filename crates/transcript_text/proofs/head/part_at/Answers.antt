@@ -1,5 +1,5 @@
 use Rattle.std.proofs.Common.{refl, ap}
-use Rattle.dita_doc.specs.Transcript.{IsPage}
+use Rattle.transcript_text.specs.Transcript.{IsPage}
 use Rattle.transcript_text.specs.Heads.{part_word}
 use Rattle.transcript_text.proofs.head.part_at.Goals as goal
 

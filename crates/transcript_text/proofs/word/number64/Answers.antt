@@ -6,7 +6,10 @@ pub returns-then-not-is_plain : goal.returns-then-not-is_plain
 returns-then-not-is_plain c = sym (not_plain 64 _ (omega arith) c.if-not-is_plain.ensures)
 
 pub returns-in_err-text : goal.returns-in_err-text
-returns-in_err-text c = c.from_residual.ensures ∙ sym (no_text _ 64 _ c.from_utf8.result (omega arith) (omega arith) c.from_utf8.ensures.cases c.in_err-text.ensures.value)
+returns-in_err-text c =
+    c.from_residual.ensures
+    ∙ sym (no_text _ 64 _ c.from_utf8.result (omega arith)
+    (omega arith) c.from_utf8.ensures.cases c.in_err-text.ensures.value)
 
 pub returns : goal.returns
 returns c = let is = text_is _ _ _ c.from_utf8.result c.from_utf8.ensures.cases c.in_ok-text.ensures.value in

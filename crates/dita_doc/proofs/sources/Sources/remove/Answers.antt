@@ -6,20 +6,26 @@ use Rattle.dita_doc.proofs.SourcesLaws.{found_read, found_in_gap, taken_away}
 use Rattle.dita_doc.proofs.sources.Sources.remove.Goals as goal
 
 pub returns-in-Ok-clause-after : goal.returns-in-Ok-clause-after
-returns-in-Ok-clause-after c = taken_away document_seen c.self.inside.documents.items c.args.self.now c.self.view_is c.remove.new.self.items c.args.name.now c.in-Ok.at c.in-Ok.ensures.found c.remove.ensures.items
+returns-in-Ok-clause-after c = taken_away document_seen c.self.inside.documents.items c.args.self.now c.self.view_is
+    c.remove.new.self.items c.args.name.now c.in-Ok.at c.in-Ok.ensures.found c.remove.ensures.items
 
 pub invariant_of-self : goal.invariant_of-self
 invariant_of-self c =
-    let is = taken_away document_seen c.self.inside.documents.items c.args.self.now c.self.view_is c.remove.new.self.items c.args.name.now c.in-Ok.at c.in-Ok.ensures.found c.remove.ensures.items in
-    subst IsSortedByName (sym is) (sorted_without c.args.name.now c.args.self.now (subst IsSortedByName c.self.view_is c.self.invariant))
+    let is = taken_away document_seen c.self.inside.documents.items c.args.self.now c.self.view_is
+    c.remove.new.self.items c.args.name.now c.in-Ok.at c.in-Ok.ensures.found c.remove.ensures.items in
+    subst IsSortedByName (sym is) (sorted_without c.args.name.now c.args.self.now
+    (subst IsSortedByName c.self.view_is c.self.invariant))
 
 pub returns-in-Ok-clause-version : goal.returns-in-Ok-clause-version
 returns-in-Ok-clause-version c =
-    let is = found_read document_seen c.self.inside.documents.items c.args.self.now c.args.name.now c.in-Ok.at c.remove.result c.self.view_is c.in-Ok.ensures.found c.remove.ensures.value in
+    let is = found_read document_seen c.self.inside.documents.items c.args.self.now c.args.name.now c.in-Ok.at
+    c.remove.result c.self.view_is c.in-Ok.ensures.found c.remove.ensures.value in
     sym (ap (option_map (λ (stored : Stored). stored.version)) is)
 
 pub returns-in-Err-clause-version : goal.returns-in-Err-clause-version
-returns-in-Err-clause-version c = sym (ap (option_map (λ (stored : Stored). stored.version)) (found_in_gap _ _ _ c.in-Err.ensures.absent))
+returns-in-Err-clause-version c =
+    sym (ap (option_map (λ (stored : Stored). stored.version)) (found_in_gap _ _ _ c.in-Err.ensures.absent))
 
 pub returns-in-Err-clause-after : goal.returns-in-Err-clause-after
-returns-in-Err-clause-after c = sym (without_unfound c.args.name.now c.args.self.now (found_in_gap _ _ _ c.in-Err.ensures.absent))
+returns-in-Err-clause-after c =
+    sym (without_unfound c.args.name.now c.args.self.now (found_in_gap _ _ _ c.in-Err.ensures.absent))

@@ -1,0 +1,45 @@
+-- The names of pages, and where they are put.
+use Rattle.std.specs.Prelude.{◌≡◌, ◌+◌, ◌<◌, ◌≤◌, ◌^◌, ◌==◌, ◌%◌, ℕ, true, false, List, [], ◌∷◌, ◌++◌, length, codes}
+use Rattle.std.specs.Fmt.{decimal}
+use Rattle.std.proofs.Common.{refl, arith, append_assoc, length-append}
+use Rattle.std.proofs.lemmas.Bool.{le-leb}
+use Rattle.std.proofs.lemmas.Bool.Decides.{nat_tests}
+use Rattle.std.proofs.lemmas.Fmt.{decimal_by_steps, length-decimal-le}
+use Rattle.std.proofs.lemmas.List.Folds.{list_all-append}
+use Rattle.dita_doc.specs.Name.{is_name}
+use Rattle.script_text.specs.Script.{request_limit}
+use Rattle.dita_doc.proofs.NameLaws.{segments_after}
+use Rattle.clean_build.specs.PageNames.{IsPageName}
+use Rattle.clean_build.proofs.PageNameLaws.{IsWord, name_parts, name_from, words_joined}
+
+-- a digit is a word, and so a number
+digit_is_word : (n : ℕ) → n < 10 → IsWord ((48 + n) ∷ [])
+digit_is_word n small = record { plain = grind (arith, nat_tests); lacks = grind (arith, nat_tests) }
+
+decimal_is_word : (n : ℕ) → n < 2 ^ 64 → IsWord (decimal n)
+decimal_is_word n small =
+    decimal_by_steps (λ _ digits. IsWord digits) digit_is_word
+    (λ m digits more front. words_joined digits ((48 + m % 10) ∷ []) front (digit_is_word (m % 10) (omega arith))) n
+    small
+
+-- a page's name under a folder of `b` and at most five digits
+path_under : (digits page : List ℕ) → IsWord digits → length digits ≤ 5 → IsPageName page
+    → is_name (98 ∷ digits ++ 47 ∷ page) ≡ true
+path_under digits page word short named =
+    let parts = name_parts page named.named in
+    let front = words_joined (98 ∷ []) digits (record { plain = refl; lacks = refl }) word in
+    let full : (length (98 ∷ digits) == 0) ≡ false = grind (arith, nat_tests) in
+    name_from (98 ∷ digits ++ 47 ∷ page) (record {
+      short = le-leb _ _ (omega (arith, named.within, length-append (98 ∷ digits) (47 ∷ page)));
+      plain = rw (list_all-append, front.plain, parts.plain);
+      parts = rw (segments_after (98 ∷ digits) page front.lacks, full, parts.parts);
+      other = refl;
+    })
+
+-- where a page is put is a document name
+pub path_is_name : (number : ℕ) (page : List ℕ) → number ≤ request_limit → IsPageName page
+    → is_name (codes "b" ++ decimal number ++ codes "/" ++ page) ≡ true
+path_is_name number page small named =
+    let digits = length-decimal-le 5 number (omega arith) (omega arith) (omega arith) in
+    rw (append_assoc (decimal number) (codes "/") page)
+    (path_under (decimal number) page (decimal_is_word number (omega arith)) digits named)

@@ -1,0 +1,175 @@
+//! Texts in UTF-8, seen by contracts as the list of their bytes.
+
+ghost use Rattle.std.specs.Prelude.{◌≡◌, ◌++◌, ◌==◌, [], length, is_ok, if◌then◌else◌, IfOk};
+ghost use Rattle.std.specs.Str.{IsUtf8};
+
+use crate::list::List;
+use std::alloc::{AllocError, Global};
+use std::cmp::Ordering;
+use std::marker::Model;
+
+/// A growing text. That it is UTF-8 is a fact of the type, so no reader of one tests it again.
+#[derive(Debug, Drop)]
+pub struct Text {
+    content: String,
+}
+
+impl Model for Text {
+    ghost use Rattle.std.specs.Prelude.{List, ℕ};
+    ghost use Rattle.std.specs.String.{string_bytes};
+
+    ghost Value = { List ℕ };
+
+    ghost view = { λ t. string_bytes t.content };
+}
+
+impl Text {
+    /// The empty text, which takes no memory.
+    pub fn new(alloc: Global) -> Self
+        ensures { result ≡ [] }
+    {
+        Text {
+            content: String::new(alloc),
+        }
+    }
+
+    pub fn from_str(alloc: Global, text: &str) -> Result<Text, AllocError>
+        ensures { IfOk result (λ made. made ≡ text.now) }
+    {
+        Ok(Text {
+            content: String::from_str(alloc, text)?,
+        })
+    }
+
+    /// The text of bytes that are proved to be UTF-8: none of them is looked at.
+    pub fn from_bytes(alloc: Global, bytes: &[u8]) -> Result<Text, AllocError>
+        requires { IsUtf8 bytes.now }
+        ensures { IfOk result (λ made. made ≡ bytes.now) }
+    {
+        Text::from_str(alloc, unsafe { str::from_utf8_unchecked(bytes) })
+    }
+
+    /// The same, in the memory that holds the bytes.
+    pub fn from_vec(bytes: Vec<u8>) -> Text
+        requires { IsUtf8 bytes.items }
+        ensures { result ≡ bytes.items }
+    {
+        Text {
+            content: unsafe { String::from_utf8_unchecked(bytes) },
+        }
+    }
+
+    pub fn as_str(&self) -> &str
+        ensures { result.now ≡ self.now }
+    {
+        self.content.as_str()
+    }
+
+    pub fn as_bytes(&self) -> &[u8]
+        ensures value { result.now ≡ self.now }
+        ensures utf8 { IsUtf8 self.now }
+    {
+        self.as_str().as_bytes()
+    }
+
+    pub fn into_bytes(self) -> List<u8>
+        ensures { result ≡ self }
+    {
+        let Text { content } = self;
+        List::from_vec(content.into_bytes())
+    }
+
+    /// How many bytes it has.
+    pub fn len(&self) -> usize
+        ensures { result ≡ length self.now }
+    {
+        self.content.as_bytes().len()
+    }
+
+    pub fn is_empty(&self) -> bool
+        ensures { result ≡ (length self.now == 0) }
+    {
+        self.content.as_bytes().is_empty()
+    }
+
+    /// Appends a text. Without memory this one stays as it was.
+    pub fn append(&mut self, text: &str) -> Result<(), AllocError>
+        ensures { self.new ≡ (if is_ok result then self.old ++ text.now else self.old) }
+    {
+        self.content.push_str(text)
+    }
+
+    /// Appends bytes that are proved to be UTF-8. Without memory the text stays as it was.
+    pub fn append_bytes(&mut self, bytes: &[u8]) -> Result<(), AllocError>
+        requires { IsUtf8 bytes.now }
+        ensures { self.new ≡ (if is_ok result then self.old ++ bytes.now else self.old) }
+    {
+        self.content
+            .push_str(unsafe { str::from_utf8_unchecked(bytes) })
+    }
+}
+
+/// The same text in memory of its own.
+impl Clone for Text {
+    ghost use Rattle.std.specs.Prelude.{◌≡◌};
+
+    ghost is_clone = { λ text copy. copy ≡ text };
+
+    fn clone(&self) -> Result<Text, AllocError> {
+        Ok(Text {
+            content: self.content.clone()?,
+        })
+    }
+}
+
+impl PartialEq for Text {
+    ghost use Rattle.std.specs.Prelude.{bytes_eq};
+    ghost use Rattle.std.proofs.Common.{rules};
+
+    ghost eq = { bytes_eq };
+
+    ghost laws = { Prim.search rules };
+
+    fn eq(&self, other: &Self) -> bool {
+        self.content.as_bytes() == other.content.as_bytes()
+    }
+}
+
+impl Eq for Text {
+    ghost use Rattle.std.proofs.Common.{rules};
+
+    ghost laws = { Prim.search rules };
+}
+
+impl PartialOrd for Text {
+    ghost use Rattle.std.specs.Prelude.{Some};
+    ghost use Rattle.std.specs.Cmp.Lexicographic.{slice_cmp, texts_po};
+    ghost use Rattle.std.specs.Ordering.{nat_cmp};
+
+    ghost partial_cmp = { λ x y. Some (slice_cmp nat_cmp x y) };
+
+    ghost laws = { texts_po };
+
+    fn partial_cmp(&self, other: &Self) -> Option<Ordering> {
+        Some(self.cmp(other))
+    }
+}
+
+/// By the bytes, which is the order of the characters.
+impl Ord for Text {
+    ghost use Rattle.std.specs.Cmp.Lexicographic.{nat_list_cmp_total, slice_cmp, texts_ties};
+    ghost use Rattle.std.specs.Ordering.{nat_cmp};
+    ghost use Rattle.std.proofs.Common.{refl};
+
+    ghost cmp = { slice_cmp nat_cmp };
+
+    ghost total = { nat_list_cmp_total };
+
+    ghost matches_partial_cmp = { λ x y. refl };
+
+    ghost matches_eq = { texts_ties };
+
+    fn cmp(&self, other: &Self) -> Ordering {
+        self.content.as_bytes().cmp(&other.content.as_bytes())
+    }
+}

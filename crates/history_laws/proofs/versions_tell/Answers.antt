@@ -1,0 +1,49 @@
+use Rattle.std.proofs.Common.{◌≡◌, ℕ, Some, ap, sym, ◌∙◌, subst, arith}
+use Rattle.std.specs.List.{slice_get}
+use Rattle.std.proofs.lemmas.Option.{same_Some}
+use Rattle.dita_doc.specs.Bytes.{Bytes}
+use Rattle.dita_doc.specs.Desk.{Stored, found, nodes_in}
+use Rattle.dita_doc.specs.History.{Entry, sources}
+use Rattle.dita_doc.specs.Pyx.{document_of}
+use Rattle.dita_doc.specs.Request.{Request, Put, PutIf, Remove, Get, Names, Build}
+use Rattle.version_store.specs.Entries.{Entries, Puts}
+use Rattle.version_store.proofs.FoundLaws.{found_named}
+use Rattle.version_store.proofs.HistoryLaws.{from_sources, slice_get-take}
+use Rattle.history_laws.proofs.versions_tell.Goals as goal
+
+-- a request puts one body under a name
+one_body : (request : Request) (name x y : Bytes) → Puts request name x → Puts request name y → x ≡ y
+one_body (Put named body) name x y p q = sym p.1 ∙ q.1
+one_body (PutIf version named body) name x y p q = sym p.1 ∙ q.1
+one_body (Remove named) name x y p q = absurd p
+one_body (Get named) name x y p q = absurd p
+one_body Names name x y p q = absurd p
+one_body (Build map val) name x y p q = absurd p
+
+same_stored : (s t : Stored) → s.name ≡ t.name → s.nodes ≡ t.nodes → s.bytes ≡ t.bytes → s.version ≡ t.version → s ≡ t
+same_stored s t a b c d = λ i. record { name = a i; nodes = b i; bytes = c i; version = d i }
+
+-- both come from one entry, and have the name
+one_document : (history : Entries) (m n : ℕ) (name : Bytes) (stored again : Stored)
+    → found (sources history m) name ≡ Some stored → found (sources history n) name ≡ Some again
+    → stored.version ≡ again.version → stored ≡ again
+one_document history m n name stored again is too same =
+    let first = from_sources history m name stored is in
+    let second = from_sources history n name again too in
+    let named : stored.name ≡ again.name =
+    found_named (sources history m) name stored is ∙ sym (found_named (sources history n) name again too) in
+    let place : first.place ≡ second.place = omega (arith, first.version, second.version, same) in
+    let one : first.entry ≡ second.entry =
+    same_Some first.entry second.entry
+    (sym (slice_get-take history m first.place first.entry first.stands)
+    ∙ ap (slice_get history) place
+    ∙ slice_get-take history n second.place second.entry second.stands) in
+    let puts : Puts second.entry.request again.name stored.bytes =
+    subst (λ (named : Bytes). Puts second.entry.request named stored.bytes) named
+    (subst (λ (e : Entry). Puts e.request stored.name stored.bytes) one first.puts) in
+    let bytes = one_body second.entry.request again.name stored.bytes again.bytes puts second.puts in
+    let nodes = first.nodes ∙ ap (λ bytes. nodes_in (document_of bytes)) bytes ∙ sym second.nodes in
+    same_stored stored again named nodes bytes same
+
+pub returns : goal.returns
+returns c = one_document

@@ -1,5 +1,0 @@
-use Rattle.dita_doc.proofs.PyxLaws.{one_tree}
-use Rattle.pyx_text.proofs.one_tree.Goals as goal
-
-pub returns : goal.returns
-returns c = one_tree

@@ -1,0 +1,109 @@
+-- The requests of a script, answered in order on one thread: each with its entry, and a build with what it gave.
+use Rattle.std.specs.Prelude.{◌+◌, ℕ, List, [], ◌∷◌, ◌++◌, Option, Some, None, length, codes, map, option_map}
+use Rattle.std.specs.Fmt.{decimal}
+use Rattle.std.specs.List.{flat_map}
+use Rattle.build_spec.specs.Built.{Built, Page, Done, Stopped, TooLarge}
+use Rattle.clean_build.specs.Given.{Given, NotYet, Gave, given_of, pages_given}
+use Rattle.dita_doc.specs.Desk.{State, reply, next}
+use Rattle.dita_doc.specs.History.{Entry}
+use Rattle.dita_doc.specs.Request.{Request, Put, PutIf, Remove, Get, Names, Build}
+use Rattle.script_text.specs.Script.{Step}
+use Rattle.transcript_text.specs.Transcript.{BuildShown, PageShown, BuiltPages, StoppedBy, PagesTooLarge, NotYetBuilt, InOutlet, EntryShown, Transcript, entry_shown, fault_shown}
+
+-- what a request builds over what is stored, if it is a build
+abbrev pub built_by : State → Request → Option Given
+built_by state (Put name body) = None
+built_by state (PutIf version name body) = None
+built_by state (Remove name) = None
+built_by state (Get name) = None
+built_by state Names = None
+built_by state (Build map val) = Some (given_of state map val)
+
+-- an entry, and what it built
+pub record Answer : Type 0 where
+  pub entry : Entry
+  pub built : Option Given
+
+-- the answer to the request of a number at a place
+abbrev pub answer_at : State → ℕ → ℕ → Step → Answer
+answer_at state place number step = record {
+  entry = record {
+    session = step.session;
+    number = number;
+    request = step.request;
+    reply =
+        reply state place step.request;
+  };
+  built = built_by state step.request;
+}
+
+-- the answers to requests in order, from this state and place on; a request has the number of its place and 1
+abbrev pub answers_from : State → ℕ → List Step → List Answer
+answers_from state place [] = []
+answers_from state place (step ∷ steps) =
+    answer_at state place (place + 1) step ∷ answers_from (next state place step.request) (place + 1) steps
+
+-- the answers to the steps of a script, from a desk with nothing stored
+abbrev pub answers_to : List Step → List Answer
+answers_to steps = answers_from [] 0 steps
+
+-- What is shown of them
+
+-- a page that was put into the outlet
+abbrev pub page_put : Page → PageShown
+page_put page = record { name = page.0; mark = InOutlet (length page.1) }
+
+abbrev pub build_shown : Built → BuildShown
+build_shown (Done pages faults) = BuiltPages (map page_put pages) (map fault_shown faults)
+build_shown (Stopped stop) = StoppedBy stop
+build_shown (TooLarge total) = PagesTooLarge total
+
+abbrev pub given_shown : Given → BuildShown
+given_shown NotYet = NotYetBuilt
+given_shown (Gave built) = build_shown built
+
+-- the answer at a place: the answers to steps are shown each
+abbrev pub answer_shown : ℕ → Answer → Option EntryShown
+answer_shown place answer = entry_shown place answer.entry (option_map given_shown answer.built)
+
+abbrev pub before_shown : Option EntryShown → List EntryShown → List EntryShown
+before_shown None entries = entries
+before_shown (Some entry) entries = entry ∷ entries
+
+abbrev pub answers_shown : ℕ → List Answer → List EntryShown
+answers_shown place [] = []
+answers_shown place (answer ∷ answers) = before_shown (answer_shown place answer) (answers_shown (place + 1) answers)
+
+-- the transcript of a run without rows
+abbrev pub transcript_of : List Answer → Transcript
+transcript_of answers = record {
+  entries = answers_shown 0 answers;
+  rows = [];
+  totals = record { entries = length answers; made = 0; dropped = 0 };
+}
+
+-- The pages
+
+-- a page under the folder of its request's number
+abbrev pub delivered : ℕ → Page → Page
+delivered number page = (codes "b" ++ decimal number ++ codes "/" ++ page.0, page.1)
+
+abbrev pub pages_built : Option Given → List Page
+pages_built None = []
+pages_built (Some given) = pages_given given
+
+abbrev pub pages_of_answer : Answer → List Page
+pages_of_answer answer = map (delivered answer.entry.number) (pages_built answer.built)
+
+-- the pages of all builds, in order
+abbrev pub pages_of_answers : List Answer → List Page
+pages_of_answers answers = flat_map pages_of_answer answers
+
+-- One history
+
+abbrev pub entry_of : Answer → Entry
+entry_of answer = answer.entry
+
+-- the history of the answers to some steps
+abbrev pub history_of : List Step → List Entry
+history_of steps = map entry_of (answers_to steps)

@@ -1,0 +1,39 @@
+-- What a run of the mode `clean` over some bytes ends with: a status, the pages and the output.
+use Rattle.std.specs.Prelude.{◌++◌, ℕ, List, [], Result, Ok, Err, codes}
+use Rattle.std.specs.Fmt.{decimal}
+use Rattle.build_spec.specs.Built.{Page}
+use Rattle.dita_doc.specs.Lines.{line}
+use Rattle.script_text.specs.Faults.{script_code_text}
+use Rattle.script_text.specs.Script.{Step, script_of}
+use Rattle.script_text.specs.declared.fault.ScriptFault.{ScriptFault}
+use Rattle.transcript_text.specs.Transcript.{transcript_text}
+use Rattle.run_spec.specs.Answers.{Answer, answers_to, transcript_of, pages_of_answers}
+use Rattle.run_spec.specs.declared.status.Status.{Status}
+use Rattle.run_spec.specs.declared.status.Status.TheVariants as statuses
+
+pub record CleanRun : Type 0 where
+  pub status : Status
+  pub pages : List Page
+  pub output : List ℕ
+
+-- the bytes read at most: one more than a script has
+abbrev pub read_limit : ℕ
+read_limit = 67108865
+
+abbrev pub refusal_line : ScriptFault → List ℕ
+refusal_line fault = line (codes "script " ++ script_code_text fault.code ++ codes " " ++ decimal fault.line)
+
+abbrev pub run_answered : List Answer → CleanRun
+run_answered answers = record {
+  status = statuses.Done;
+  pages = pages_of_answers answers;
+  output = transcript_text (transcript_of answers);
+}
+
+-- a script is answered request by request, from a desk with nothing stored; other bytes are refused
+abbrev pub run_of : Result (List Step) ScriptFault → CleanRun
+run_of (Ok steps) = run_answered (answers_to steps)
+run_of (Err fault) = record { status = statuses.Script; pages = []; output = refusal_line fault }
+
+unfoldable pub clean_run : List ℕ → CleanRun
+clean_run input = run_of (script_of input)

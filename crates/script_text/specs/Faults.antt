@@ -1,0 +1,14 @@
+-- The texts of a script's faults (own): each code is spelled as its name.
+use Rattle.std.specs.Prelude.{ℕ, List, codes}
+use Rattle.script_text.specs.declared.fault.ScriptCode.{ScriptCode}
+use Rattle.script_text.specs.declared.fault.ScriptCode.TheVariants as script
+
+abbrev pub script_code_text : ScriptCode → List ℕ
+script_code_text script.BadCommand = codes "BadCommand"
+script_code_text script.BadNumber = codes "BadNumber"
+script_code_text script.BadName = codes "BadName"
+script_code_text script.NoEnd = codes "NoEnd"
+script_code_text script.TooManySessions = codes "TooManySessions"
+script_code_text script.TooManyRequests = codes "TooManyRequests"
+script_code_text script.TooLong = codes "TooLong"
+script_code_text script.NotUtf8 = codes "NotUtf8"

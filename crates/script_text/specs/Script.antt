@@ -1,0 +1,233 @@
+-- Scripts (own): UTF-8 text in lines ended by LF, of which the last LF may be missing; of at most 67,108,864 bytes,
+-- 65,536 requests and 16 sessions. Outside bodies, lines of spaces and tabs alone and lines beginning `#` are passed
+-- over. Every other line is one request, its words separated by spaces. A body is all lines up to a line that is
+-- exactly
+-- `.`; its bytes are those lines with their LF.
+use Rattle.std.specs.Prelude.{◌+◌, ◌-◌, ◌*◌, ◌==◌, ◌&&◌, ◌||◌, ◌++◌, ℕ, Bool, true, false, List, [], ◌∷◌, Option, Some, None, Result, Ok, Err, length, take, slice_index, nat_le, nat_lt, if◌then◌else◌, codes, bytes_eq}
+use Rattle.std.specs.List.{list_all}
+use Rattle.std.specs.Option.{option_to_list}
+use Rattle.std.specs.Str.{is_utf8}
+use Rattle.script_text.specs.declared.fault.ScriptCode.{ScriptCode}
+use Rattle.script_text.specs.declared.fault.ScriptCode.TheVariants as faults
+use Rattle.script_text.specs.declared.fault.ScriptFault.{ScriptFault}
+use Rattle.dita_doc.specs.Lines.{lines_of}
+use Rattle.dita_doc.specs.Name.{is_name}
+use Rattle.dita_doc.specs.Bytes.{line_feed, number_sign, digit_zero, is_digit, is_gap, spaced_words}
+use Rattle.dita_doc.specs.Request.{Request, Put, PutIf, Remove, Get, Names, Build}
+
+abbrev pub script_limit : ℕ
+script_limit = 67108864
+
+abbrev pub request_limit : ℕ
+request_limit = 65536
+
+abbrev pub session_limit : ℕ
+session_limit = 16
+
+-- Numbers
+
+abbrev pub value_after : ℕ → List ℕ → ℕ
+value_after value [] = value
+value_after value (b ∷ digits) = value_after (value * 10 + (b - digit_zero)) digits
+
+-- the number that a word is: 1 to 18 decimal digits, zeros before them among these
+abbrev pub number_of : List ℕ → Option ℕ
+number_of word =
+    if nat_le 1 (length word) && nat_le (length word) 18 && list_all is_digit word then Some (value_after 0 word)
+    else None
+
+-- Commands: the words of a line behind its session
+
+-- a put of which the body is to come
+pub data Opening : Type 0 where
+  PutOf : (name : List ℕ) → Opening
+  PutIfOf : (version : ℕ) (name : List ℕ) → Opening
+
+abbrev pub with_body : Opening → List ℕ → Request
+with_body (PutOf name) body = Put name body
+with_body (PutIfOf version name) body = PutIf version name body
+
+-- a whole request, or one whose body is to come
+pub data Command : Type 0 where
+  Whole : Request → Command
+  Opens : Opening → Command
+
+-- the name that a word is
+abbrev pub name_of : List ℕ → Result (List ℕ) ScriptCode
+name_of word = if is_name word then Ok word else Err faults.BadName
+
+-- the command, if its name is one
+abbrev pub named : Result (List ℕ) ScriptCode → Result Command ScriptCode → Result Command ScriptCode
+named (Ok name) command = command
+named (Err code) command = Err code
+
+abbrev pub put_by : List (List ℕ) → Result Command ScriptCode
+put_by (name ∷ []) = named (name_of name) (Ok (Opens (PutOf name)))
+put_by words = Err faults.BadCommand
+
+abbrev pub put_if_of : Option ℕ → List ℕ → Result Command ScriptCode
+put_if_of None name = Err faults.BadNumber
+put_if_of (Some version) name = named (name_of name) (Ok (Opens (PutIfOf version name)))
+
+abbrev pub put_if_by : List (List ℕ) → Result Command ScriptCode
+put_if_by (version ∷ name ∷ []) = put_if_of (number_of version) name
+put_if_by words = Err faults.BadCommand
+
+abbrev pub remove_by : List (List ℕ) → Result Command ScriptCode
+remove_by (name ∷ []) = named (name_of name) (Ok (Whole (Remove name)))
+remove_by words = Err faults.BadCommand
+
+abbrev pub get_by : List (List ℕ) → Result Command ScriptCode
+get_by (name ∷ []) = named (name_of name) (Ok (Whole (Get name)))
+get_by words = Err faults.BadCommand
+
+abbrev pub names_by : List (List ℕ) → Result Command ScriptCode
+names_by [] = Ok (Whole Names)
+names_by words = Err faults.BadCommand
+
+abbrev pub build_by : List (List ℕ) → Result Command ScriptCode
+build_by (map ∷ []) = named (name_of map) (Ok (Whole (Build map None)))
+build_by (map ∷ val ∷ []) = named (name_of map) (named (name_of val) (Ok (Whole (Build map (Some val)))))
+build_by words = Err faults.BadCommand
+
+-- by the command's word, then by how many words follow, then these from left to right
+abbrev pub command_of : List (List ℕ) → Result Command ScriptCode
+command_of [] = Err faults.BadCommand
+command_of (verb ∷ words) =
+    if bytes_eq verb (codes "put") then put_by words
+    else if bytes_eq verb (codes "putif") then put_if_by words
+    else if bytes_eq verb (codes "remove") then remove_by words
+    else if bytes_eq verb (codes "get") then get_by words
+    else if bytes_eq verb (codes "names") then names_by words
+    else if bytes_eq verb (codes "build") then build_by words
+    else Err faults.BadCommand
+
+-- Lines outside bodies
+
+-- what a line asks, in its session
+pub record Asked : Type 0 where
+  pub session : ℕ
+  pub command : Command
+
+-- How the lines outside bodies are read, behind so many requests: a line that is passed over asks nothing.
+abbrev pub LineReading : Type 0
+LineReading = ℕ → List ℕ → Result (Option Asked) ScriptCode
+
+-- the count is tried last: a command that is faulty by itself is not counted
+abbrev pub counted : ℕ → ℕ → Result Command ScriptCode → Result (Option Asked) ScriptCode
+counted count session (Ok command) =
+    if nat_le request_limit count then Err faults.TooManyRequests
+    else Ok (Some (record { session = session; command = command }))
+counted count session (Err code) = Err code
+
+-- the session that a number is
+abbrev pub session_of : Option ℕ → Result ℕ ScriptCode
+session_of None = Err faults.BadNumber
+session_of (Some session) =
+    if session == 0 then Err faults.BadNumber
+    else if nat_le session session_limit then Ok session
+    else Err faults.TooManySessions
+
+abbrev pub asked_in : ℕ → Result ℕ ScriptCode → List (List ℕ) → Result (Option Asked) ScriptCode
+asked_in count (Ok session) words = counted count session (command_of words)
+asked_in count (Err code) words = Err code
+
+abbrev pub asked_by : ℕ → List (List ℕ) → Result (Option Asked) ScriptCode
+asked_by count [] = Ok None
+asked_by count (session ∷ words) = asked_in count (session_of (number_of session)) words
+
+-- a line of spaces and tabs alone, or a comment
+abbrev pub is_passed : List ℕ → Bool
+is_passed line = list_all is_gap line || (slice_index line 0 == number_sign)
+
+-- how the lines of a script are read: each begins with its session
+abbrev pub script_line : LineReading
+script_line count line = if is_passed line then Ok None else asked_by count (spaced_words line)
+
+-- Scripts
+
+-- a request, with its session
+pub record Step : Type 0 where
+  pub session : ℕ
+  pub request : Request
+
+-- a put whose body is being read, with the body's lines so far
+pub record Begun : Type 0 where
+  pub session : ℕ
+  pub opening : Opening
+  pub body : List ℕ
+
+abbrev pub whole_step : Begun → Step
+whole_step begun = record { session = begun.session; request = with_body begun.opening begun.body }
+
+abbrev pub with_line : Begun → List ℕ → Begun
+with_line begun line =
+    record { session = begun.session; opening = begun.opening; body = begun.body ++ line ++ line_feed ∷ [] }
+
+-- what a line leads to: the step that it ends, if it ends one, and the put that is begun behind it
+pub record Turn : Type 0 where
+  pub step : Option Step
+  pub begun : Option Begun
+
+abbrev pub goes_on : Option Begun → Turn
+goes_on begun = record { step = None; begun = begun }
+
+abbrev pub ends : Step → Turn
+ends step = record { step = Some step; begun = None }
+
+abbrev pub is_body_end : List ℕ → Bool
+is_body_end line = bytes_eq line (codes ".")
+
+abbrev pub turn_within : Begun → List ℕ → Turn
+turn_within begun line = if is_body_end line then ends (whole_step begun) else goes_on (Some (with_line begun line))
+
+abbrev pub turn_in : ℕ → Command → Turn
+turn_in session (Whole request) = ends (record { session = session; request = request })
+turn_in session (Opens opening) = goes_on (Some (record { session = session; opening = opening; body = [] }))
+
+abbrev pub turn_outside : Result (Option Asked) ScriptCode → Result Turn ScriptCode
+turn_outside (Ok None) = Ok (goes_on None)
+turn_outside (Ok (Some asked)) = Ok (turn_in asked.session asked.command)
+turn_outside (Err code) = Err code
+
+abbrev pub turn_of_text : LineReading → ℕ → Option Begun → List ℕ → Result Turn ScriptCode
+turn_of_text reads count None line = turn_outside (reads count line)
+turn_of_text reads count (Some begun) line = Ok (turn_within begun line)
+
+-- what a line leads to behind so many requests, within a body or outside
+abbrev pub turn : LineReading → ℕ → Option Begun → List ℕ → Result Turn ScriptCode
+turn reads count begun line = if is_utf8 line then turn_of_text reads count begun line else Err faults.NotUtf8
+
+-- how many requests there are behind a line
+abbrev pub count_after : ℕ → Option Step → ℕ
+count_after count None = count
+count_after count (Some step) = count + 1
+
+-- what a line and those that follow say
+abbrev pub then_steps : Option Step → Result (List Step) ScriptFault → Result (List Step) ScriptFault
+then_steps step (Ok steps) = Ok (option_to_list step ++ steps)
+then_steps step (Err fault) = Err fault
+
+abbrev pub is_no_line : List (List ℕ) → Bool
+is_no_line [] = true
+is_no_line (line ∷ lines) = false
+
+-- The requests of lines behind so many lines and requests, within a body or outside; or the first faulty line with its
+-- first fault. If the text is too long, its last line is the one that holds the first byte beyond the limit.
+abbrev pub steps_from : LineReading → Bool → ℕ → ℕ → Option Begun → List (List ℕ) → Result (List Step) ScriptFault
+steps_from reads long number count None [] = Ok []
+steps_from reads long number count (Some begun) [] = Err (record { code = faults.NoEnd; line = number })
+steps_from reads long number count begun (line ∷ lines) =
+    if long && is_no_line lines
+    then Err (record { code = faults.TooLong; line = number + 1 })
+    else elim (turn reads count begun line) [
+      | Ok next ↦ then_steps next.step (steps_from reads long (number + 1)
+          (count_after count next.step) next.begun lines)
+      | Err code ↦ Err (record { code = code; line = number + 1 })
+    ]
+
+-- the steps of a script, or its first fault
+unfoldable pub script_of : List ℕ → Result (List Step) ScriptFault
+script_of bytes =
+    let is_long = nat_lt script_limit (length bytes) in
+    steps_from script_line is_long 0 0 None (lines_of (take (script_limit + 1) bytes))

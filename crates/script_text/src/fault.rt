@@ -1,0 +1,42 @@
+//! Why bytes are no script.
+
+/// Why bytes are no script. The numbers are those of `docs/RULES.md`.
+#[derive(Clone, Copy, Debug, PartialEq, Eq)]
+pub enum ScriptCode {
+    BadCommand = 1,
+    BadNumber = 2,
+    BadName = 3,
+    NoEnd = 4,
+    TooManySessions = 5,
+    TooManyRequests = 6,
+    TooLong = 7,
+    NotUtf8 = 8,
+}
+
+impl ScriptCode {
+    ghost use Rattle.std.specs.Prelude.{◌≡◌};
+    ghost use Rattle.script_text.specs.Faults as faults_spec;
+
+    /// The code's name.
+    pub fn text(self) -> &'static str
+        ensures { result.now ≡ faults_spec.script_code_text self }
+    {
+        match self {
+            ScriptCode::BadCommand => "BadCommand",
+            ScriptCode::BadNumber => "BadNumber",
+            ScriptCode::BadName => "BadName",
+            ScriptCode::NoEnd => "NoEnd",
+            ScriptCode::TooManySessions => "TooManySessions",
+            ScriptCode::TooManyRequests => "TooManyRequests",
+            ScriptCode::TooLong => "TooLong",
+            ScriptCode::NotUtf8 => "NotUtf8",
+        }
+    }
+}
+
+/// The first faulty line of a script, counted from 1, and its first fault.
+#[derive(Clone, Copy, Debug, PartialEq, Eq)]
+pub struct ScriptFault {
+    pub code: ScriptCode,
+    pub line: u32,
+}

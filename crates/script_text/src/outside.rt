@@ -1,0 +1,58 @@
+//! The lines outside bodies.
+
+ghost use Rattle.script_text.specs.Script as script_spec;
+
+use crate::command::{Command, read_command};
+use crate::fault::ScriptCode;
+use crate::words::{is_passed, read_session, split_word};
+use dita_doc::Stop;
+use std::alloc::Global;
+
+/// The most requests of a script.
+const REQUEST_LIMIT: usize = 65_536;
+
+/// How the lines outside bodies are read.
+pub trait LineReader {
+    ghost use Rattle.std.specs.Prelude.{IfOk, IfSome};
+    ghost use Rattle.dita_doc.specs.Gives.{GivesSeen};
+    ghost use Rattle.script_text.specs.Command as command_spec;
+
+    ghost reads: { script_spec.LineReading };
+
+    /// What a line behind so many requests asks, in its session; nothing, if it is passed over.
+    fn read(
+        &self,
+        alloc: Global,
+        count: usize,
+        line: &str,
+    ) -> Result<Option<(u32, Command)>, Stop<ScriptCode>>
+        ensures asked { GivesSeen command_spec.asked_seen result (reads count line.now) }
+        ensures own { IfOk result (λ asked. IfSome asked (λ asked. command_spec.HasOwn asked.1)) };
+}
+
+/// The lines of a script: each begins with its session.
+pub struct SessionLines;
+
+impl LineReader for SessionLines {
+    ghost reads = { script_spec.script_line };
+
+    fn read(
+        &self,
+        alloc: Global,
+        count: usize,
+        line: &str,
+    ) -> Result<Option<(u32, Command)>, Stop<ScriptCode>> {
+        if is_passed(line) {
+            return Ok(None);
+        }
+        let Some((word, words)) = split_word(line) else {
+            return Ok(None);
+        };
+        let session = read_session(word)?;
+        let command = read_command(alloc, words)?;
+        if count >= REQUEST_LIMIT {
+            return Err(Stop::Fault(ScriptCode::TooManyRequests));
+        }
+        Ok(Some((session, command)))
+    }
+}

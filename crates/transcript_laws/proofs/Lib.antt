@@ -1,0 +1,4 @@
+pub mod LineOnceLaws
+pub mod OnceLaws
+pub mod ShownOnceLaws
+pub mod WrittenLaws

@@ -1,0 +1,89 @@
+-- The text of an entry, from its parts.
+use Rattle.std.specs.Prelude.{◌≡◌, ◌<◌, ◌==◌, ℕ, Bool, true, false, List, [], ◌∷◌, ◌++◌, Option, Some, None, Result, Ok, Err, length, option_map, IfSome, OnOk, if◌then◌else◌}
+use Rattle.std.proofs.Common.{refl, sym, ap, ◌∙◌, arith, append_assoc, length-append}
+use Rattle.std.specs.List.{flat_map}
+use Rattle.dita_doc.specs.Desk.{Reply, IsStored, IsRemoved, Bytes, NameList, IsRefused, Conflict, Absent, TooManyNames, Begun}
+use Rattle.dita_doc.specs.History.{Entry}
+use Rattle.dita_doc.specs.Lines.{line}
+use Rattle.dita_doc.specs.PyxEscapes.{escaped, escaped_byte}
+use Rattle.transcript_text.specs.Transcript.{Shown, OfBuild, BuildShown, shown_words, shown_lines, with_detail, bar_line, entry_text, reply_shown, entry_shown}
+use Rattle.transcript_text.specs.Written.{is_begun, numbers_text, shown_text}
+use Rattle.transcript_text.proofs.FaultLaws.{detail_shown}
+
+-- what is given of a build is shown exactly where the reply is that a build has its place
+begun_shown : (reply : Reply) (built : BuildShown) → true ≡ is_begun reply
+    → reply_shown reply (Some built) ≡ Some (OfBuild built)
+begun_shown (IsStored version) built e = absurd (cc)
+begun_shown (IsRemoved version) built e = absurd (cc)
+begun_shown (Bytes bytes) built e = absurd (cc)
+begun_shown (NameList names) built e = absurd (cc)
+begun_shown (IsRefused fault) built e = absurd (cc)
+begun_shown (Conflict version) built e = absurd (cc)
+begun_shown Absent built e = absurd (cc)
+begun_shown (TooManyNames limit) built e = absurd (cc)
+begun_shown Begun built e = refl
+
+-- and each other reply shows something by itself
+other_shown : (reply : Reply) → false ≡ is_begun reply → (shown : Shown) × (reply_shown reply None ≡ Some shown)
+other_shown (IsStored version) e = (_, refl)
+other_shown (IsRemoved version) e = (_, refl)
+other_shown (Bytes bytes) e = (_, refl)
+other_shown (NameList names) e = (_, refl)
+other_shown (IsRefused fault) e = (_, refl)
+other_shown (Conflict version) e = (_, refl)
+other_shown Absent e = (_, refl)
+other_shown (TooManyNames limit) e = (_, refl)
+other_shown Begun e = absurd (cc)
+
+-- the three numbers and what is shown are the entry's text
+entry_of : (place : ℕ) (entry : Entry) (built : Option BuildShown) (shown : Shown) (text : List ℕ)
+    → reply_shown entry.reply built ≡ Some shown
+    → text ≡ numbers_text place entry.session entry.number ++ shown_text shown
+    → Some text ≡ option_map entry_text (entry_shown place entry built)
+entry_of place entry built shown text is told =
+    let numbers = numbers_text place entry.session entry.number in
+    let below = flat_map bar_line (shown_lines shown) in
+    let whole : text ≡ line (numbers ++ shown_words shown) ++ below =
+    told ∙ sym (append_assoc numbers (line (shown_words shown)) below)
+    ∙ ap (λ (l : List ℕ). l ++ below) (sym (append_assoc numbers (shown_words shown) (10 ∷ []))) in
+    rw (is, whole) refl
+
+pub built_written : (place : ℕ) (entry : Entry) (built : BuildShown) (front text : List ℕ)
+    → front ≡ numbers_text place entry.session entry.number → true ≡ is_begun entry.reply
+    → text ≡ front ++ shown_text (OfBuild built)
+    → Some text ≡ option_map entry_text (entry_shown place entry (Some built))
+built_written place entry built front text numbers begun told =
+    entry_of place entry (Some built) (OfBuild built) text (begun_shown entry.reply built begun)
+    (told ∙ ap (λ (l : List ℕ). l ++ shown_text (OfBuild built)) numbers)
+
+pub reply_written : (place : ℕ) (entry : Entry) (front text : List ℕ)
+    → front ≡ numbers_text place entry.session entry.number → false ≡ is_begun entry.reply
+    → IfSome (reply_shown entry.reply None) (λ shown. text ≡ front ++ shown_text shown)
+    → Some text ≡ option_map entry_text (entry_shown place entry None)
+reply_written place entry front text numbers other told =
+    let shown = other_shown entry.reply other in
+    let same : text ≡ front ++ shown_text shown.0 = rw shown.1 at told in
+    entry_of place entry None shown.0 text shown.1 (same ∙ ap (λ (l : List ℕ). l ++ shown_text shown.0) numbers)
+
+-- the detail of a fault
+
+some_if : (test : Bool) (x y : List ℕ) → 0 < length x → 0 < length y → 0 < length (if test then x else y)
+some_if true x y first second = first
+some_if false x y first second = second
+
+byte_some : (b : ℕ) → 0 < length (escaped_byte b)
+byte_some b =
+    some_if (b == 10) _ _ (omega arith)
+    (some_if (b == 9) _ _ (omega arith) (some_if (b == 92) _ _ (omega arith) (omega arith)))
+
+escaped_some : (detail : List ℕ) → 0 < length detail → 0 < length (escaped detail)
+escaped_some [] some = absurd (omega arith)
+escaped_some (b ∷ detail) some = omega (arith, length-append (escaped_byte b) (escaped detail), byte_some b)
+
+pub detail_appended : {A E : Type 0} (result : Result A E) (out next later detail : List ℕ) → 0 < length detail
+    → next ≡ out ++ 32 ∷ [] → OnOk result (later ≡ next ++ escaped detail)
+    → OnOk result (later ≡ out ++ with_detail (escaped detail))
+detail_appended (Ok x) out next later detail some spaced told =
+    told ∙ ap (λ (l : List ℕ). l ++ escaped detail) spaced ∙ append_assoc out (32 ∷ []) (escaped detail)
+    ∙ ap (λ (l : List ℕ). out ++ l) (sym (detail_shown (escaped detail) (escaped_some detail some)))
+detail_appended (Err e) out next later detail some spaced told = tt

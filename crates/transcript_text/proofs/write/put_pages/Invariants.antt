@@ -1,8 +1,0 @@
-use Rattle.std.proofs.Common.{◌≡◌, ◌++◌, map, drop}
-use Rattle.std.specs.List.{flat_map}
-use Rattle.dita_doc.specs.Transcript.{bar_line, page_line}
-use Rattle.transcript_text.specs.Written.{page_shown}
-use Rattle.transcript_text.proofs.write.put_pages.Given as goal
-
-abbrev pub invariant-loop-page : goal.invariant-loop-page
-invariant-loop-page l = l.out ++ flat_map bar_line (map page_line (map page_shown (drop l.page-index l.pages))) ≡ l.fn.out ++ flat_map bar_line (map page_line (map page_shown l.pages))

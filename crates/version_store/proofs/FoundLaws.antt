@@ -1,0 +1,183 @@
+-- What is found, and how much there is, after something was stored or taken away.
+use Rattle.std.proofs.Common.{◌≡◌, ◌≢◌, ℕ, suc, ◌+◌, ◌≤◌, true, false, Bool, List, [], ◌∷◌, Some, None, IsSome, is_some, refl, length, cond, not, sym, ap, ◌∙◌, subst, arith}
+use Rattle.std.specs.List.{AllByRecursion}
+use Rattle.std.specs.Ordering.{nat_cmp}
+use Rattle.std.specs.Cmp.Lexicographic.{slice_cmp, bytes_decides}
+use Rattle.std.specs.declared.cmp.Ordering.TheVariants.{Less, Equal, Greater}
+use Rattle.std.proofs.lemmas.Bool.{false≢true}
+use Rattle.std.proofs.lemmas.Option.{none-some, same_Some}
+use Rattle.dita_doc.specs.Desk.{Stored, State, IsSortedByName, is_named, found, version_at, version_of, with_stored, without_name}
+use Rattle.dita_doc.proofs.NameOrder.{with_order, named_itself, named_by_order, found_above, same_from_equal, below_from_above, below_all_lower}
+
+-- a test of a name is decided by whether the names are the same
+pub not_named : (stored : Stored) (name : List ℕ) → stored.name ≢ name → is_named name stored ≡ false
+not_named stored name other = by_test (is_named name stored) refl
+  where
+    by_test : (b : Bool) → is_named name stored ≡ b → is_named name stored ≡ false
+    by_test true e = absurd (other ((bytes_decides stored.name name).0 e))
+    by_test false e = e
+
+-- a name that is not found has version 0
+pub no_version : (state : State) (name : List ℕ) → found state name ≡ None → version_at state name ≡ 0
+no_version state name none = ap version_of none
+
+-- what was stored is found under its name, and nothing else has changed
+pub found_with_same : (new : Stored) (state : State) → found (with_stored new state) new.name ≡ Some new
+found_with_same new [] = ap (λ b. cond b (Some new) None) (named_itself new)
+found_with_same new (stored ∷ state) =
+    let here : (rest : State) → found (new ∷ rest) new.name ≡ Some new =
+    λ rest. ap (λ b. cond b (Some new) (found rest new.name)) (named_itself new) in
+    let rest = found_with_same new state in
+    let by_order : slice_cmp nat_cmp new.name stored.name ≡ slice_cmp nat_cmp new.name stored.name
+    → found (with_stored new (stored ∷ state)) new.name ≡ Some new =
+    elim (slice_cmp nat_cmp new.name stored.name) as (λ order. slice_cmp nat_cmp new.name stored.name ≡ order
+    → found (with_order new stored state order) new.name ≡ Some new) [
+      | Less ↦ λ e. here (stored ∷ state)
+      | Equal ↦ λ e. here state
+      | Greater ↦ λ e. ap (λ b. cond b (Some stored) (found (with_stored new state) new.name))
+          (named_by_order stored new.name Less (below_from_above new.name stored.name e)) ∙ rest
+    ] in
+    by_order refl
+
+pub found_with_other : (new : Stored) (state : State) (name : List ℕ) → new.name ≢ name
+    → found (with_stored new state) name ≡ found state name
+found_with_other new [] name other = ap (λ b. cond b (Some new) None) (not_named new name other)
+found_with_other new (stored ∷ state) name other =
+    let past : (rest : State) → found (new ∷ rest) name ≡ found rest name =
+    λ rest. ap (λ b. cond b (Some new) (found rest name)) (not_named new name other) in
+    let rest = found_with_other new state name other in
+    let by_order : slice_cmp nat_cmp new.name stored.name ≡ slice_cmp nat_cmp new.name stored.name
+    → found (with_stored new (stored ∷ state)) name ≡ found (stored ∷ state) name =
+    elim (slice_cmp nat_cmp new.name stored.name) as (λ order. slice_cmp nat_cmp new.name stored.name ≡ order
+    → found (with_order new stored state order) name ≡ found (stored ∷ state) name) [
+      | Less ↦ λ e. past (stored ∷ state)
+      | Equal ↦ λ e. past state
+          ∙ sym (ap (λ b. cond b (Some stored) (found state name))
+          (not_named stored name (λ same. other (same_from_equal new.name stored.name e ∙ same))))
+      | Greater ↦ λ e. ap (cond (is_named name stored) (Some stored)) rest
+    ] in
+    by_order refl
+
+-- what was taken away is not found, and nothing else has changed
+pub found_without_same : (name : List ℕ) (state : State) → found (without_name name state) name ≡ None
+found_without_same name [] = refl
+found_without_same name (stored ∷ state) =
+    let rest = found_without_same name state in
+    let by_test : is_named name stored ≡ is_named name stored → found (without_name name (stored ∷ state)) name ≡ None =
+    elim (is_named name stored) as (λ b. is_named name stored ≡ b
+    → found (cond (not b) (stored ∷ without_name name state) (without_name name state)) name ≡ None) [
+      | true ↦ λ e. rest
+      | false ↦ λ e. ap (λ b. cond b (Some stored) (found (without_name name state) name)) e ∙ rest
+    ] in
+    by_test refl
+
+pub found_without_other : (gone : List ℕ) (state : State) (name : List ℕ) → gone ≢ name
+    → found (without_name gone state) name ≡ found state name
+found_without_other gone [] name other = refl
+found_without_other gone (stored ∷ state) name other =
+    let rest = found_without_other gone state name other in
+    let by_test : is_named gone stored ≡ is_named gone stored
+    → found (without_name gone (stored ∷ state)) name ≡ found (stored ∷ state) name =
+    elim (is_named gone stored) as (λ b. is_named gone stored ≡ b
+    → found (cond (not b) (stored ∷ without_name gone state) (without_name gone state)) name
+    ≡ found (stored ∷ state) name) [
+      | true ↦ λ e. rest
+          ∙ sym (ap (λ b. cond b (Some stored) (found state name))
+          (not_named stored name (λ same. other (sym ((bytes_decides stored.name gone).0 e) ∙ same))))
+      | false ↦ λ e. ap (cond (is_named name stored) (Some stored)) rest
+    ] in
+    by_test refl
+
+-- what is found has the name that was sought
+pub found_named : (state : State) (name : List ℕ) (stored : Stored) → found state name ≡ Some stored
+    → stored.name ≡ name
+found_named [] name stored is = absurd (none-some stored is)
+found_named (first ∷ state) name stored is =
+    let rest = found_named state name stored in
+    let by_test : is_named name first ≡ is_named name first → stored.name ≡ name =
+    elim (is_named name first) as (λ b. is_named name first ≡ b → stored.name ≡ name) [
+      | true ↦ λ e. ap (λ (s : Stored). s.name)
+          (sym (same_Some first stored (sym (ap (λ b. cond b (Some first) (found state name)) e) ∙ is)))
+          ∙ (bytes_decides first.name name).0 e
+      | false ↦ λ e. rest (sym (ap (λ b. cond b (Some first) (found state name)) e) ∙ is)
+    ] in
+    by_test refl
+
+-- what holds of each document holds of what is found, and is kept
+pub every_found : (P : Stored → Type 0) (state : State) (name : List ℕ) (stored : Stored) → AllByRecursion P state
+    → found state name ≡ Some stored → P stored
+every_found P [] name stored every is = absurd (none-some stored is)
+every_found P (first ∷ state) name stored every is =
+    let rest = every_found P state name stored every.1 in
+    let by_test : is_named name first ≡ is_named name first → P stored =
+    elim (is_named name first) as (λ b. is_named name first ≡ b → P stored) [
+      | true ↦ λ e. subst P (same_Some first stored (sym (ap (λ b. cond b (Some first) (found state name)) e) ∙ is))
+          every.0
+      | false ↦ λ e. rest (sym (ap (λ b. cond b (Some first) (found state name)) e) ∙ is)
+    ] in
+    by_test refl
+
+pub every_with : (P : Stored → Type 0) (new : Stored) (state : State) → P new → AllByRecursion P state
+    → AllByRecursion P (with_stored new state)
+every_with P new [] this every = (this, tt)
+every_with P new (stored ∷ state) this every =
+    let rest = every_with P new state this every.1 in
+    elim (slice_cmp nat_cmp new.name stored.name) as (λ order. AllByRecursion P (with_order new stored state order)) [
+      | Less ↦ (this, every)
+      | Equal ↦ (this, every.1)
+      | Greater ↦ (every.0, rest)
+    ]
+
+pub every_without : (P : Stored → Type 0) (name : List ℕ) (state : State) → AllByRecursion P state
+    → AllByRecursion P (without_name name state)
+every_without P name [] every = tt
+every_without P name (stored ∷ state) every =
+    let rest = every_without P name state every.1 in
+    elim (is_named name stored) as (λ b. AllByRecursion P
+    (cond (not b) (stored ∷ without_name name state) (without_name name state)))
+    [ true ↦ rest | false ↦ (every.0, rest) ]
+
+pub every_weaker : (P Q : Stored → Type 0) (state : State) → ((stored : Stored) → P stored → Q stored)
+    → AllByRecursion P state → AllByRecursion Q state
+every_weaker P Q [] weaker every = tt
+every_weaker P Q (stored ∷ state) weaker every = (weaker stored every.0, every_weaker P Q state weaker every.1)
+
+-- how many names there are afterwards
+pub length_with : (new : Stored) (state : State) → length (with_stored new state) ≤ length state + 1
+length_with new [] = omega arith
+length_with new (stored ∷ state) =
+    let rest = length_with new state in
+    elim (slice_cmp nat_cmp new.name stored.name) as
+    (λ order. length (with_order new stored state order) ≤ length (stored ∷ state) + 1) [
+      | Less ↦ omega arith
+      | Equal ↦ omega arith
+      | Greater ↦ omega (arith, rest)
+    ]
+
+pub length_with_found : (new : Stored) (state : State) → IsSortedByName state → IsSome (found state new.name)
+    → length (with_stored new state) ≡ length state
+length_with_found new [] sorted stands = absurd (false≢true stands)
+length_with_found new (stored ∷ state) sorted stands =
+    let rest = length_with_found new state sorted.1 in
+    let by_order : slice_cmp nat_cmp new.name stored.name ≡ slice_cmp nat_cmp new.name stored.name
+    → length (with_stored new (stored ∷ state)) ≡ length (stored ∷ state) =
+    elim (slice_cmp nat_cmp new.name stored.name) as (λ order. slice_cmp nat_cmp new.name stored.name ≡ order
+    → length (with_order new stored state order) ≡ length (stored ∷ state)) [
+      | Less ↦ λ e. absurd
+          (false≢true
+          (sym (ap is_some (found_above (stored ∷ state) new.name
+          (e, below_all_lower new.name stored.name state e sorted.0))) ∙ stands))
+      | Equal ↦ λ e. refl
+      | Greater ↦ λ e. ap suc
+          (rest (sym (ap (λ b. is_some (cond b (Some stored) (found state new.name)))
+          (named_by_order stored new.name Less (below_from_above new.name stored.name e))) ∙ stands))
+    ] in
+    by_order refl
+
+pub length_without : (name : List ℕ) (state : State) → length (without_name name state) ≤ length state
+length_without name [] = omega arith
+length_without name (stored ∷ state) =
+    let rest = length_without name state in
+    elim (is_named name stored) as (λ b. length
+    (cond (not b) (stored ∷ without_name name state) (without_name name state)) ≤ length (stored ∷ state))
+    [ true ↦ omega (arith, rest) | false ↦ omega (arith, rest) ]

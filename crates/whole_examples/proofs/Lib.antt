@@ -1,0 +1,4 @@
+mod BuildRows
+mod ClassRows
+mod ScriptRows
+mod TextRows

@@ -1,0 +1,46 @@
+-- The definition of scripts, run on small ones whose requests and faults are known by hand.
+use Rattle.std.specs.Prelude.{◌≡◌, ℕ, List, [], ◌∷◌, ◌++◌, Some, Ok, Err, refl, codes}
+use Rattle.std.specs.Str.{is_utf8, chars}
+use lib.Utf8.{encode}
+use Rattle.script_text.specs.declared.fault.ScriptCode.TheVariants as fault
+use Rattle.dita_doc.specs.Request.{Put, Build}
+use Rattle.script_text.specs.Script.{script_of}
+
+abbrev lf : List ℕ
+lf = 10 ∷ []
+
+session_zero : script_of (codes "0 names") ≡ Err (record { code = fault.BadNumber; line = 1 })
+unfolding script_of is_utf8 chars encode
+session_zero = refl
+
+session_17 : script_of (lf ++ codes "17 names" ++ lf) ≡ Err (record { code = fault.TooManySessions; line = 2 })
+unfolding script_of is_utf8 chars encode
+session_17 = refl
+
+no_end : script_of (codes "1 put a" ++ lf ++ codes "..") ≡ Err (record { code = fault.NoEnd; line = 2 })
+unfolding script_of is_utf8 chars encode
+no_end = refl
+
+no_name : script_of (codes "1 get ../a") ≡ Err (record { code = fault.BadName; line = 1 })
+unfolding script_of is_utf8 chars encode
+no_name = refl
+
+no_command : script_of (codes "1 fly") ≡ Err (record { code = fault.BadCommand; line = 1 })
+unfolding script_of is_utf8 chars encode
+no_command = refl
+
+-- the count of words before the version
+other_words : script_of (codes "1 putif x") ≡ Err (record { code = fault.BadCommand; line = 1 })
+unfolding script_of is_utf8 chars encode
+other_words = refl
+
+-- a byte that no text begins with
+no_text : script_of (codes "0 fly" ++ 255 ∷ []) ≡ Err (record { code = fault.NotUtf8; line = 1 })
+unfolding script_of is_utf8 chars encode
+no_text = refl
+
+good : script_of (codes "# x" ++ lf ++ codes "1 put a" ++ lf ++ codes "-x" ++ lf ++ codes "." ++ lf
+    ++ codes " 02  build a b") ≡ Ok (record { session = 1; request = Put (codes "a") (codes "-x" ++ lf) } ∷ record
+    { session = 2; request = Build (codes "a") (Some (codes "b")) } ∷ [])
+unfolding script_of is_utf8 chars encode
+good = refl

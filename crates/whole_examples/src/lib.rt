@@ -1,0 +1,13 @@
+//! Whole examples: documents and scripts, and what comes of them. Tests that need more than one
+//! crate stand here, and the definitions computed on known texts (in `proofs/`). Nothing stands on
+//! this crate.
+#![tactic(auto)]
+
+#[cfg(test)]
+mod documents;
+#[cfg(test)]
+mod pages;
+#[cfg(test)]
+mod replies;
+#[cfg(test)]
+mod runs;
