@@ -28,7 +28,7 @@ value_beside class name attributes =
 
 -- Maps
 
--- `X.dita` without `/`, `#` and `:`, of at most 240 bytes, where X is neither empty nor `index`
+-- `X.dita` without `/`, `#` and `:`, of at most 240 bytes, and X is neither empty nor `index`
 abbrev pub stem_of : List ℕ → List ℕ
 stem_of href = take (length href - 5) href
 

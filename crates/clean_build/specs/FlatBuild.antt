@@ -16,7 +16,7 @@ abbrev pub with_href : List ℕ → Option FlatTopic → Option MapTopic
 with_href href None = None
 with_href href (Some topic) = Some (record { href = href; topic = topic })
 
--- the topic that an href names, where it is flat
+-- the topic that an href names, if it is flat
 abbrev pub map_topic_of : World → List ℕ → Option MapTopic
 map_topic_of world href = with_href href (option_and_then root_topic (world href))
 
@@ -35,7 +35,7 @@ build_of world map val = built_of world (world map)
 -- What is not built yet: a map for which a DITAVAL is given, whose name holds `/`, or that is not flat; and a map of
 -- which an href does not name a stored flat topic of a short text.
 
--- the flat topic that is stored, where its text is short
+-- the flat topic that is stored, if its text is short
 abbrev pub short_topic : Stored → Option FlatTopic
 short_topic stored = if nat_le (length stored.bytes) topic_bytes then root_topic (stored_tree stored) else None
 

@@ -49,7 +49,7 @@ is_end (Element name attributes origin line inside rest) = false
 abbrev pub href_within : List Attribute → Content → Option (List ℕ)
 href_within attributes inside = if is_end inside then href_of attributes else None
 
--- the topics that hrefs name, where each is stored, flat and short
+-- the topics that hrefs name, if each is stored, flat and short
 abbrev pub map_topics_found : State → Option (List (List ℕ)) → Option (List pages.MapTopic)
 map_topics_found state hrefs =
     if has_short_topics state hrefs then Some (map_topics_of (world_of state) (unwrap_or hrefs [])) else None

@@ -77,8 +77,7 @@ told_more before after (Some entry) rest told =
     ∙ append_assoc before (entry_text entry) (flat_map entry_text rest)
 
 -- the first requests were answered, which are the history, and these are left; what was told before them and what is
--- told of
--- them is the whole
+-- told of them is the whole
 pub record HasAnswered (all : List Step) (history : List Entry) (left : List Step) (text : Bytes)
     (old now : Option Pages) : Type 0 where
   pub counted : length history + length left ≡ length all

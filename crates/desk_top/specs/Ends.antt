@@ -38,10 +38,8 @@ AnswersWhole runs old new status = (run : RunOf runs old new) × (run.status ≡
     × Appends old.taken new.taken run.output
 
 -- If the source failed, nothing was taken. If the outlet failed, it took the first of the pages, and the sink nothing.
--- If the
--- sink failed, the outlet took all pages, and the sink the beginning of the output. Out of memory, nothing was taken,
--- or the
--- first of the pages and the beginning of the output.
+-- If the sink failed, the outlet took all pages, and the sink the beginning of the output. Out of memory, nothing was
+-- taken, or the first of the pages and the beginning of the output.
 abbrev pub EndsBy : RunRelation → Outside → Outside → Status → Type 0
 EndsBy runs old new statuses.Done = AnswersWhole runs old new statuses.Done
 EndsBy runs old new statuses.Script = AnswersWhole runs old new statuses.Script
@@ -63,8 +61,7 @@ abbrev pub EndsClean : Outside → Outside → Status → Type 0
 EndsClean old new status = EndsBy RunsClean old new status
 
 -- an output was written: whole, and then the status is that of the run; or its beginning, because the sink failed or
--- memory
--- ran out
+-- memory ran out
 abbrev pub WritesLast : Option Bytes → Option Bytes → ℕ → ℕ → Bytes → Status → Status → Type 0
 WritesLast old new before now output status result =
     (Appends old new output × (result ≡ status))

@@ -43,7 +43,8 @@ fn a_faulty_script_is_refused_with_its_line(rt: HostRuntime) -> Result<(), Fail>
         ),
     ];
     for (script, output) in rows {
-        assert_eq!(rt; run_over(alloc, script, output)?, (Status::Script, true));
+        let (status, is_output) = run_over(alloc, script, output)?;
+        assert_eq!(rt; (script, status, is_output), (script, Status::Script, true));
     }
     Ok(())
 }

@@ -1,6 +1,6 @@
 -- The desk on one thread (own): what is stored, and what each request is answered. Requests have places 0, 1, 2 and so
--- on. The
--- version of what is stored is the place of the request that stored it, and 1; a name that is not stored has version 0.
+-- on. The version of what is stored is the place of the request that stored it, plus 1; a name that is not stored has
+-- version 0.
 use Rattle.std.specs.Prelude.{◌≡◌, ◌+◌, ◌==◌, ◌&&◌, ℕ, Bool, not, List, [], ◌∷◌, Option, Some, None, Result, Ok, Err, length, nat_le, if◌then◌else◌, bytes_eq, find, filter, map, is_some}
 use Rattle.std.specs.Ordering.{nat_cmp}
 use Rattle.std.specs.Cmp.Lexicographic.{slice_cmp}
@@ -66,7 +66,7 @@ store_reply state place name =
     if nat_le stored_limit (length state) && not (is_some (found state name)) then TooManyNames stored_limit
     else IsStored (place + 1)
 
--- the reply where a body is a text, or its fault
+-- the reply if a body is a text, or its fault
 abbrev pub unless_refused : Result Content PyxFault → Reply → Reply
 unless_refused (Ok tree) reply = reply
 unless_refused (Err fault) reply = IsRefused fault
@@ -98,7 +98,7 @@ abbrev pub nodes_in : Result Content PyxFault → List Node
 nodes_in (Ok tree) = nodes_of tree 0
 nodes_in (Err fault) = []
 
--- the state where this is stored, in the place of what stood under its name
+-- the state in which this is stored, in the place of what stood under its name
 abbrev pub with_stored : Stored → State → State
 with_stored new [] = new ∷ []
 with_stored new (stored ∷ state) = elim (slice_cmp nat_cmp new.name stored.name) [
@@ -107,7 +107,7 @@ with_stored new (stored ∷ state) = elim (slice_cmp nat_cmp new.name stored.nam
   | Greater ↦ stored ∷ with_stored new state
 ]
 
--- the state where nothing is stored under this name
+-- the state in which nothing is stored under this name
 abbrev pub without_name : List ℕ → State → State
 without_name name state = filter (λ stored. not (is_named name stored)) state
 

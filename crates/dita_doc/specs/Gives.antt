@@ -4,8 +4,7 @@ use Rattle.dita_doc.specs.declared.stop.Stop.{Stop}
 use Rattle.dita_doc.specs.declared.stop.Stop.TheVariants.{Fault, NoMemory}
 
 -- The call gives what is defined: with Ok its value, as `see` shows the answer, and with a fault its fault. If memory
--- is
--- wanting, nothing is said.
+-- is wanting, nothing is said.
 abbrev pub GivesSeen : {A B E : Type 0} → (A → B) → Result A (Stop E) → Result B E → Type 0
 GivesSeen see (Ok answer) defined = defined ≡ Ok (see answer)
 GivesSeen see (Err (Fault fault)) defined = defined ≡ Err fault

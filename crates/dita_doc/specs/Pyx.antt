@@ -17,9 +17,8 @@ abbrev pub is_nothing : List ℕ → Bool
 is_nothing [] = true
 is_nothing (b ∷ bytes) = false
 
--- What the lines of these bytes say, where this much of a line stands before them and so many bytes of the text are
--- still
--- within the limit. A CR is dropped wherever it stands, and a last rest that is not empty is a line too (own).
+-- What the lines of these bytes say, if this much of a line stands before them and so many bytes of the text are
+-- still within the limit. A CR is dropped wherever it stands, and a last rest that is not empty is a line too (own).
 abbrev pub lines_from : ℕ → List ℕ → List ℕ → List Line
 lines_from left line [] = if is_nothing line then [] else line_of line ∷ []
 lines_from zero line (b ∷ bytes) = if (b == carriage_return) && is_nothing line then lines_from zero line bytes
@@ -57,9 +56,8 @@ abbrev pub reading : List ℕ → Result (List Event) PyxFault
 reading text = read_from text_limit [] 0 [] text
 
 -- What a tree says, after what was said before: a text, which may be empty, at both ends of each content and between
--- its
--- elements, and each element's opening, attributes, content and closing. `text` is what has been said of the text at
--- hand.
+-- its elements, and each element's opening, attributes, content and closing. `text` is what has been said of the text
+-- at hand.
 abbrev pub give_all : List Attribute → List Event → List Event
 give_all [] before = before
 give_all (attribute ∷ attributes) before = give_all attributes (Give attribute.name attribute.value ∷ before)
@@ -88,7 +86,7 @@ IsOneElement End = ⊥
 IsOneElement (Chars text origin line rest) = ⊥
 IsOneElement (Element name attributes origin line inside rest) = rest ≡ End
 
--- A text stands for a tree where none of its lines is faulty, and its lines say what the tree says.
+-- A text stands for a tree if none of its lines is faulty, and its lines say what the tree says.
 pub record StandsFor (text : List ℕ) (tree : Content) : Type 0 where
   pub events : List Event
   pub read : reading text ≡ Ok events
@@ -102,8 +100,7 @@ text_then [] rest = rest
 text_then (b ∷ text) rest = Chars (b ∷ text) 0 0 rest
 
 -- The tree of some events, built from the last of them on: `around` has what follows at the place, and then what
--- follows
--- each element that is open there; `attributes` are those that the element at hand is given.
+-- follows each element that is open there; `attributes` are those that the element at hand is given.
 abbrev pub built : List Event → List Attribute → List Content → Content
 built [] attributes [] = End
 built [] attributes (content ∷ around) = content

@@ -28,7 +28,7 @@ open_names (Give name value ∷ before) = open_names before
 open_names (Text text ∷ before) = open_names before
 open_names (Close name ∷ before) = drop 1 (open_names before)
 
--- the names of the attributes of the element just opened; none where no attribute may stand
+-- the names of the attributes of the element just opened; none if no attribute may stand
 abbrev pub one_more : List ℕ → Option (List (List ℕ)) → Option (List (List ℕ))
 one_more name None = None
 one_more name (Some names) = Some (name ∷ names)

@@ -1,6 +1,6 @@
--- What is asked of the desk (own): to store a body under a name, whatever stands there or only where this version
--- stands there;
--- to remove or to get what stands under a name; to list all names; to build a map, with a DITAVAL or without.
+-- What is asked of the desk (own): to store a body under a name, whatever stands there or only if this version
+-- stands there; to remove or to get what stands under a name; to list all names; to build a map, with a DITAVAL or
+-- without.
 use Rattle.std.specs.Prelude.{◌≡◌, ◌+◌, ℕ, true, List, length, Option, Some, None}
 use Rattle.std.specs.Str.{is_utf8}
 

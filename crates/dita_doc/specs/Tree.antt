@@ -58,7 +58,7 @@ content_within (suc n) (node ∷ nodes) place =
     (content_within n (drop count nodes) node.end)
     else Chars node.text node.origin node.line (content_within n nodes (place + 1))
 
--- the content whose preorder the nodes are, where they are one
+-- the content whose preorder the nodes are, if they are one
 abbrev pub content_of : List Node → ℕ → Content
 content_of nodes place = content_within (length nodes) nodes place
 

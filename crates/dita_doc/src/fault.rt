@@ -52,7 +52,7 @@ pub struct PyxFault {
     pub line: u32,
 }
 
-/// What a build finds wrong in its sources, and goes on. The numbers are those of `docs/RULES.md`.
+/// What a build finds wrong in its sources, and goes on. The numbers order the faults of one line.
 #[derive(Clone, Copy, Debug, PartialEq, Eq)]
 pub enum FaultCode {
     NoClass = 1,

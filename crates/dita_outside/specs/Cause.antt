@@ -8,7 +8,7 @@ use Rattle.dita_doc.specs.declared.stop.Stop.TheVariants.{Fault, NoMemory}
 abbrev pub Rose : ℕ → ℕ → Type 0
 Rose before now = min (before + 1) (2 ^ 64 - 1) ≤ now
 
--- the count never falls, and a call fails only where it rose
+-- the count never falls, and a call fails only if it rose
 pub record HasCause {T E : Type 0} (before now : ℕ) (result : Result T E) : Type 0 where
   pub later : before ≤ now
   pub failed : OnErr result (Rose before now)
@@ -19,7 +19,7 @@ is_fault (Ok answer) = false
 is_fault (Err (Fault fault)) = true
 is_fault (Err NoMemory) = false
 
--- the same where a call may be out of memory too, which needs no cause
+-- the same if a call may be out of memory too, which needs no cause
 pub record HasCauseOrNoMemory {T E : Type 0} (before now : ℕ) (result : Result T (Stop E)) : Type 0 where
   pub later : before ≤ now
   pub failed : IfErr result (λ stop. OnFault stop (Rose before now))

@@ -54,7 +54,7 @@ sink_failing sink = record { listed = sink.failing; calls = sink.calls; faults =
 abbrev pub sink_room : MemSink → ℕ
 sink_room sink = sink.room
 
--- it fails at a call that is listed, and where no room is left for bytes
+-- it fails at a call that is listed, and if no room is left for bytes
 abbrev pub sink_fails : MemSink → Bytes → Bool
 sink_fails sink bytes = is_listed (sink_failing sink) || ((sink_room sink == 0) && nat_lt 0 (length bytes))
 

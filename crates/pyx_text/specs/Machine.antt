@@ -51,7 +51,7 @@ ending end node = record node { end = end }
 abbrev pub with_attribute : Attribute → List Node → List Node
 with_attribute attribute nodes = changed_at (length nodes - 1) (giving attribute) nodes
 
--- the nodes where the subtree of the one at this place is all that stands behind it
+-- the nodes in which the subtree of the one at this place is all that stands behind it
 abbrev pub with_end : ℕ → List Node → List Node
 with_end place nodes = changed_at place (ending (length nodes)) nodes
 
@@ -59,7 +59,7 @@ with_end place nodes = changed_at place (ending (length nodes)) nodes
 abbrev pub has_name : List ℕ → BTreeSet (List ℕ) → Bool
 has_name name set = contains_by (λ k. slice_cmp nat_cmp name k) set
 
--- where an attribute may come, a set has the names that the element has so far
+-- if an attribute may come, a set has the names that the element has so far
 abbrev pub HasGiven : BTreeSet (List ℕ) → Option (List (List ℕ)) → Type 0
 HasGiven set None = Unit {0}
 HasGiven set (Some names) = (name : List ℕ) → has_name name set ≡ list_any (bytes_eq name) names
@@ -119,7 +119,7 @@ pub record HasRead (machine : PyxMachine) (before : List Event) : Type 0 where
 abbrev pub IsReading : PyxMachine → Type 0
 IsReading machine = (before : List Event) × HasRead machine before
 
--- a step is the first fault, where there is one, and else leads to what comes next
+-- a step is the first fault, if there is one, and else leads to what comes next
 abbrev pub StepsTo : Result Unit (Stop PyxCode) → Option PyxCode → Type 0 → Type 0
 StepsTo (Ok x) fault next = (fault ≡ None) × next
 StepsTo (Err (Fault code)) fault next = fault ≡ Some code

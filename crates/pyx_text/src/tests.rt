@@ -47,7 +47,7 @@ fn each_fault_has_its_line(rt: HostRuntime) -> Result<(), Fail> {
         (b"(p\nx\xff\n)p\n".as_slice(), PyxCode::NotUtf8, 2),
     ];
     for (text, code, line) in rows {
-        assert_eq!(rt; fault(alloc, text)?, at(code, line));
+        assert_eq!(rt; (text, fault(alloc, text)?), (text, at(code, line)));
     }
     Ok(())
 }

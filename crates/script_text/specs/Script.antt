@@ -1,8 +1,7 @@
 -- Scripts (own): UTF-8 text in lines ended by LF, of which the last LF may be missing; of at most 67,108,864 bytes,
 -- 65,536 requests and 16 sessions. Outside bodies, lines of spaces and tabs alone and lines beginning `#` are passed
 -- over. Every other line is one request, its words separated by spaces. A body is all lines up to a line that is
--- exactly
--- `.`; its bytes are those lines with their LF.
+-- exactly `.`; its bytes are those lines with their LF.
 use Rattle.std.specs.Prelude.{◌+◌, ◌-◌, ◌*◌, ◌==◌, ◌&&◌, ◌||◌, ◌++◌, ℕ, Bool, true, false, List, [], ◌∷◌, Option, Some, None, Result, Ok, Err, length, take, slice_index, nat_le, nat_lt, if◌then◌else◌, codes, bytes_eq}
 use Rattle.std.specs.List.{list_all}
 use Rattle.std.specs.Option.{option_to_list}

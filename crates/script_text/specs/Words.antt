@@ -6,7 +6,7 @@ use Rattle.dita_doc.specs.Bytes.{spaced_words}
 abbrev pub BeginsWord : (line word rest : List ℕ) → Type 0
 BeginsWord line word rest = spaced_words line ≡ word ∷ spaced_words rest
 
--- the word, where it is the only one
+-- the word, if it is the only one
 abbrev pub only : List (List ℕ) → Option (List ℕ)
 only [] = None
 only (word ∷ []) = Some word

@@ -26,10 +26,11 @@ pub use fault::{ScriptCode, ScriptFault};
 pub use script::Script;
 use std::alloc::Global;
 
-/// The bytes of the longest script.
+// How many bytes the longest script has.
 const SCRIPT_LIMIT: usize = 67_108_864;
 
-/// Reads a script, of at most 67,108,864 bytes. No byte of a longer one is read beyond the next.
+/// Reads a script. One of more than 67,108,864 bytes is rejected, and nothing behind the first byte
+/// too many is looked at.
 ///
 /// # Errors
 ///

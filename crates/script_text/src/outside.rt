@@ -8,7 +8,7 @@ use crate::words::{is_passed, read_session, split_word};
 use dita_doc::Stop;
 use std::alloc::Global;
 
-/// The most requests of a script.
+// The most requests of a script.
 const REQUEST_LIMIT: usize = 65_536;
 
 /// How the lines outside bodies are read.

@@ -16,7 +16,7 @@ use crate::outside::SessionLines;
 use dita_doc::{List, Request, Stop};
 use std::alloc::Global;
 
-/// The steps of a text, of which the last line is too long if it is cut.
+/// The steps of a text. If it was cut behind the first byte too many, its last line is TooLong.
 pub fn read_lines(
     alloc: Global,
     text: &[u8],

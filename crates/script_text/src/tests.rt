@@ -130,7 +130,7 @@ fn a_fault_is_told_with_its_line(rt: HostRuntime) -> Result<(), Fail> {
         (b"1 put a\n-\xc3\n.\n".as_slice(), ScriptCode::NotUtf8, 2),
     ];
     for (text, code, line) in rows {
-        assert_eq!(rt; fault(alloc, text)?, at(code, line));
+        assert_eq!(rt; (text, fault(alloc, text)?), (text, at(code, line)));
     }
     Ok(())
 }
@@ -153,7 +153,7 @@ fn a_line_has_its_first_fault(rt: HostRuntime) -> Result<(), Fail> {
         ),
     ];
     for (text, code, line) in rows {
-        assert_eq!(rt; fault(alloc, text)?, at(code, line));
+        assert_eq!(rt; (text, fault(alloc, text)?), (text, at(code, line)));
     }
     Ok(())
 }
@@ -174,7 +174,8 @@ fn requests_are_at_most_65536(rt: HostRuntime) -> Result<(), Fail> {
     for (last, code) in rows {
         let mut longer = text.clone()?;
         longer.append(last)?;
-        assert_eq!(rt; fault(alloc, longer.as_slice())?, at(code, 65_539));
+        let found = fault(alloc, longer.as_slice())?;
+        assert_eq!(rt; (last, found), (last, at(code, 65_539)));
     }
     Ok(())
 }
@@ -191,7 +192,7 @@ fn the_last_line_of_a_text_that_is_cut_is_too_long(rt: HostRuntime) -> Result<()
     ];
     for (text, code, line) in rows {
         let read = read_lines(alloc, text, true);
-        assert_eq!(rt; fault_of(read)?, at(code, line));
+        assert_eq!(rt; (text, fault_of(read)?), (text, at(code, line)));
     }
     Ok(())
 }
@@ -236,7 +237,7 @@ fn forms_of_lines(rt: HostRuntime) -> Result<(), Fail> {
         ),
     ];
     for (text, read) in rows {
-        assert_eq!(rt; shown(alloc, text)?, same(alloc, read)?);
+        assert_eq!(rt; (text, shown(alloc, text)?), (text, same(alloc, read)?));
     }
     Ok(())
 }

@@ -12,10 +12,10 @@ use crate::fault::ScriptCode;
 use dita_doc::{Name, Stop, split_text_at_first};
 use std::alloc::Global;
 
-/// The most digits of a number, of which each value fits 64 bits.
+// The most digits of a number; its value then fits 64 bits.
 const DIGIT_LIMIT: usize = 18;
 
-/// The most sessions of a script.
+// The most sessions of a script.
 const SESSION_LIMIT: u64 = 16;
 
 /// Whether a line is of spaces and tabs alone, or a comment.

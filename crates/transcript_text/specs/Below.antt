@@ -65,7 +65,7 @@ below_three word second third =
     else if bytes_eq word (codes "built") then both (number_of 64 second) (number_of 64 third)
     else None
 
--- what the words of a reply say; where they are no reply, nothing
+-- what the words of a reply say; if they are no reply, nothing
 abbrev pub below_of : Words → Option Below
 below_of [] = None
 below_of (word ∷ []) = below_one word

@@ -1,7 +1,6 @@
 -- The transcript of a run (own): a head, the entries by place, the rows by serial, and an end. An entry and a row have
--- their own
--- line, and then a line with `|` in front for each line of what they show. Numbers are decimals without zeros before
--- them.
+-- their own line, and then a line with `|` in front for each line of what they show. Numbers are decimals without zeros
+-- before them.
 use Rattle.std.specs.Prelude.{◌≡◌, ◌≤◌, ◌<◌, ◌^◌, ◌++◌, ℕ, true, List, [], ◌∷◌, Option, Some, None, length, codes, map, option_map, All}
 use Rattle.std.specs.Fmt.{decimal}
 use Rattle.std.specs.List.{flat_map}

@@ -142,7 +142,8 @@ fn builds_are_written(rt: HostRuntime) -> Result<(), Fail> {
         (BuiltText::NotYet, "notyet\n"),
     ];
     for (built, expected) in &rows {
-        assert!(rt; writes(alloc, Reply::Begun, Some(built), expected)?);
+        let is_written = writes(alloc, Reply::Begun, Some(built), expected)?;
+        assert_eq!(rt; (*expected, is_written), (*expected, true));
     }
     Ok(())
 }
@@ -230,10 +231,8 @@ fn the_frame_of_a_transcript_is_whole(rt: HostRuntime) -> Result<(), Fail> {
         ("dita transcript 1\nend 0 0 0\n\n", 3),
     ];
     for (text, line) in rows {
-        assert_eq!(rt;
-            fault(alloc, text.as_bytes())?,
-            Some(BadTranscript { line })
-        );
+        let found = fault(alloc, text.as_bytes())?;
+        assert_eq!(rt; (text, found), (text, Some(BadTranscript { line })));
     }
     Ok(())
 }
@@ -267,10 +266,8 @@ fn a_fault_has_its_line(rt: HostRuntime) -> Result<(), Fail> {
     for (rest, line) in rows {
         let mut text = List::from_slice(alloc, b"dita transcript 1\n")?;
         text.append(rest)?;
-        assert_eq!(rt;
-            fault(alloc, text.as_slice())?,
-            Some(BadTranscript { line })
-        );
+        let found = fault(alloc, text.as_slice())?;
+        assert_eq!(rt; (rest, found), (rest, Some(BadTranscript { line })));
     }
     Ok(())
 }

@@ -1,5 +1,5 @@
 -- What a store keeps (own): the history of all that it has answered, within two limits. One more request stands at the
--- end of the history, with the reply that the desk gives at its place; so the sources are always the history's replay.
+-- end of the history, with the reply that the desk gives at its place. The stored sources are the history's replay.
 use Rattle.std.specs.Prelude.{◌≡◌, ◌+◌, ◌<◌, ◌≤◌, ◌⊎◌, ℕ, List, [], ◌∷◌, ◌++◌, length, map}
 use Rattle.dita_doc.specs.declared.request.Entry as given
 use Rattle.dita_doc.specs.Request.{Request, text_size}
@@ -65,7 +65,7 @@ pub record Fits (kept : Kept) (request : Request) : Type 0 where
   pub entries : length kept.history < kept.entry_limit
   pub text : history_size kept.history + text_size request ≤ kept.text_limit
 
--- the history as it stands, where one more request would pass a limit
+-- the history as it stands, if one more request would pass a limit
 pub record IsFull (kept : Kept) (request : Request) (full : Full) : Type 0 where
   pub entries : full.entries ≡ length kept.history
   pub bytes : full.bytes ≡ history_size kept.history

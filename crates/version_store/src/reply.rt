@@ -9,7 +9,7 @@ use dita_doc::{Body, List, Name, Read, Reply, Request, Sources};
 use std::alloc::{AllocError, Global};
 use std::sync::Arc;
 
-/// How many names may be stored.
+// How many names may be stored.
 const STORED_LIMIT: u32 = 10_000;
 
 /// The reply to the request at a place.

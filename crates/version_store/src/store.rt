@@ -193,6 +193,7 @@ impl Store {
     {
         let size = text_bytes(&entry.request);
         let place = self.entries();
+        // With this room the push takes no memory: it can't fail once the sources have changed.
         self.entries.reserve(1)?;
         change(&mut self.sources, &entry.request, &entry.reply)?;
         self.entries.push(entry)?;

@@ -1,6 +1,5 @@
 -- The definitions of builds and of the desk, run on small sources: the two pages of a map with one topic byte for byte,
--- and
--- replies that are known by hand.
+-- and replies that are known by hand.
 use Rattle.std.specs.Prelude.{◌≡◌, ℕ, List, [], ◌∷◌, ◌++◌, Some, None, length, refl, codes}
 use Rattle.std.specs.Str.{is_utf8, chars}
 use lib.Utf8.{encode}

@@ -7,7 +7,7 @@ use std::alloc::AllocError;
 use std::test::Fail;
 use transcript_text::read_transcript;
 
-/// What a row is about, its script and its transcript.
+// What a row is about, its script and its transcript.
 const ROWS: [(&str, &str, &str); 5] = [
     (
         "a refused body is not stored",
