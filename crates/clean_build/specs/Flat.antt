@@ -1,5 +1,5 @@
--- Flat maps and flat topics, of which alone builds are made so far (own). The classes are those of DITA 1.3, 3.6
--- "Specialization", written out; maps are of 3.2 "DITA maps", topics of 3.1 "DITA topics".
+-- Flat maps and flat topics, of which alone builds are made so far (own; DITA 1.3, "DITA maps", "DITA topics" and, for
+-- their classes, "Specialization").
 use Rattle.std.specs.Prelude.{◌-◌, ◌==◌, ◌&&◌, ◌||◌, ℕ, Bool, true, false, not, List, [], ◌∷◌, Option, Some, None, length, take, drop, nat_le, if◌then◌else◌, codes, bytes_eq}
 use Rattle.std.specs.List.{list_all, list_any}
 use Rattle.dita_doc.specs.declared.doc.Attribute.{Attribute}

@@ -55,6 +55,6 @@ abbrev pub is_other_form : State → List ℕ → Option (List ℕ) → Stored �
 is_other_form state map val stored =
     is_other_request map val || not (has_short_topics state (flat_map_of (stored_tree stored)))
 
--- a map that is not stored stops its build, and so is no such map
+-- a map that is not stored is none of these: it stops its build
 unfoldable pub is_not_yet : State → List ℕ → Option (List ℕ) → Bool
 is_not_yet state map val = option_map_or (is_other_form state map val) (found state map) false

@@ -6,22 +6,21 @@ ghost use Rattle.std.specs.Option.{option_copied};
 ghost use Rattle.clean_build.specs.Flat as spec;
 ghost use Rattle.clean_build.specs.FlatBuild as flat_build_spec;
 ghost use Rattle.clean_build.specs.Topics as topics_spec;
-ghost use Rattle.dita_doc.specs.ClassValue as class_value_spec;
 ghost use Rattle.dita_doc.specs.Siblings as siblings_spec;
 ghost use Rattle.dita_doc.specs.Sources as sources_spec;
 ghost use Rattle.dita_doc.specs.Tree as tree_spec;
 
 use crate::topic::FlatTopic;
-use dita_doc::{Attribute, Doc, Document, First, Name, Siblings, Text, is_blank, is_name};
+use dita_doc::{Doc, Document, First, Name, Node, Siblings, Text, is_blank, is_name};
 use std::alloc::{AllocError, Global};
 
-// The hrefs of a flat map at most.
+// The most hrefs of a flat map.
 const HREF_LIMIT: usize = 256;
 
-// The bytes of an href at most.
+// The most bytes of an href.
 const HREF_BYTES: usize = 240;
 
-// The bytes of a flat topic's text at most.
+// The most bytes of a flat topic's text.
 const TOPIC_BYTES: usize = 2048;
 
 /// The hrefs of a flat map, in order, or `None` if the document is none.
@@ -55,7 +54,7 @@ fn hrefs_of_root<'a>(alloc: Global, root: Siblings<'a>) -> Result<Option<Vec<&'a
 {
     match root.split_first() {
         First::Element { node, inside, .. } => {
-            if has_class_alone(node.attributes.as_slice(), "- map/map ") {
+            if has_class_alone(node, "- map/map ") {
                 hrefs(alloc, inside)
             } else {
                 Ok(None)
@@ -65,32 +64,20 @@ fn hrefs_of_root<'a>(alloc: Global, root: Siblings<'a>) -> Result<Option<Vec<&'a
     }
 }
 
-// Whether the class is this one, and there is no other attribute.
-fn has_class_alone(attributes: &[Attribute], class: &str) -> bool
-    ensures { result ≡ spec.has_class_alone class.now attributes.now }
+// Whether the class of an element is this one, and there is no other attribute.
+fn has_class_alone(element: &Node, class: &str) -> bool
+    ensures { result ≡ spec.has_class_alone class.now element.now.attributes }
 {
-    attributes.len() == 1 && has_class(attributes, class)
+    element.attributes.len() == 1 && has_class(element, class)
 }
 
-fn has_class(attributes: &[Attribute], class: &str) -> bool
-    ensures { result ≡ spec.has_class class.now attributes.now }
+fn has_class(element: &Node, class: &str) -> bool
+    ensures { result ≡ spec.has_class class.now element.now.attributes }
 {
-    match value_of(attributes, "class") {
+    match element.value_of("class") {
         Some(value) => value == class,
         None => false,
     }
-}
-
-// The value of an attribute, if it is given.
-fn value_of<'a>(attributes: &'a [Attribute], name: &str) -> Option<&'a str>
-    ensures { option_copied result ≡ class_value_spec.value_of name.now attributes.now }
-{
-    for attribute in attributes {
-        if attribute.name.as_str() == name {
-            return Some(attribute.value.as_str());
-        }
-    }
-    None
 }
 
 // The hrefs of elements that refer to topics, if nothing else stands beside them.
@@ -110,7 +97,7 @@ fn hrefs<'a>(alloc: Global, siblings: Siblings<'a>) -> Result<Option<Vec<&'a str
                 rest,
                 ..
             } => {
-                let Some(href) = href(node.attributes.as_slice(), inside) else {
+                let Some(href) = href(node, inside) else {
                     return Ok(None);
                 };
                 hrefs.push(href)?;
@@ -120,12 +107,12 @@ fn hrefs<'a>(alloc: Global, siblings: Siblings<'a>) -> Result<Option<Vec<&'a str
     }
 }
 
-fn href<'a>(attributes: &'a [Attribute], inside: Siblings<'_>) -> Option<&'a str>
+fn href<'a>(element: &'a Node, inside: Siblings<'_>) -> Option<&'a str>
     ensures { option_copied result
-        ≡ topics_spec.href_within attributes.now (siblings_spec.content inside.entry) }
+        ≡ topics_spec.href_within element.now.attributes (siblings_spec.content inside.entry) }
 {
     if is_end(inside) {
-        value_beside(attributes, "- map/topicref ", "href")
+        value_beside(element, "- map/topicref ", "href")
     } else {
         None
     }
@@ -140,12 +127,13 @@ fn is_end(siblings: Siblings<'_>) -> bool
     }
 }
 
-// The value of the one other attribute that stands beside this class.
-fn value_beside<'a>(attributes: &'a [Attribute], class: &str, name: &str) -> Option<&'a str>
-    ensures { option_copied result ≡ spec.value_beside class.now name.now attributes.now }
+// The value of the one attribute of an element beside this class, if it has this name.
+fn value_beside<'a>(element: &'a Node, class: &str, name: &str) -> Option<&'a str>
+    ensures { option_copied result
+        ≡ spec.value_beside class.now name.now element.now.attributes }
 {
-    if attributes.len() == 2 && has_class(attributes, class) {
-        value_of(attributes, name)
+    if element.attributes.len() == 2 && has_class(element, class) {
+        element.value_of(name)
     } else {
         None
     }
@@ -189,7 +177,7 @@ fn has_reference_byte(href: &[u8]) -> bool
     href.iter().any(|b| *b == b'/' || *b == b'#' || *b == b':')
 }
 
-// Whether it ends with `.dita`. The page `index.html` is that of the contents.
+// Whether an href ends with `.dita` and its page is not `index.html`, which is the contents page.
 fn is_topic_file(href: &[u8]) -> bool
     requires { 5 ≤ length href.now }
     ensures { result ≡ (bytes_eq (drop (length href.now - 5) href.now) (codes ".dita")
@@ -225,13 +213,13 @@ fn topic_of_root<'a>(alloc: Global, root: Siblings<'a>) -> Result<Option<FlatTop
     let First::Element { node, inside, .. } = root.split_first() else {
         return Ok(None);
     };
-    match value_beside(node.attributes.as_slice(), "- topic/topic ", "id") {
+    match value_beside(node, "- topic/topic ", "id") {
         Some(id) => topic_of(alloc, id, inside),
         None => Ok(None),
     }
 }
 
-// The topic of this id that a title and a body are.
+// The topic of this id, if what it holds is a title and a body.
 fn topic_of<'a>(
     alloc: Global,
     id: &'a str,
@@ -249,7 +237,7 @@ fn topic_of<'a>(
     else {
         return Ok(None);
     };
-    let Some(title) = title(node.attributes.as_slice(), inside) else {
+    let Some(title) = title(node, inside) else {
         return Ok(None);
     };
     let Some(paragraphs) = paragraphs_of_body(alloc, rest)? else {
@@ -265,15 +253,15 @@ fn topic_of<'a>(
     }))
 }
 
-fn title<'a>(attributes: &[Attribute], inside: Siblings<'a>) -> Option<&'a str>
+fn title<'a>(element: &Node, inside: Siblings<'a>) -> Option<&'a str>
     ensures { option_copied result
-        ≡ spec.title_text attributes.now (siblings_spec.content inside.entry) }
+        ≡ spec.title_text element.now.attributes (siblings_spec.content inside.entry) }
 {
     let First::Chars { node, rest, .. } = inside.split_first() else {
         return None;
     };
     let text = node.text.as_str();
-    if is_end(rest) && has_class_alone(attributes, "- topic/title ") && !is_blank(text.as_bytes()) {
+    if is_end(rest) && has_class_alone(element, "- topic/title ") && !is_blank(text.as_bytes()) {
         Some(text)
     } else {
         None
@@ -296,7 +284,7 @@ fn paragraphs_of_body<'a>(
     else {
         return Ok(None);
     };
-    if is_end(rest) && has_class_alone(node.attributes.as_slice(), "- topic/body ") {
+    if is_end(rest) && has_class_alone(node, "- topic/body ") {
         paragraphs(alloc, inside)
     } else {
         Ok(None)
@@ -320,7 +308,7 @@ fn paragraphs<'a>(alloc: Global, siblings: Siblings<'a>) -> Result<Option<Vec<&'
                 rest,
                 ..
             } => {
-                let Some(text) = paragraph(node.attributes.as_slice(), inside) else {
+                let Some(text) = paragraph(node, inside) else {
                     return Ok(None);
                 };
                 texts.push(text)?;
@@ -330,11 +318,11 @@ fn paragraphs<'a>(alloc: Global, siblings: Siblings<'a>) -> Result<Option<Vec<&'
     }
 }
 
-fn paragraph<'a>(attributes: &[Attribute], inside: Siblings<'a>) -> Option<&'a str>
+fn paragraph<'a>(element: &Node, inside: Siblings<'a>) -> Option<&'a str>
     ensures { option_copied result
-        ≡ spec.paragraph_of attributes.now (siblings_spec.content inside.entry) }
+        ≡ spec.paragraph_of element.now.attributes (siblings_spec.content inside.entry) }
 {
-    if has_class_alone(attributes, "- topic/p ") {
+    if has_class_alone(element, "- topic/p ") {
         text_alone(inside)
     } else {
         None

@@ -1,2 +1,3 @@
 pub mod OneHistory
 pub mod SureRun
+pub mod WholeRun

@@ -17,13 +17,13 @@ use Rattle.dita_outside.specs.Pages.{Pages, TakesPages, TakesPagesFront}
 use Rattle.run_spec.specs.Answers.{answer_shown, built_by, given_shown, pages_of_answer}
 use Rattle.run_spec.proofs.ShownLaws.{begun_built, some_map}
 use Rattle.script_text.specs.Script.{Step}
-use Rattle.transcript_text.specs.Transcript.{BuildShown, EntryShown, entry_text, entry_shown}
-use Rattle.transcript_text.specs.Written.{IsText, is_begun}
+use Rattle.transcript_text.specs.Transcript.{BuildShown, EntryShown, entry_shown}
+use Rattle.transcript_text.specs.Written.{IsText, IsTextOfEntry, is_begun}
 use Rattle.version_store.specs.Entries.{Puts}
 use Rattle.version_store.specs.Kept.{Kept, answered, stored_now}
 use Rattle.version_store.proofs.HistoryLaws.{from_sources, slice_get-end, slice_get-take}
 use Rattle.desk_top.specs.Builds.{built_at, pages_put_by}
-use Rattle.desk_top.specs.Runs.{Answers, IsUtf8Entry, answer_behind, told_behind}
+use Rattle.desk_top.specs.Runs.{Answers, IsUtf8Entry, TellsBehind, answer_behind}
 use Rattle.desk_top.proofs.RunLaws.{state_push}
 
 -- the store has answered a step, at this place and with this number
@@ -164,29 +164,28 @@ reply_text history (Build map val) utf8 = tt
 -- The whole answer
 
 -- a text behind another
-told_map : (before text after : Bytes) (shown : Option EntryShown) → Some text ≡ option_map entry_text shown
-    → after ≡ before ++ text → Some after ≡ option_map (told_behind before) shown
-told_map before text after None told put = absurd (cc told)
-told_map before text after (Some entry) told put = ap Some (put ∙ ap (λ t. before ++ t) (same_Some text _ told))
+told_behind : (before text after : Bytes) (shown : Option EntryShown) → IsTextOfEntry shown text
+    → after ≡ before ++ text → TellsBehind before after shown
+told_behind before text after None told put = absurd told
+told_behind before text after (Some entry) told put = (told.0, put ∙ ap (λ t. before ++ t) told.1)
 
 pub answers_whole : (old new : Kept) (step : Step) (place number : ℕ) (entry : Entry) (built : Option BuildShown)
     (told before after : Bytes)
     → HasKept old new step place number → slice_get new.history place ≡ Some entry
     → built ≡ option_map given_shown (built_at new place)
-    → Some told ≡ option_map entry_text (entry_shown place entry built) → after ≡ before ++ told
+    → IsTextOfEntry (entry_shown place entry built) told → after ≡ before ++ told
     → Answers old.history new.history step before after
 answers_whole old new step place number entry built told before after kept there shown text put =
     let answer = answer_behind old.history step in
+    let same : entry_shown place entry built ≡ answer_shown (length old.history) answer =
+    ap (λ (e : Entry). entry_shown place e built) (entry_is old new step place number entry kept there)
+    ∙ ap (entry_shown place answer.entry) (shown
+    ∙ ap (option_map given_shown) (built_new old new step place number kept))
+    ∙ ap (λ n. answer_shown n answer) kept.at in
     record {
       grown = new_history old new step place number kept;
-      told = told_map before told after (answer_shown (length old.history) answer)
-          (text
-          ∙ ap (λ (e : Entry). option_map entry_text (entry_shown place e built))
-          (entry_is old new step place number entry kept there)
-          ∙ ap (λ (b : Option BuildShown). option_map entry_text (entry_shown place answer.entry b)) (shown
-          ∙ ap (option_map given_shown) (built_new old new step place number kept))
-          ∙ ap (λ n. option_map entry_text (answer_shown n answer)) kept.at)
-          put;
+      told = told_behind before told after (answer_shown (length old.history) answer)
+          (subst (λ (what : Option EntryShown). IsTextOfEntry what told) same text) put;
     }
 
 -- What a build gave

@@ -4,50 +4,55 @@ use Rattle.std.specs.Io.KnownBytes.{Appends}
 use Rattle.dita_doc.specs.Bytes.{Bytes}
 use Rattle.dita_outside.specs.Pages.{Pages, TakesPages}
 use Rattle.run_spec.specs.Answers.{answers_to}
-use Rattle.run_spec.specs.CleanRun.{clean_run, run_answered, run_of, read_limit, refusal_line}
+use Rattle.run_spec.specs.CleanRun.{HasForm, clean_run, run_answered, run_of, read_limit, rejection_line}
 use Rattle.run_spec.specs.declared.status.Status.{Status}
 use Rattle.run_spec.specs.declared.status.Status.TheVariants as statuses
 use Rattle.script_text.specs.Script.{Step, script_of}
 use Rattle.script_text.specs.declared.fault.ScriptFault.{ScriptFault}
-use Rattle.desk_top.specs.Ends.{RunOf, RunsClean, EndsClean, WritesLast}
+use Rattle.desk_top.specs.Ends.{RunRelation, RunOf, RunsClean, FinishesClean, EndsClean, WritesLast}
 use Rattle.desk_top.specs.Outside.{Outside}
 use Rattle.desk_top.specs.Reads.{Reads}
 use Rattle.desk_top.proofs.TakesLaws.{takes_none}
 
--- the run of the mode `clean` over what was read
-abbrev pub clean_over : (old new : Outside) (input : Bytes) → Reads read_limit old.left new.left input
-    → RunOf RunsClean old new
-clean_over old new input read = record {
+-- the run of the mode `clean` over what was read, of which something is said
+abbrev run_over : (runs : RunRelation) (old new : Outside) (input : Bytes) → Reads read_limit old.left new.left input
+    → runs input (clean_run input).status (clean_run input).pages (clean_run input).output → RunOf runs old new
+run_over runs old new input read is = record {
   input = input;
   read = read;
   status = (clean_run input).status;
   pages = (clean_run input).pages;
   output = (clean_run input).output;
-  is = refl;
+  is = is;
 }
+
+abbrev pub clean_over : (old new : Outside) (input : Bytes) → Reads read_limit old.left new.left input
+    → RunOf RunsClean old new
+clean_over old new input read = run_over RunsClean old new input read refl
 
 -- all was put and written: the run ends as it says
 ends_whole : (old new : Outside) (input : Bytes) → Reads read_limit old.left new.left input
-    → TakesPages old.pages new.pages (clean_run input).pages
+    → HasForm (script_of input) → TakesPages old.pages new.pages (clean_run input).pages
     → Appends old.taken new.taken (clean_run input).output → (found : Result (List Step) ScriptFault)
     → script_of input ≡ found → EndsClean old new (run_of found).status
 unfolding clean_run
-ends_whole old new input read put written (Err fault) e =
-    (clean_over old new input read, ap (λ f. (run_of f).status) e, put, written)
-ends_whole old new input read put written (Ok steps) e =
-    (clean_over old new input read, ap (λ f. (run_of f).status) e, put, written)
+ends_whole old new input read form put written (Err fault) e =
+    (run_over FinishesClean old new input read (refl, form), ap (λ f. (run_of f).status) e, put, written)
+ends_whole old new input read form put written (Ok steps) e =
+    (run_over FinishesClean old new input read (refl, form), ap (λ f. (run_of f).status) e, put, written)
 
 -- all was put, and the output was written or not
 pub ends_written : (old new : Outside) (input output : Bytes) (status result : Status)
     → Reads read_limit old.left new.left input → (clean_run input).status ≡ status
-    → (clean_run input).output ≡ output → TakesPages old.pages new.pages (clean_run input).pages
+    → (clean_run input).output ≡ output → HasForm (script_of input)
+    → TakesPages old.pages new.pages (clean_run input).pages
     → WritesLast old.taken new.taken old.write_faults new.write_faults output status result → EndsClean old new result
 unfolding clean_run
-ends_written old new input output status result read is told put (inl w) =
-    rw (w.1, ← is) (ends_whole old new input read put (rw (← told) at w.0) (script_of input) refl)
-ends_written old new input output status result read is told put (inr (front, inl w)) =
+ends_written old new input output status result read is told form put (inl w) =
+    rw (w.1, ← is) (ends_whole old new input read form put (rw (← told) at w.0) (script_of input) refl)
+ends_written old new input output status result read is told form put (inr (front, inl w)) =
     rw w.1 (w.0, (clean_over old new input read, put, rw (← told) at front))
-ends_written old new input output status result read is told put (inr (front, inr e)) =
+ends_written old new input output status result read is told form put (inr (front, inr e)) =
     rw e (inr (
       clean_over old new input read,
       ((clean_run input).pages, [], sym (append-nil (clean_run input).pages), put),
@@ -57,7 +62,8 @@ ends_written old new input output status result read is told put (inr (front, in
 -- What a run over these bytes is
 
 -- a script that is rejected
-pub rejected_run : (input text : Bytes) (fault : ScriptFault) → script_of input ≡ Err fault → text ≡ refusal_line fault
+pub rejected_run : (input text : Bytes) (fault : ScriptFault) → script_of input ≡ Err fault
+    → text ≡ rejection_line fault
     → ((clean_run input).status ≡ statuses.Script) × ((clean_run input).output ≡ text)
 unfolding clean_run
 rejected_run input text fault e told = (

@@ -1,9 +1,8 @@
 -- What a run tells of its requests, one after another.
-use Rattle.std.proofs.Common.{◌≡◌, ◌+◌, ◌≤◌, ℕ, List, [], ◌∷◌, ◌++◌, Option, Some, None, length, option_map, refl, ap, sym, ◌∙◌, arith, append_assoc, append-nil, length-append, subst}
+use Rattle.std.proofs.Common.{◌≡◌, ◌+◌, ◌≤◌, ℕ, List, [], ◌∷◌, ◌++◌, Option, Some, None, length, refl, ap, sym, ◌∙◌, arith, append_assoc, append-nil, length-append, subst}
 use Rattle.std.specs.List.{flat_map, All}
-use Rattle.std.proofs.lemmas.List.Elements.{All-cons, All-tail, All-append}
+use Rattle.std.proofs.lemmas.List.Elements.{All-nil, All-cons, All-tail, All-append}
 use Rattle.std.proofs.lemmas.List.Sums.{sum-map, sum_by-cons}
-use Rattle.std.proofs.lemmas.Option.{same_Some}
 use Rattle.dita_doc.specs.Bytes.{Bytes}
 use Rattle.dita_doc.specs.Desk.{next}
 use Rattle.dita_doc.specs.History.{Entry, sources, history_size}
@@ -14,9 +13,9 @@ use Rattle.run_spec.specs.Answers.{Answer, answers_from, answers_to, answer_show
 use Rattle.run_spec.proofs.HistoryLaws.{length-answers_from}
 use Rattle.script_text.specs.Facts.{FitsScript, IsUtf8Step, steps_size}
 use Rattle.script_text.specs.Script.{Step, script_limit}
-use Rattle.transcript_text.specs.Transcript.{EntryShown, Totals, entry_text, head_text, end_head, transcript_text}
+use Rattle.transcript_text.specs.Transcript.{EntryShown, IsEntryShown, IsRowShown, IsTranscript, Totals, entry_text, head_text, end_head, transcript_text}
 use Rattle.version_store.proofs.HistoryLaws.{sources_push, size_push}
-use Rattle.desk_top.specs.Runs.{IsUtf8Entry, HasRoom, Answers, answer_behind, told_behind}
+use Rattle.desk_top.specs.Runs.{IsUtf8Entry, HasRoom, TellsBehind, Answers, answer_behind}
 use Rattle.desk_top.proofs.TakesLaws.{takes_then, takes_then_front, front_more, takes_none}
 
 -- what was taken so far of all pages, and what is left of them
@@ -68,21 +67,27 @@ abbrev pub answers_text : ℕ → List Answer → Bytes
 answers_text place answers = flat_map entry_text (answers_shown place answers)
 
 -- one entry more was told
-told_more : (before after : Bytes) (shown : Option EntryShown) (rest : List EntryShown)
-    → Some after ≡ option_map (told_behind before) shown
+told_more : (before after : Bytes) (shown : Option EntryShown) (rest : List EntryShown) → TellsBehind before after shown
     → after ++ flat_map entry_text rest ≡ before ++ flat_map entry_text (before_shown shown rest)
-told_more before after None rest told = absurd (cc told)
+told_more before after None rest told = absurd told
 told_more before after (Some entry) rest told =
-    ap (λ t. t ++ flat_map entry_text rest) (same_Some after _ told)
+    ap (λ t. t ++ flat_map entry_text rest) told.1
     ∙ append_assoc before (entry_text entry) (flat_map entry_text rest)
 
+shown_more : (before after : Bytes) (shown : Option EntryShown) (rest : List EntryShown)
+    → TellsBehind before after shown → All IsEntryShown rest → All IsEntryShown (before_shown shown rest)
+shown_more before after None rest told all = absurd told
+shown_more before after (Some entry) rest told all = All-cons IsEntryShown entry rest told.0 all
+
 -- the first requests were answered, which are the history, and these are left; what was told before them and what is
--- told of them is the whole
+-- told of them is the whole, and all entries are in the form if those of the rest are
 pub record HasAnswered (all : List Step) (history : List Entry) (left : List Step) (text : Bytes)
     (old now : Option Pages) : Type 0 where
   pub counted : length history + length left ≡ length all
   pub told : text ++ answers_text (length history) (answers_behind history left) ≡ head_text
       ++ answers_text 0 (answers_to all)
+  pub form : All IsEntryShown (answers_shown (length history) (answers_behind history left))
+      → All IsEntryShown (answers_shown 0 (answers_to all))
   pub taken : HasTaken old now (pages_of_answers (answers_behind history left)) (pages_of_answers (answers_to all))
   pub size : history_size history + steps_size left ≤ script_limit
   pub utf8 : All IsUtf8Entry history
@@ -102,6 +107,7 @@ pub none_answered : (all left : List Step) (history : List Entry) (text : Bytes)
 none_answered all left history text old fits same none head = rw (same, none, head) (record {
   counted = omega arith;
   told = refl;
+  form = λ shown. shown;
   taken = record { done = []; taken = takes_none old; whole = refl };
   size = omega (arith, fits.size);
   utf8 = λ k d within. absurd (omega arith);
@@ -131,14 +137,18 @@ one_answered all history later step left text longer old now new before a put =
     (length history + 1) left in
     let same : answers_behind (history ++ entry ∷ []) left ≡ rest = answers_push history entry left in
     let longer_by : length (history ++ entry ∷ []) ≡ length history + 1 = length_push history entry in
+    let more = answers_behind (history ++ entry ∷ []) left in
+    let shown = answers_shown (length history + 1) rest in
+    let same_shown : answers_shown (length (history ++ entry ∷ [])) more ≡ shown =
+    ap (λ (place : ℕ). answers_shown place more) longer_by ∙ ap (answers_shown (length history + 1)) same in
+    let this = answer_shown (length history) (answer_behind history step) in
     subst (λ (h : List Entry). HasAnswered all h left longer old new) (sym a.grown) (record {
       counted = omega (arith, before.counted, longer_by);
       told =
-          ap (λ (place : ℕ). longer ++ answers_text place (answers_behind (history ++ entry ∷ []) left)) longer_by
-          ∙ ap (λ (answers : List Answer). longer ++ answers_text (length history + 1) answers) same
-          ∙ told_more text longer (answer_shown (length history) (answer_behind history step))
-          (answers_shown (length history + 1) rest) a.told
-          ∙ before.told;
+          ap (λ (entries : List EntryShown). longer ++ flat_map entry_text entries) same_shown
+          ∙ told_more text longer this shown a.told ∙ before.told;
+      form = λ all_shown. before.form (shown_more text longer this shown a.told
+          (subst (All IsEntryShown) same_shown all_shown));
       taken = subst (λ (answers : List Answer). HasTaken old new (pages_of_answers answers)
           (pages_of_answers (answers_to all))) (sym same)
           (taken_more old now new (pages_of_answer (answer_behind history step)) (pages_of_answers rest)
@@ -174,6 +184,12 @@ no_rows : (entries : List EntryShown) (totals : Totals)
 no_rows entries totals = ap (λ text. text ++ line (end_head totals))
     (sym (append-nil (head_text ++ flat_map entry_text entries)))
 
+-- none is left
+pub none_left : (all : List Step) (history : List Entry) (left : List Step) (text : Bytes) (old now : Option Pages)
+    → left ≡ [] → HasAnswered all history left text old now → HasAnswered all history [] text old now
+none_left all history left text old now none before =
+    subst (λ (left : List Step). HasAnswered all history left text old now) none before
+
 -- all were answered, and the end was told
 pub all_told : (all : List Step) (history : List Entry) (text whole : Bytes) (count : ℕ) (old now : Option Pages)
     → HasAnswered all history [] text old now → count ≡ length history
@@ -186,3 +202,15 @@ all_told all history text whole count old now before counts end =
     ∙ ap (λ (n : ℕ). (head_text ++ answers_text 0 (answers_to all))
     ++ line (end_head (record { entries = n; made = 0; dropped = 0 }))) many
     ∙ no_rows (answers_shown 0 (answers_to all)) (record { entries = length (answers_to all); made = 0; dropped = 0 })
+
+-- and the transcript is in the form
+pub all_in_form : (all : List Step) (history : List Entry) (text : Bytes) (old now : Option Pages) → FitsScript all
+    → HasAnswered all history [] text old now → IsTranscript (transcript_of (answers_to all))
+all_in_form all history text old now fits before = record {
+  entries = before.form (All-nil IsEntryShown);
+  rows = All-nil IsRowShown;
+  rising = tt;
+  counted = omega (arith, fits.few, length-answers_from [] 0 all);
+  made = omega arith;
+  dropped = omega arith;
+}

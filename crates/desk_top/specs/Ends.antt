@@ -6,7 +6,8 @@ use Rattle.dita_outside.specs.Cause.{Rose}
 use Rattle.dita_outside.specs.Pages.{Pages, TakesPages, TakesPagesFront}
 use Rattle.run_spec.specs.declared.status.Status.{Status}
 use Rattle.run_spec.specs.declared.status.Status.TheVariants as statuses
-use Rattle.run_spec.specs.CleanRun.{clean_run, read_limit}
+use Rattle.run_spec.specs.CleanRun.{HasForm, clean_run, read_limit}
+use Rattle.script_text.specs.Script.{script_of}
 use Rattle.desk_top.specs.Outside.{Outside}
 use Rattle.desk_top.specs.Reads.{Reads}
 
@@ -40,25 +41,30 @@ AnswersWhole runs old new status = (run : RunOf runs old new) × (run.status ≡
 -- If the source failed, nothing was taken. If the outlet failed, it took the first of the pages, and the sink nothing.
 -- If the sink failed, the outlet took all pages, and the sink the beginning of the output. Out of memory, nothing was
 -- taken, or the first of the pages and the beginning of the output.
-abbrev pub EndsBy : RunRelation → Outside → Outside → Status → Type 0
-EndsBy runs old new statuses.Done = AnswersWhole runs old new statuses.Done
-EndsBy runs old new statuses.Script = AnswersWhole runs old new statuses.Script
-EndsBy runs old new statuses.ReadFault = Rose old.read_faults new.read_faults × TakesNothing old new
-EndsBy runs old new statuses.OutletFault = Rose old.page_faults new.page_faults × ((run : RunOf runs old new)
+-- `finishes` says what holds of a run that was finished, and `runs` what holds of one that was broken off.
+abbrev pub EndsBy : (finishes runs : RunRelation) → Outside → Outside → Status → Type 0
+EndsBy finishes runs old new statuses.Done = AnswersWhole finishes old new statuses.Done
+EndsBy finishes runs old new statuses.Script = AnswersWhole finishes old new statuses.Script
+EndsBy finishes runs old new statuses.ReadFault = Rose old.read_faults new.read_faults × TakesNothing old new
+EndsBy finishes runs old new statuses.OutletFault = Rose old.page_faults new.page_faults × ((run : RunOf runs old new)
     × TakesPagesFront old.pages new.pages run.pages × Keeps old.taken new.taken)
-EndsBy runs old new statuses.WriteFault = Rose old.write_faults new.write_faults × ((run : RunOf runs old new)
+EndsBy finishes runs old new statuses.WriteFault = Rose old.write_faults new.write_faults × ((run : RunOf runs old new)
     × TakesPages old.pages new.pages run.pages × AppendsFront old.taken new.taken run.output)
-EndsBy runs old new statuses.NoMemory = TakesNothing old new ⊎ ((run : RunOf runs old new)
+EndsBy finishes runs old new statuses.NoMemory = TakesNothing old new ⊎ ((run : RunOf runs old new)
     × TakesPagesFront old.pages new.pages run.pages × AppendsFront old.taken new.taken run.output)
-EndsBy runs old new statuses.Words = ⊥
-EndsBy runs old new statuses.Port = ⊥
+EndsBy finishes runs old new statuses.Words = ⊥
+EndsBy finishes runs old new statuses.Port = ⊥
 
 -- the run of the mode `clean`: the bytes alone say how it ends
 abbrev pub RunsClean : RunRelation
 RunsClean input status pages output = clean_run input ≡ record { status = status; pages = pages; output = output }
 
+-- and if it is finished, its transcript is in the form of transcripts
+abbrev pub FinishesClean : RunRelation
+FinishesClean input status pages output = RunsClean input status pages output × HasForm (script_of input)
+
 abbrev pub EndsClean : Outside → Outside → Status → Type 0
-EndsClean old new status = EndsBy RunsClean old new status
+EndsClean old new status = EndsBy FinishesClean RunsClean old new status
 
 -- an output was written: whole, and then the status is that of the run; or its beginning, because the sink failed or
 -- memory ran out

@@ -1,5 +1,5 @@
 -- What a run asks of its store, and what an answer changes.
-use Rattle.std.specs.Prelude.{◌≡◌, ◌+◌, ◌≤◌, ◌++◌, List, [], ◌∷◌, Some, length, option_map}
+use Rattle.std.specs.Prelude.{◌≡◌, ◌+◌, ◌≤◌, ◌++◌, List, [], ◌∷◌, Option, Some, None, length}
 use Rattle.std.specs.List.{All}
 use Rattle.dita_doc.specs.Bytes.{Bytes}
 use Rattle.dita_doc.specs.History.{Entry, history_size, sources}
@@ -7,7 +7,7 @@ use Rattle.dita_doc.specs.Request.{IsUtf8Request, text_size}
 use Rattle.run_spec.specs.Answers.{Answer, answer_at, answer_shown}
 use Rattle.script_text.specs.Facts.{IsUtf8Step}
 use Rattle.script_text.specs.Script.{Step, script_limit, request_limit}
-use Rattle.transcript_text.specs.Transcript.{EntryShown, entry_text}
+use Rattle.transcript_text.specs.Transcript.{EntryShown, IsEntryShown, entry_text}
 use Rattle.version_store.specs.Kept.{Kept}
 
 abbrev pub IsUtf8Entry : Entry → Type 0
@@ -29,10 +29,12 @@ pub record IsOfDesk (kept : Kept) : Type 0 where
 abbrev pub answer_behind : List Entry → Step → Answer
 answer_behind history step = answer_at (sources history (length history)) (length history) (length history + 1) step
 
-abbrev pub told_behind : Bytes → EntryShown → Bytes
-told_behind text entry = text ++ entry_text entry
+-- the entry as it is shown stands behind the text, and is in the form of transcripts
+abbrev pub TellsBehind : Bytes → Bytes → Option EntryShown → Type 0
+TellsBehind before after None = ⊥
+TellsBehind before after (Some entry) = IsEntryShown entry × (after ≡ before ++ entry_text entry)
 
 -- a step was answered: its entry stands behind the history, and is shown behind the text
 pub record Answers (history later : List Entry) (step : Step) (before after : Bytes) : Type 0 where
   pub grown : later ≡ history ++ (answer_behind history step).entry ∷ []
-  pub told : Some after ≡ option_map (told_behind before) (answer_shown (length history) (answer_behind history step))
+  pub told : TellsBehind before after (answer_shown (length history) (answer_behind history step))

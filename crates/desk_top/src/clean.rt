@@ -1,9 +1,10 @@
 //! The mode `clean`: a script, on one thread, from bytes to pages.
 
-ghost use Rattle.std.specs.Prelude.{◌≡◌, IfOk};
+ghost use Rattle.std.specs.Prelude.{◌≡◌, IfOk, OnOk};
 ghost use Rattle.dita_outside.specs.Cause as cause_spec;
 ghost use Rattle.dita_outside.specs.Pages as pages_spec;
 ghost use Rattle.run_spec.specs.CleanRun as clean_run_spec;
+ghost use Rattle.script_text.specs.Script as script_spec;
 ghost use Rattle.desk_top.specs.Ends as ends_spec;
 ghost use Rattle.desk_top.specs.Outside as outside_spec;
 
@@ -12,11 +13,11 @@ use crate::run::answer_all;
 use dita_doc::{List, Stop};
 use dita_outside::{Failed, Outlet, Sink, Source};
 use run_spec::Status;
-use script_text::{ScriptFault, read_script};
+use script_text::{SCRIPT_LIMIT, ScriptFault, read_script};
 use std::alloc::{AllocError, Global};
 
-// One byte more than a script has.
-const READ_LIMIT: usize = 67_108_865;
+// One byte more than the longest script has.
+const READ_LIMIT: usize = SCRIPT_LIMIT + 1;
 
 /// Reads a script, answers its requests in order, puts the pages of each build into the outlet and
 /// writes the transcript.
@@ -51,6 +52,7 @@ fn answered<O: Outlet>(
 ) -> Result<(Status, List<u8>), Stop<Failed>>
     ensures ok { let run = clean_run_spec.clean_run input.now in
         IfOk result (λ answer. (run.status ≡ answer.0) × (run.output ≡ answer.1)) }
+    ensures form { OnOk result (clean_run_spec.HasForm (script_spec.script_of input.now)) }
     ensures pages { pages_spec.PutsPages (O.pages outlet.old) (O.pages outlet.new) result
         (clean_run_spec.clean_run input.now).pages }
     ensures cause { cause_spec.HasCauseOrNoMemory
@@ -58,14 +60,14 @@ fn answered<O: Outlet>(
 {
     match read_script(alloc, input) {
         Ok(script) => Ok((Status::Done, answer_all(alloc, script, outlet)?)),
-        Err(Stop::Fault(fault)) => Ok((Status::Script, refusal(alloc, fault)?)),
+        Err(Stop::Fault(fault)) => Ok((Status::Script, rejection(alloc, fault)?)),
         Err(Stop::NoMemory) => Err(Stop::NoMemory),
     }
 }
 
 // The one line of output if a script is rejected.
-fn refusal(alloc: Global, fault: ScriptFault) -> Result<List<u8>, AllocError>
-    ensures { IfOk result (λ text. text ≡ clean_run_spec.refusal_line fault) }
+fn rejection(alloc: Global, fault: ScriptFault) -> Result<List<u8>, AllocError>
+    ensures { IfOk result (λ text. text ≡ clean_run_spec.rejection_line fault) }
 {
     let code = fault.code.text();
     let line = fault.line;

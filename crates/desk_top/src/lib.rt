@@ -1,8 +1,8 @@
 //! The runs of the program, from the bytes that come in to the pages and the transcript that go
 //! out.
 //!
-//! What is used above it: `desk_top` answers the status of the run of its words, and what the
-//! source, the sink and the outlet tell is then what that status says, by one relation.
+//! What is used above it: `desk_top` answers the status of the run that its words name. By one
+//! relation the status says what the source, the sink and the outlet tell afterwards.
 #![tactic(auto)]
 
 mod build;

@@ -5,6 +5,7 @@ ghost use Rattle.dita_doc.specs.Seen as seen_spec;
 ghost use Rattle.dita_outside.specs.Cause as cause_spec;
 ghost use Rattle.dita_outside.specs.Pages as pages_spec;
 ghost use Rattle.script_text.specs.Read as read_spec;
+ghost use Rattle.transcript_text.specs.Transcript as transcript_spec;
 ghost use Rattle.version_store.specs.Kept as kept_spec;
 ghost use Rattle.run_spec.specs.Answers as answers_spec;
 ghost use Rattle.run_spec.specs.CleanRun as clean_run_spec;
@@ -27,6 +28,8 @@ pub fn answer_all<O: Outlet>(
 ) -> Result<List<u8>, Stop<Failed>>
     ensures text { IfOk result (λ text. text ≡ (clean_run_spec.run_answered
         (answers_spec.answers_to (read_spec.steps_seen script.steps))).output) }
+    ensures form { OnOk result (transcript_spec.IsTranscript (answers_spec.transcript_of
+        (answers_spec.answers_to (read_spec.steps_seen script.steps)))) }
     ensures pages { pages_spec.PutsPages (O.pages outlet.old) (O.pages outlet.new) result
         (clean_run_spec.run_answered
         (answers_spec.answers_to (read_spec.steps_seen script.steps))).pages }

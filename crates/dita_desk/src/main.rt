@@ -6,6 +6,7 @@ use desk_top::{Status, desk_top};
 use dita_outside::{FolderOutlet, StdSink, StdSource};
 use std::alloc::AllocError;
 use std::env;
+use std::io::ErrorKind;
 use std::process::ExitCode;
 use thiserror::Error;
 
@@ -29,8 +30,11 @@ fn main(rt: HostRuntime) -> ExitCode {
 fn run(rt: &HostRuntime) -> Result<Status, AllocError> {
     let alloc = rt.alloc();
     let mut words = Vec::new(alloc);
-    let Ok(given) = env::args(rt) else {
-        return Err(AllocError);
+    let given = match env::args(rt) {
+        Ok(given) => given,
+        // A word that is not UTF-8 is none that the command takes.
+        Err(error) if error.kind() == ErrorKind::InvalidData => return Ok(Status::Words),
+        Err(_) => return Err(AllocError),
     };
     for word in given {
         words.push(word)?;

@@ -1,5 +1,5 @@
 -- Escapes and folds of texts in UTF-8 are UTF-8 again.
-use Rattle.std.specs.Prelude.{◌≡◌, ◌<◌, ◌≤◌, ◌==◌, ℕ, Bool, true, false, List, [], ◌∷◌, ◌++◌, length, codes, if◌then◌else◌}
+use Rattle.std.specs.Prelude.{◌≡◌, ◌<◌, ◌≤◌, ◌==◌, ℕ, Bool, true, false, List, [], ◌∷◌, ◌++◌, length, if◌then◌else◌}
 use Rattle.std.specs.List.{flat_map, All}
 use Rattle.std.specs.Str.{IsUtf8, is_utf8}
 use Rattle.std.proofs.Common.{refl, sym, subst, arith, eqb}
@@ -8,7 +8,6 @@ use Rattle.std.proofs.lemmas.Bool.Decides.{nat_tests}
 use Rattle.std.proofs.lemmas.List.Elements.{All-head, All-tail, All-filter}
 use Rattle.std.proofs.lemmas.Str.{IsUtf8-append, IsUtf8-nil, IsUtf8-from_is_utf8, is_utf8-from_IsUtf8}
 use Rattle.dita_doc.specs.Bytes.{parts_by, has_bytes}
-use Rattle.dita_doc.specs.HtmlEscapes as html
 use Rattle.dita_doc.specs.PlainText.{is_blank_byte, folded}
 use Rattle.dita_doc.specs.PyxEscapes.{unescaped, unescaped_after, escaped, escaped_byte}
 use Rattle.dita_doc.proofs.EscapeLaws.{escaped_by_bytes, spaced_from, words_of, folded_words}
@@ -36,26 +35,6 @@ utf8_shown shown bytes shows utf8 = utf8_grows (λ (text : List ℕ). IsUtf8 (fl
   low = λ b rest less whole well. IsUtf8-append (shown b) (flat_map shown rest) (shows.low b less) well;
   high = λ char rest high some first whole well.
       subst IsUtf8 (sym (high_shown shown char rest shows high)) (IsUtf8-append char _ first well);
-}) utf8
-
-html_shows : ShowsAscii html.escaped_byte
-unfolding encode
-html_shows = record {
-  low = λ b less.
-      utf8_if (b == 38) _ _ (codes "&amp;", (refl, refl))
-      (utf8_if (b == 60) _ _ (codes "&lt;", (refl, refl))
-      (utf8_if (b == 62) _ _ (codes "&gt;", (refl, refl)) (utf8_cons b [] less IsUtf8-nil)));
-  high = λ b high. grind (arith, nat_tests);
-}
-
-pub utf8_html_escaped : (text : List ℕ) → IsUtf8 text → IsUtf8 (html.escaped text)
-utf8_html_escaped text utf8 = utf8_shown html.escaped_byte text html_shows utf8
-
-pub utf8_html_escaped_value : (value : List ℕ) → IsUtf8 value → IsUtf8 (html.escaped_value value)
-unfolding encode
-utf8_html_escaped_value value utf8 = utf8_shown html.escaped_value_byte value (record {
-  low = λ b less. utf8_if (b == 34) _ _ (codes "&quot;", (refl, refl)) (html_shows.low b less);
-  high = λ b high. grind (arith, nat_tests);
 }) utf8
 
 pub utf8_escaped : (bytes : List ℕ) → IsUtf8 bytes → IsUtf8 (escaped bytes)

@@ -10,3 +10,5 @@ pub mod SourcesLaws
 pub mod EscapeLaws
 pub mod EscapeUtf8Laws
 pub mod Utf8Laws
+pub mod LackLaws
+pub mod EscapeLackLaws

@@ -12,6 +12,7 @@ pub mod Siblings
 pub mod PyxLine
 pub mod PyxEvent
 pub mod Pyx
+pub mod ReadTree
 pub mod Body
 pub mod Faults
 pub mod Request

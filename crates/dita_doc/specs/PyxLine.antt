@@ -1,5 +1,5 @@
 -- The lines of PYX, one by one (PYX notation, after the line-oriented output of SGML parsers: the first byte of a line
--- says what the line is). `[` for text, the lines that are passed over but for `?`, and all refusals are our own.
+-- says what the line is). `[` for text, the lines that are passed over but for `?`, and all faults are our own.
 use Rattle.std.specs.Prelude.{◌==◌, ◌&&◌, ◌||◌, ℕ, Bool, not, List, [], ◌∷◌, length, if◌then◌else◌}
 use Rattle.std.specs.List.{before_first, after_first, list_any}
 use Rattle.std.specs.Str.{is_utf8}
@@ -25,7 +25,7 @@ abbrev pub with_name : List ℕ → Line → Line
 with_name name line = if is_line_name name then line else Breaks codes.BadLine
 
 -- by the first byte: `(` opens an element, `A` gives it an attribute, `-` and `[` say text, `)` closes it;
--- `?`, `C`, `D`, `N` and `U` are passed over, and an empty line too; `&` is refused
+-- `?`, `C`, `D`, `N` and `U` are passed over, and an empty line too; `&` is a fault
 abbrev pub line_by_byte : ℕ → List ℕ → Line
 line_by_byte b rest =
     if b == open_parenthesis then with_name rest (Opens rest)

@@ -1,4 +1,4 @@
-//! Bytes and texts, cut at a byte; and what a run of bytes is.
+//! Tests of bytes, and bytes and texts cut at a byte.
 
 ghost use Rattle.std.specs.Prelude.{◌≡◌, ◌<◌, MatchOption};
 ghost use Rattle.std.specs.Str.{is_utf8 as is_utf8_of};

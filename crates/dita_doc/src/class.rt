@@ -30,14 +30,11 @@ pub enum ClassFault {
     NoSign = 1,
     /// No token stands behind the sign.
     NoToken = 2,
-    /// A token is no module and type with one `/` between them.
+    /// A token is not a module and a type with one `/` between them.
     BadToken = 3,
 }
 
 impl ClassList {
-    ghost use Rattle.std.specs.Prelude.{◌≡◌};
-    ghost use Rattle.dita_doc.specs.ClassValue as spec;
-
     /// Whether the token stands in the list.
     pub fn has(&self, token: &str) -> bool
         ensures { result ≡ spec.has_token self.now token.now }

@@ -29,6 +29,7 @@ impl Clone for Attribute {
     }
 }
 
+/// What a node is.
 #[derive(Clone, Copy, Debug, PartialEq, Eq)]
 pub enum NodeKind {
     Element,

@@ -77,11 +77,11 @@ impl FactPair {
 pub struct Row {
     /// Rows and claims have numbers from 1, drawn when they are claimed.
     pub serial: u64,
-    /// How many entries there were, up to and with the last one that had changed the sources.
+    /// The number of entries, up to and with the last one that changed the sources.
     pub stamp: u64,
-    /// How many rows were kept, up to and with this one.
+    /// The number of rows that were published, up to and with this one.
     pub rank: u64,
-    /// The greatest serial that was drawn when the row was kept.
+    /// The greatest serial that was drawn when the row was published.
     pub mark: u64,
     /// What the row counts for in the table.
     pub bytes: u64,

@@ -52,7 +52,8 @@ pub struct PyxFault {
     pub line: u32,
 }
 
-/// What a build finds wrong in its sources, and goes on. The numbers order the faults of one line.
+/// A fault that a build finds in its sources, and behind which it goes on. The numbers order the
+/// faults of one line.
 #[derive(Clone, Copy, Debug, PartialEq, Eq)]
 pub enum FaultCode {
     NoClass = 1,

@@ -30,12 +30,14 @@ impl<T> List<T> {
         }
     }
 
+    /// The list of a vector's elements, in its memory.
     pub fn from_vec(content: Vec<T>) -> Self
         ensures { result ≡ content.items }
     {
         List { content }
     }
 
+    /// The vector of the elements, in the same memory.
     pub fn into_vec(self) -> Vec<T>
         ensures { result.items ≡ self }
     {
@@ -49,6 +51,7 @@ impl<T> List<T> {
         &self.content
     }
 
+    /// How many elements it has.
     pub fn len(&self) -> usize
         ensures length { result ≡ length self.now }
         ensures bound { result < 2 ^ 63 }

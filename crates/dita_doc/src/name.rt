@@ -17,7 +17,7 @@ use std::sync::Arc;
 /// How many bytes the longest name has.
 pub const NAME_LIMIT: usize = 255;
 
-/// A text is no document name.
+/// The answer that a text is no document name.
 #[derive(Clone, Copy, Debug, PartialEq, Eq)]
 pub struct NotName;
 
@@ -54,7 +54,7 @@ impl Name {
     ///
     /// # Errors
     ///
-    /// `NotName` exactly if the text is no document name, or want of memory.
+    /// `NotName` only if the text is no document name, or out of memory.
     pub fn parse(alloc: Global, text: &str) -> Result<Name, Stop<NotName>>
         ensures name { IfOk result (λ name. name ≡ text.now) }
         ensures refused { IfErr result (λ stop. OnFault stop (spec.is_name text.now ≡ false)) }

@@ -6,8 +6,8 @@ use crate::list::List;
 use crate::name::Name;
 use std::sync::Arc;
 
-/// A request. A document in the body of a put has the put's name as its origin wherever it is
-/// handed on.
+/// A request. A call that takes one has the condition that a document in the body of a put has the
+/// put's name as its origin.
 #[derive(Debug, Drop)]
 pub enum Request {
     /// Stores a body under a name, in the place of what stands there.
@@ -48,13 +48,14 @@ pub enum Reply {
     Conflict(u64),
     /// Nothing is stored under the name.
     Absent,
-    /// So many names are stored, as many as may be, and this one is not among them.
+    /// So many names are stored, the most that may be, and this one is not among them.
     TooManyNames(u32),
     /// A build has its place.
     Begun,
 }
 
-/// A request of a session, with its number there and its reply.
+/// A request of a session, with its number and its reply. In a script requests are numbered from 1
+/// over all sessions.
 #[derive(Debug, Drop)]
 pub struct Entry {
     pub session: u32,

@@ -36,9 +36,8 @@ pub enum First<'a> {
 }
 
 impl<'a> Siblings<'a> {
-    ghost use Rattle.std.specs.Prelude.{◌≡◌, None, MatchOption};
+    ghost use Rattle.std.specs.Prelude.{None, MatchOption};
     ghost use Rattle.dita_doc.specs.Siblings as siblings_spec;
-    ghost use Rattle.dita_doc.specs.Tree as tree_spec;
 
     /// The root of a document, or its roots.
     pub fn of(doc: &'a Doc) -> Siblings<'a>

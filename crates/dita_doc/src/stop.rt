@@ -2,7 +2,7 @@
 
 use std::alloc::{AllocError, AllocFailed};
 
-/// Want of memory. What it leaves is said by the call that answers it.
+/// Out of memory. What it leaves is said by the call that answers it.
 #[derive(Clone, Copy, Debug, PartialEq, Eq)]
 pub struct NoMemory;
 
@@ -18,7 +18,7 @@ impl<T: Drop> From<AllocFailed<T>> for NoMemory {
     }
 }
 
-/// A fault that has its cause, or want of memory.
+/// A fault that has its cause, or out of memory.
 #[derive(Clone, Copy, Debug, PartialEq, Eq)]
 pub enum Stop<E> {
     Fault(E),

@@ -33,6 +33,7 @@ impl Text {
         }
     }
 
+    /// The same text in memory of its own.
     pub fn from_str(alloc: Global, text: &str) -> Result<Text, AllocError>
         ensures { IfOk result (λ made. made ≡ text.now) }
     {
@@ -72,6 +73,7 @@ impl Text {
         self.as_str().as_bytes()
     }
 
+    /// Its bytes, in the same memory.
     pub fn into_bytes(self) -> List<u8>
         ensures { result ≡ self }
     {

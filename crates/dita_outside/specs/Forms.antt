@@ -2,6 +2,7 @@
 use Rattle.std.specs.Prelude.{if◌then◌else◌, ◌+◌, ◌-◌, ◌^◌, ◌==◌, ◌&&◌, ◌||◌, ℕ, Bool, List, length, drop, min, nat_lt}
 use Rattle.std.specs.List.{list_any}
 use Rattle.dita_doc.specs.Bytes.{Bytes}
+use Rattle.dita_outside.specs.Cause.{count_after}
 use Rattle.dita_outside.specs.Pages.{Pages}
 use Rattle.dita_outside.specs.declared.source.MemSource.{MemSource}
 use Rattle.dita_outside.specs.declared.source.SureSource.{SureSource}
@@ -20,7 +21,7 @@ pub record Failing : Type 0 where
 abbrev pub not_called : List ℕ → Failing
 not_called listed = record { listed = listed; calls = 0; faults = 0 }
 
--- calls are counted from 1, and the count stands still at the last number
+-- the number of the next call; calls are counted from 1, and the count stands still at its last value
 abbrev pub next_call : Failing → ℕ
 next_call failing = min (failing.calls + 1) (2 ^ 32 - 1)
 
@@ -32,7 +33,7 @@ abbrev pub after_call : Bool → Failing → Failing
 after_call failed failing = record {
   listed = failing.listed;
   calls = next_call failing;
-  faults = if failed then min (failing.faults + 1) (2 ^ 64 - 1) else failing.faults;
+  faults = if failed then count_after failing.faults else failing.faults;
 }
 
 abbrev pub source_bytes : MemSource → Bytes

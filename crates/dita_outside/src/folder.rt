@@ -2,6 +2,7 @@
 
 ghost use Rattle.std.specs.Prelude.{None};
 
+use crate::count::with_fault;
 use crate::{Failed, Outlet};
 use dita_doc::{Name, Stop};
 use std::alloc::Global;
@@ -22,6 +23,7 @@ pub struct FolderOutlet<R: Files + AllocGlobal + Drop> {
 }
 
 impl<R: Files + AllocGlobal + Drop> FolderOutlet<R> {
+    /// The folder of this path, which need not be there yet.
     pub fn new(rt: R, folder: String) -> FolderOutlet<R> {
         FolderOutlet {
             rt,
@@ -30,15 +32,15 @@ impl<R: Files + AllocGlobal + Drop> FolderOutlet<R> {
         }
     }
 
-    // Makes the folders of a page and puts its file there. Without success no file stays beside its
-    // place.
+    // Makes the folders of a page and puts its file there. Without success the file beside its place
+    // is removed, if the system lets it.
     fn write(&self, path: Path<'_>, beside: &str, bytes: &[u8]) -> io::Result<()> {
         if let Some(parent) = path.parent() {
             fs::create_dir_all(&self.rt, parent)?;
         }
         let written = self.write_beside(path, beside, bytes);
         if written.is_err() {
-            // If it can't be removed either, the fault of the page is the one that is told.
+            // If it can't be removed either, that is no second fault: the page has failed already.
             let _ = fs::remove_file(&self.rt, beside);
         }
         written
@@ -72,7 +74,7 @@ impl<R: Files + AllocGlobal + Drop> Outlet for FolderOutlet<R> {
         if self.holds(path, bytes) || self.write(path, beside.as_str(), bytes).is_ok() {
             return Ok(());
         }
-        self.faults = self.faults.saturating_add(1);
+        self.faults = with_fault(self.faults);
         Err(Stop::Fault(Failed))
     }
 }

@@ -1,10 +1,11 @@
 //! The outside as the program sees it: sources, sinks and outlets, each with a count of its faults.
 //!
-//! What is used above it: a call answers `Failed` only if the object's count rose in it, and
-//! then, as with `NoMemory`, nothing was taken. What an object holds is told by its forms in memory
-//! alone.
+//! What is used above it: a call answers `Failed` only if the object's count rose in it, or stands
+//! at its last value. Then, and if it answers `NoMemory`, the object has taken nothing. Only the
+//! forms in memory tell what they hold.
 #![tactic(auto)]
 
+mod count;
 mod folder;
 mod outlet;
 mod sink;

@@ -5,6 +5,7 @@ ghost use Rattle.dita_outside.specs.Cause as cause_spec;
 ghost use Rattle.dita_outside.specs.Pages as pages_spec;
 
 use crate::Failed;
+use crate::count::with_fault;
 use dita_doc::{List, Name, Stop};
 use std::alloc::{AllocError, Global};
 
@@ -13,7 +14,7 @@ pub trait Outlet {
     /// The pages that it took, in order, if it tells them.
     ghost pages: { Self → Option pages_spec.Pages };
 
-    /// How often it failed. The count stands still at the last value of a counter.
+    /// How often it failed. The count stands still at 2^64 - 1, the last value of a counter.
     ghost faults: { Self → ℕ };
 
     /// Takes a page whole. With an `Err` it did not take it; what then lies in a real folder is not
@@ -36,6 +37,7 @@ pub struct MemOutlet {
 impl MemOutlet {
     ghost use Rattle.dita_outside.specs.Forms as forms_spec;
 
+    /// An outlet that took no page yet.
     pub fn new(alloc: Global, failing: List<u32>) -> MemOutlet
         ensures pages { forms_spec.outlet_pages result ≡ [] }
         ensures failing { forms_spec.outlet_failing result ≡ forms_spec.not_called failing }
@@ -81,7 +83,7 @@ impl Outlet for MemOutlet {
     {
         self.calls = self.calls.saturating_add(1);
         if self.failing.as_slice().contains(&self.calls) {
-            self.faults = self.faults.saturating_add(1);
+            self.faults = with_fault(self.faults);
             return Err(Stop::Fault(Failed));
         }
         self.content.push(page_of(alloc, name, bytes)?)?;
@@ -98,6 +100,7 @@ pub struct SureOutlet {
 impl SureOutlet {
     ghost use Rattle.dita_outside.specs.Forms as forms_spec;
 
+    /// An outlet that took no page yet.
     pub fn new(alloc: Global) -> SureOutlet
         ensures { forms_spec.sure_outlet_pages result ≡ [] }
     {

@@ -7,6 +7,7 @@ ghost use Rattle.dita_doc.specs.Bytes.{Bytes};
 ghost use Rattle.dita_outside.specs.Cause as cause_spec;
 
 use crate::Failed;
+use crate::count::with_fault;
 use dita_doc::{List, Stop};
 use std::alloc::Global;
 use std::io::Write;
@@ -16,7 +17,7 @@ pub trait Sink {
     /// The bytes that it took, if it tells them.
     ghost taken: { Self → Option Bytes };
 
-    /// How often it failed. The count stands still at the last value of a counter.
+    /// How often it failed. The count stands still at 2^64 - 1, the last value of a counter.
     ghost faults: { Self → ℕ };
 
     /// Takes the first bytes, at least one if there are any, and answers how many. With an `Err` it
@@ -81,7 +82,7 @@ impl MemSink {
 }
 
 impl Sink for MemSink {
-    ghost use Rattle.std.specs.Prelude.{◌≡◌, ◌+◌, ◌<◌, IsTrue, IfOk, IfErr, length, true, false, Some};
+    ghost use Rattle.std.specs.Prelude.{◌≡◌, ◌+◌, ◌<◌, IsTrue, IfOk, IfErr, OnErr, length, true, false, Some};
     ghost use Rattle.std.specs.Io.{WritesAtMost};
     ghost use Rattle.std.specs.Io.KnownBytes.{WriteAppends};
     ghost use Rattle.dita_doc.specs.Gives.{OnFault};
@@ -103,6 +104,8 @@ impl Sink for MemSink {
             (IsTrue (forms_spec.sink_fails self.old bytes.now))) }
         ensures took { IfOk result (λ count. (forms_spec.sink_fails self.old bytes.now ≡ false)
             × (forms_spec.sink_room self.new + count ≡ forms_spec.sink_room self.old)) }
+        // A call that takes nothing leaves the room as it was.
+        ensures room { OnErr result (forms_spec.sink_room self.new ≡ forms_spec.sink_room self.old) }
         ensures counted { forms_spec.sink_failing self.new ≡ forms_spec.after_call
             (cause_spec.is_fault result) (forms_spec.sink_failing self.old) }
     {
@@ -110,7 +113,7 @@ impl Sink for MemSink {
         let is_listed = self.failing.as_slice().contains(&self.calls);
         let is_full = self.room == 0 && !bytes.is_empty();
         if is_listed || is_full {
-            self.faults = self.faults.saturating_add(1);
+            self.faults = with_fault(self.faults);
             return Err(Stop::Fault(Failed));
         }
         let count = if bytes.len() as u64 <= self.room {
@@ -133,6 +136,7 @@ pub struct SureSink {
 impl SureSink {
     ghost use Rattle.dita_outside.specs.Forms as forms_spec;
 
+    /// A sink that took nothing yet.
     pub fn new(alloc: Global) -> SureSink
         ensures { forms_spec.sure_sink_bytes result ≡ [] }
     {
@@ -172,6 +176,7 @@ pub struct StdSink<W: Write> {
 }
 
 impl<W: Write> StdSink<W> {
+    /// The writer as a sink.
     pub fn new(writer: W) -> StdSink<W> {
         StdSink { writer, faults: 0 }
     }
@@ -189,7 +194,7 @@ impl<W: Write> Sink for StdSink<W> {
         match self.writer.write(bytes) {
             Ok(count) if count > 0 => Ok(count),
             _ => {
-                self.faults = self.faults.saturating_add(1);
+                self.faults = with_fault(self.faults);
                 Err(Stop::Fault(Failed))
             }
         }

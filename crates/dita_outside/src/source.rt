@@ -7,6 +7,7 @@ ghost use Rattle.dita_doc.specs.Bytes.{Bytes};
 ghost use Rattle.dita_outside.specs.Cause as cause_spec;
 
 use crate::Failed;
+use crate::count::with_fault;
 use dita_doc::List;
 use std::io::Read;
 
@@ -15,7 +16,7 @@ pub trait Source {
     /// The bytes that are left, if it tells them.
     ghost left: { Self → Option Bytes };
 
-    /// How often it failed. The count stands still at the last value of a counter.
+    /// How often it failed. The count stands still at 2^64 - 1, the last value of a counter.
     ghost faults: { Self → ℕ };
 
     /// Reads some bytes into the buffer, and answers how many. 0 for a buffer that is not empty is
@@ -78,7 +79,7 @@ impl Source for MemSource {
     {
         self.calls = self.calls.saturating_add(1);
         if self.failing.as_slice().contains(&self.calls) {
-            self.faults = self.faults.saturating_add(1);
+            self.faults = with_fault(self.faults);
             return Err(Failed);
         }
         let mut rest = &self.bytes.as_slice()[self.place..];
@@ -139,6 +140,7 @@ pub struct StdSource<R: Read> {
 }
 
 impl<R: Read> StdSource<R> {
+    /// The reader as a source.
     pub fn new(reader: R) -> StdSource<R> {
         StdSource { reader, faults: 0 }
     }
@@ -153,7 +155,7 @@ impl<R: Read> Source for StdSource<R> {
         match self.reader.read(into) {
             Ok(count) => Ok(count),
             Err(_) => {
-                self.faults = self.faults.saturating_add(1);
+                self.faults = with_fault(self.faults);
                 Err(Failed)
             }
         }

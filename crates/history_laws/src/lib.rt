@@ -1,7 +1,7 @@
-//! Laws of histories, whatever was asked.
+//! Laws of histories, whatever was asked. Each function does nothing: its contract is the law.
 #![tactic(auto)]
 
-ghost use Rattle.std.specs.Prelude.{◌≡◌, ◌≤◌, ◌++◌, ℕ, Some, length, take};
+ghost use Rattle.std.specs.Prelude.{◌≡◌, ◌≢◌, ◌≤◌, ◌++◌, ℕ, Some, None, length, take, slice_get};
 ghost use Rattle.dita_doc.specs.Bytes.{Bytes};
 ghost use Rattle.dita_doc.specs.Desk as desk_spec;
 ghost use Rattle.dita_doc.specs.History as history_spec;
@@ -39,8 +39,32 @@ pub fn versions_tell()
         → stored.version ≡ again.version → stored ≡ again }
 {}
 
-/// What was stored after the first entries stays what it is when more follow.
+/// What was stored after the first entries stays what it is when more follow, and the first entries
+/// of a legal history are legal.
 pub fn prefixes_stay()
-    ensures { (history more : entries_spec.Entries) (n : ℕ) → n ≤ length history
+    ensures stored { (history more : entries_spec.Entries) (n : ℕ) → n ≤ length history
         → history_spec.sources (history ++ more) n ≡ history_spec.sources history n }
+    ensures legal { (history : entries_spec.Entries) (n : ℕ) → history_spec.IsLegal history
+        → history_spec.IsLegal (take n history) }
+{}
+
+/// Each reply of a legal history is the desk's over what is stored at its place.
+pub fn replies_are_the_desks()
+    ensures { (history : entries_spec.Entries) (n : ℕ) (entry : history_spec.Entry)
+        → history_spec.IsLegal history → slice_get history n ≡ Some entry
+        → entry.reply ≡ desk_spec.reply (history_spec.sources history n) n entry.request }
+{}
+
+/// A change of one name changes no other: what is stored is found under its name, what is removed
+/// is not found, and each other name has what it had.
+pub fn other_names_stay()
+    ensures stored { (state : desk_spec.State) (new : desk_spec.Stored)
+        → desk_spec.found (desk_spec.with_stored new state) new.name ≡ Some new }
+    ensures beside_stored { (state : desk_spec.State) (new : desk_spec.Stored) (name : Bytes)
+        → new.name ≢ name
+        → desk_spec.found (desk_spec.with_stored new state) name ≡ desk_spec.found state name }
+    ensures removed { (state : desk_spec.State) (name : Bytes)
+        → desk_spec.found (desk_spec.without_name name state) name ≡ None }
+    ensures beside_removed { (state : desk_spec.State) (gone name : Bytes) → gone ≢ name
+        → desk_spec.found (desk_spec.without_name gone state) name ≡ desk_spec.found state name }
 {}

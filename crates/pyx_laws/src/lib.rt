@@ -4,8 +4,10 @@
 ghost use Rattle.std.specs.Prelude.{◌≡◌, ◌≤◌, Ok, length};
 ghost use Rattle.dita_doc.specs.Bytes.{Bytes};
 ghost use Rattle.dita_doc.specs.Pyx as pyx_spec;
+ghost use Rattle.dita_doc.specs.ReadTree as read_tree_spec;
 ghost use Rattle.dita_doc.specs.Tree as tree_spec;
 ghost use Rattle.pyx_text.specs.Canonical as canonical_spec;
+ghost use Rattle.pyx_text.specs.Read as read_spec;
 
 /// A text stands for one tree at most.
 pub fn one_tree()
@@ -21,13 +23,14 @@ pub fn one_reading()
         pyx_spec.StandsFor text tree → pyx_spec.document_of text ≡ Ok tree }
 {}
 
-/// The canonical text of a document that was read is read as the same document, but for the lines
-/// of its elements, unless it is longer than a text may be.
-pub fn written_again()
-    ensures { (text : Bytes) (tree : tree_spec.Content) →
-        pyx_spec.StandsFor text tree →
+/// A tree that a text stands for has one root, names, values and texts as lines give them, each
+/// attribute once, and at most 256 elements within one another. And of a tree with these properties
+/// the canonical text stands for it, apart from the lines of its elements, unless it is too long
+/// for a text.
+pub fn trees_of_texts()
+    ensures kept { (text : Bytes) (tree : tree_spec.Content) →
+        pyx_spec.StandsFor text tree → read_tree_spec.IsReadTree tree }
+    ensures again { (tree : tree_spec.Content) → read_tree_spec.IsReadTree tree →
         length (canonical_spec.text_of tree) ≤ pyx_spec.text_limit →
-        (other : tree_spec.Content)
-        × pyx_spec.StandsFor (canonical_spec.text_of tree) other
-        × canonical_spec.SameApartFromLines tree other }
+        read_spec.StandsAgainFor (canonical_spec.text_of tree) tree }
 {}

@@ -11,3 +11,8 @@ pub mod PyxKeeps
 pub mod PyxLaws
 pub mod PyxSteps
 pub mod PyxTells
+pub mod ReadLines
+pub mod ReadTrees
+pub mod WrittenLines
+pub mod WrittenAgain
+pub mod OpenElements

@@ -1,9 +1,9 @@
 -- The parts of a line: its first byte, what stands before and behind its first space, and what it says.
-use Rattle.std.specs.Prelude.{◌≡◌, ◌+◌, ℕ, Bool, true, false, List, [], ◌∷◌, ◌++◌, length, if◌then◌else◌}
+use Rattle.std.specs.Prelude.{◌≡◌, ◌+◌, ℕ, List, [], ◌∷◌, ◌++◌, length, if◌then◌else◌}
 use Rattle.std.specs.List.{list_any, before_first, after_first, position_or_len}
 use Rattle.std.specs.Str.{is_utf8, IsUtf8}
 use Rattle.std.proofs.Common.{refl, sym, ap, arith, append_assoc, length-append}
-use Rattle.std.proofs.lemmas.Bool.{or_parts}
+use Rattle.std.proofs.lemmas.Bool.{or_parts, false_from_ne_true}
 use Rattle.std.proofs.lemmas.List.{take_all, drop_all, take_at, drop_at}
 use Rattle.std.proofs.lemmas.Str.{IsUtf8-from_is_utf8, is_utf8-from_IsUtf8}
 use Rattle.dita_doc.specs.Bytes.{is_space, space}
@@ -53,10 +53,6 @@ pub text_said : (bytes : List ℕ) → IsUtf8 bytes → line_of bytes ≡ line_b
 text_said bytes utf8 =
     ap (λ b. if b then line_by_bytes bytes else Breaks codes.NotUtf8) (is_utf8-from_IsUtf8 bytes utf8)
 
-not_utf8 : (bytes : List ℕ) (b : Bool) → is_utf8 bytes ≡ b → ¬ (IsUtf8 bytes) → is_utf8 bytes ≡ false
-not_utf8 bytes true is none = absurd (none (IsUtf8-from_is_utf8 bytes is))
-not_utf8 bytes false is none = is
-
 pub no_text_said : (bytes : List ℕ) → ¬ (IsUtf8 bytes) → line_of bytes ≡ Breaks codes.NotUtf8
-no_text_said bytes none =
-    ap (λ b. if b then line_by_bytes bytes else Breaks codes.NotUtf8) (not_utf8 bytes (is_utf8 bytes) refl none)
+no_text_said bytes none = ap (λ b. if b then line_by_bytes bytes else Breaks codes.NotUtf8)
+    (false_from_ne_true (is_utf8 bytes) (λ is. none (IsUtf8-from_is_utf8 bytes is)))

@@ -9,7 +9,7 @@ use Rattle.std.specs.Cmp.Lexicographic.{slice_cmp}
 use Rattle.std.specs.BTreeMap.{is_at}
 use Rattle.std.specs.BTreeSet.{BTreeSet, insert_key}
 use Rattle.std.proofs.lemmas.Map.Text.{is_eq-slice_cmp}
-use Rattle.std.proofs.lemmas.Slice.Eq.{bytes_eq-Decides}
+use Rattle.dita_doc.proofs.NameOrder.{same_from_equal}
 use Rattle.pyx_text.specs.Machine.{has_name}
 
 -- how the set compares its names
@@ -31,10 +31,6 @@ or-swap true false c = refl
 or-swap false true c = refl
 or-swap false false c = refl
 
--- names that compare equal are equal
-same_name : (x y : List ℕ) → slice_cmp nat_cmp x y ≡ Equal → x ≡ y
-same_name x y is = (bytes_eq-Decides x y).0 (sym (is_eq-slice_cmp x y) ∙ ap is_eq is)
-
 -- the first of the keys, behind or before which a name is put
 is_among-placed : (other : List ℕ) (k x : List ℕ) (keys more : List (List ℕ)) (order : Ordering)
     → slice_cmp nat_cmp k x ≡ order
@@ -46,7 +42,7 @@ is_among-placed other k x keys more Equal is rest =
     ap (λ b. b || is_among other keys) (is_eq-slice_cmp other x)
     ∙ or-twice (bytes_eq other x) (is_among other keys)
     ∙ ap (λ b. bytes_eq other x || (b || is_among other keys)) (sym (is_eq-slice_cmp other x))
-    ∙ ap (λ name. bytes_eq other name || is_among other (x ∷ keys)) (sym (same_name k x is))
+    ∙ ap (λ name. bytes_eq other name || is_among other (x ∷ keys)) (sym (same_from_equal k x is))
 is_among-placed other k x keys more Greater is rest =
     let test = is_eq (slice_cmp nat_cmp other x) in
     ap (λ b. test || b) rest ∙ or-swap test (bytes_eq other k) (is_among other keys)

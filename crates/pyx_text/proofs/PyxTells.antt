@@ -20,13 +20,13 @@ built_given (attribute ∷ attributes) given before around =
     built_given attributes given (Give attribute.name attribute.value ∷ before) around
 
 -- a written text is what `text_then` makes
-text_kept : (text : List ℕ) (origin line : ℕ) (rest : Content) → is_nothing text ≡ false → origin ≡ 0 → line ≡ 0
+pub text_kept : (text : List ℕ) (origin line : ℕ) (rest : Content) → is_nothing text ≡ false → origin ≡ 0 → line ≡ 0
     → text_then text rest ≡ Chars text origin line rest
 text_kept [] origin line rest some first second = absurd cc
 text_kept (b ∷ text) origin line rest some first second = cc
 
--- nothing needs to stand apart from a content without a text in front
-apart_from_false : (text : List ℕ) (c : Content) → begins_with_text c ≡ false → IsApart text c
+-- any text stands apart from a content that begins with none
+pub apart_from_false : (text : List ℕ) (c : Content) → begins_with_text c ≡ false → IsApart text c
 apart_from_false [] c e = tt
 apart_from_false (b ∷ text) c e = e
 

@@ -61,7 +61,7 @@ IsAt-push reader left line b text at is other kept put = record {
 }
 
 -- the end of a line
-goes_on-none : (found : Option PyxCode) (number : ℕ) (rest : EventsOrFault) → found ≡ None
+pub goes_on-none : (found : Option PyxCode) (number : ℕ) (rest : EventsOrFault) → found ≡ None
     → goes_on found number rest ≡ rest
 goes_on-none found number rest is = ap (λ f. goes_on f number rest) is
 
@@ -77,7 +77,7 @@ lines-last left [] some = absurd (omega arith)
 lines-last zero (b ∷ line) some = refl
 lines-last (suc left) (b ∷ line) some = refl
 
-lines-none : (left : ℕ) (line : List ℕ) → length line ≡ 0 → lines_from left line [] ≡ []
+pub lines-none : (left : ℕ) (line : List ℕ) → length line ≡ 0 → lines_from left line [] ≡ []
 lines-none zero [] none = refl
 lines-none (suc left) [] none = refl
 lines-none left (b ∷ line) none = absurd (omega arith)

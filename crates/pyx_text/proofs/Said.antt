@@ -1,20 +1,16 @@
 -- The nodes that the events of a tree make are its preorder.
-use Rattle.std.proofs.Common.{◌≡◌, ℕ, ◌+◌, ◌-◌, false, List, [], ◌∷◌, ◌++◌, length, sym, refl, ap, ◌∙◌, append_assoc, arith}
+use Rattle.std.proofs.Common.{◌≡◌, ℕ, ◌+◌, ◌-◌, List, [], ◌∷◌, ◌++◌, length, sym, refl, ap, ◌∙◌, append_assoc, arith}
 use Rattle.std.proofs.lemmas.List.{append-nil, length_push, length-append}
 use Rattle.dita_doc.specs.declared.doc.Attribute.{Attribute}
 use Rattle.dita_doc.specs.declared.doc.Node.{Node}
 use Rattle.dita_doc.specs.Tree.{Content, End, Chars, Element, nodes_of, size_of, element_node, chars_node}
 use Rattle.dita_doc.specs.PyxEvent.{Event, Open, Give, Text, Close, add_text}
-use Rattle.dita_doc.specs.Pyx.{is_nothing, give_all, says, begins_with_text, IsWritten, IsOneElement, text_then}
+use Rattle.dita_doc.specs.Pyx.{give_all, says, IsWritten, IsOneElement, text_then}
 use Rattle.dita_doc.proofs.TreeLaws.{length_nodes}
 use Rattle.pyx_text.specs.Machine.{Made, made_by, with_text, with_attribute, with_end, giving, ending, innermost, outer, text_at, settled}
 use Rattle.pyx_text.proofs.Lists.{changed_behind, innermost_push, outer_push}
 use Rattle.pyx_text.proofs.Made.{made-settled, text_at-add}
-
--- a text that stands before a content, without a second text behind it
-abbrev pub IsApart : List ℕ → Content → Type 0
-IsApart [] c = Unit {0}
-IsApart (b ∷ text) c = begins_with_text c ≡ false
+use Rattle.pyx_text.proofs.PyxTells.{IsApart, apart_from_false, text_kept}
 
 -- what nodes and places are, where they are known
 abbrev AreMade : List Event → List Node → List ℕ → Type 0
@@ -52,15 +48,6 @@ with_text-then (b ∷ text) c nodes =
 said_end : (text : List ℕ) (nodes : List Node)
     → with_text text nodes ≡ nodes ++ nodes_of (text_then text End) (length nodes)
 said_end text nodes = sym (append-nil (with_text text nodes)) ∙ with_text-then text End nodes
-
-chars_then : (text : List ℕ) (origin line : ℕ) (rest : Content) → is_nothing text ≡ false → origin ≡ 0 → line ≡ 0
-    → text_then text rest ≡ Chars text origin line rest
-chars_then [] origin line rest some first none = absurd (cc)
-chars_then (b ∷ text) origin line rest some first none = cc
-
-apart_from : (text : List ℕ) (c : Content) → begins_with_text c ≡ false → IsApart text c
-apart_from [] c is = tt
-apart_from (b ∷ text) c is = is
 
 -- an element whose content is put behind it ends where that ends
 ended : (front : List Node) (name : List ℕ) (attributes : List Attribute) (line : ℕ) (inside : Content)
@@ -127,13 +114,13 @@ unfolding closed behind
 says-made text End before written apart =
     ap (λ ns. record { nodes = ns; places = (made_by before).places }) (said_end text (made_by before).nodes)
 says-made [] (Chars more origin line rest) before written apart =
-    says-made more rest before written.4 (apart_from more rest written.1)
+    says-made more rest before written.4 (apart_from_false more rest written.1)
     ∙ ap (λ c. record {
       nodes = (made_by before).nodes ++ nodes_of c (length (made_by before).nodes);
       places =
           (made_by before).places;
     })
-    (chars_then more origin line rest written.0 written.2 written.3)
+    (text_kept more origin line rest written.0 written.2 written.3)
 says-made (b ∷ text) (Chars more origin line rest) before written apart = absurd (cc)
 says-made text (Element name attributes origin line inside rest) before written apart =
     let nodes = (made_by before).nodes in

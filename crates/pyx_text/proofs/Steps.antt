@@ -45,7 +45,7 @@ fault_of_deep : (rooted : Bool) (names : List (List ℕ)) → 256 ≤ length nam
 fault_of_deep rooted [] deep = absurd (omega arith)
 fault_of_deep rooted (name ∷ names) deep = grind (arith, nat_tests)
 
-fault_of_inner : (rooted : Bool) (names : List (List ℕ)) → 0 < length names → length names < 256
+pub fault_of_inner : (rooted : Bool) (names : List (List ℕ)) → 0 < length names → length names < 256
     → fault_of_open rooted names ≡ None
 fault_of_inner rooted [] some within = absurd (omega arith)
 fault_of_inner rooted (name ∷ names) some within = grind (arith, nat_tests)

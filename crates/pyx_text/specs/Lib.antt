@@ -1,4 +1,4 @@
 pub mod Machine
 pub mod Reader
-pub mod Read
 pub mod Canonical
+pub mod Read

@@ -12,7 +12,7 @@ use std::sync::Arc;
 /// copied.
 pub fn read_body(alloc: Global, name: &Name, bytes: List<u8>) -> Result<Body, NoMemory>
     ensures bytes { IfOk result (λ body. arc_value body.bytes ≡ bytes) }
-    // Where it is a document, this name is its one origin.
+    // If it is a document, this name is its one origin.
     ensures origin { IfOk result
         (λ body. IfOk body.read (λ doc. (arc_value doc).origins ≡ name.now ∷ [])) }
 {

@@ -8,6 +8,8 @@
 ghost use Rattle.std.specs.Prelude.{◌≡◌, [], ◌∷◌, IfOk, IfErr};
 ghost use Rattle.dita_doc.specs.Gives.{IsStopOf};
 ghost use Rattle.dita_doc.specs.Pyx as pyx_spec;
+ghost use Rattle.dita_doc.specs.ReadTree as read_tree_spec;
+ghost use Rattle.dita_doc.specs.Tree as tree_spec;
 ghost use Rattle.pyx_text.specs.Read as read_spec;
 
 mod body;
@@ -31,9 +33,11 @@ pub use write::write_pyx;
 ///
 /// # Errors
 ///
-/// The first faulty line with its first fault, or want of memory.
+/// The first faulty line with its first fault, or out of memory.
 pub fn read_pyx(alloc: Global, name: &Name, bytes: &[u8]) -> Result<Doc, Stop<PyxFault>>
     ensures tree { IfOk result (λ doc. read_spec.AreRead doc.nodes bytes.now) }
+    ensures kept { IfOk result
+        (λ doc. read_tree_spec.IsReadTree (tree_spec.tree_of doc.nodes)) }
     ensures origin { IfOk result (λ doc. doc.origins ≡ name.now ∷ []) }
     ensures fault { IfErr result (λ stop. IsStopOf stop (pyx_spec.reading bytes.now)) }
 {

@@ -1,37 +1,42 @@
 //! Documents to texts.
 
-ghost use Rattle.std.specs.Prelude.{◌≡◌, ◌++◌, OnOk, IfOk};
-ghost use Rattle.dita_doc.specs.Siblings as siblings_spec;
+ghost use Rattle.std.specs.Prelude.{◌≡◌, ◌≤◌, ◌++◌, length, OnOk, IfOk};
+ghost use Rattle.dita_doc.specs.Pyx as pyx_spec;
+ghost use Rattle.dita_doc.specs.ReadTree as read_tree_spec;
 ghost use Rattle.dita_doc.specs.Tree as tree_spec;
 ghost use Rattle.pyx_text.specs.Canonical as canonical_spec;
+ghost use Rattle.pyx_text.specs.Read as read_spec;
 
-use dita_doc::{Attribute, Doc, First, List, NoMemory, Siblings, append_pyx};
+use dita_doc::{Attribute, Doc, First, List, NoMemory, Node, Siblings, append_pyx};
 use std::alloc::{AllocError, Global};
 
 /// The canonical text of a document, in a time linear in its size.
 ///
-/// A call goes into each element, so the stack bounds the depth. A document that was read is at
-/// most 256 elements deep.
+/// The elements that are open are kept in memory and not on the stack, so a document may be of any
+/// depth.
 pub fn write_pyx(alloc: Global, doc: &Doc) -> Result<List<u8>, NoMemory>
-    ensures { IfOk result
+    ensures text { IfOk result
         (λ text. text ≡ canonical_spec.text_of (tree_spec.tree_of doc.now.nodes)) }
+    // What is written of a tree that was read stands for it again, unless it is longer than a text
+    // may be.
+    ensures again { let tree = tree_spec.tree_of doc.now.nodes in read_tree_spec.IsReadTree tree →
+        IfOk result (λ text.
+        length text ≤ pyx_spec.text_limit → read_spec.StandsAgainFor text tree) }
 {
     let mut text = List::new(alloc);
-    append_content(&mut text, Siblings::of(doc))?;
-    Ok(text)
-}
-
-// Appends the lines of siblings.
-fn append_content(text: &mut List<u8>, siblings: Siblings<'_>) -> Result<(), AllocError>
-    ensures { OnOk result
-        (text.new ≡ text.old ++ canonical_spec.text_of (siblings_spec.content siblings.entry)) }
-{
-    let mut left = siblings;
+    let mut open_elements: Vec<OpenElement<'_>> = Vec::new(alloc);
+    let mut left = Siblings::of(doc);
     loop {
         match left.split_first() {
-            First::End => return Ok(()),
+            First::End => {
+                let Some(element) = open_elements.pop() else {
+                    return Ok(text);
+                };
+                append_line(&mut text, b')', element.node.text.as_bytes())?;
+                left = element.rest;
+            }
             First::Chars { node, rest, .. } => {
-                append_text(text, node.text.as_bytes())?;
+                append_text(&mut text, node.text.as_bytes())?;
                 left = rest;
             }
             First::Element {
@@ -40,14 +45,20 @@ fn append_content(text: &mut List<u8>, siblings: Siblings<'_>) -> Result<(), All
                 rest,
                 ..
             } => {
-                append_line(text, b'(', node.text.as_bytes())?;
-                append_attributes(text, node.attributes.as_slice())?;
-                append_content(text, inside)?;
-                append_line(text, b')', node.text.as_bytes())?;
-                left = rest;
+                append_line(&mut text, b'(', node.text.as_bytes())?;
+                append_attributes(&mut text, node.attributes.as_slice())?;
+                open_elements.push(OpenElement { node, rest })?;
+                left = inside;
             }
         }
     }
+}
+
+// An element whose closing is not written yet, and what comes after it.
+#[derive(Clone, Copy)]
+struct OpenElement<'a> {
+    node: &'a Node,
+    rest: Siblings<'a>,
 }
 
 // Appends the line of an opening or a closing.

@@ -6,7 +6,7 @@ use Rattle.dita_doc.specs.Lines.{line}
 use Rattle.script_text.specs.Faults.{script_code_text}
 use Rattle.script_text.specs.Script.{Step, script_of}
 use Rattle.script_text.specs.declared.fault.ScriptFault.{ScriptFault}
-use Rattle.transcript_text.specs.Transcript.{transcript_text}
+use Rattle.transcript_text.specs.Transcript.{IsTranscript, transcript_text}
 use Rattle.run_spec.specs.Answers.{Answer, answers_to, transcript_of, pages_of_answers}
 use Rattle.run_spec.specs.declared.status.Status.{Status}
 use Rattle.run_spec.specs.declared.status.Status.TheVariants as statuses
@@ -20,8 +20,8 @@ pub record CleanRun : Type 0 where
 abbrev pub read_limit : ℕ
 read_limit = 67108865
 
-abbrev pub refusal_line : ScriptFault → List ℕ
-refusal_line fault = line (codes "script " ++ script_code_text fault.code ++ codes " " ++ decimal fault.line)
+abbrev pub rejection_line : ScriptFault → List ℕ
+rejection_line fault = line (codes "script " ++ script_code_text fault.code ++ codes " " ++ decimal fault.line)
 
 abbrev pub run_answered : List Answer → CleanRun
 run_answered answers = record {
@@ -30,10 +30,15 @@ run_answered answers = record {
   output = transcript_text (transcript_of answers);
 }
 
--- a script is answered request by request, from a desk with nothing stored; other bytes are refused
+-- a script is answered request by request, from a desk with nothing stored; other bytes are rejected
 abbrev pub run_of : Result (List Step) ScriptFault → CleanRun
 run_of (Ok steps) = run_answered (answers_to steps)
-run_of (Err fault) = record { status = statuses.Script; pages = []; output = refusal_line fault }
+run_of (Err fault) = record { status = statuses.Script; pages = []; output = rejection_line fault }
+
+-- the transcript of a script that is answered is in the form of transcripts
+abbrev pub HasForm : Result (List Step) ScriptFault → Type 0
+HasForm (Ok steps) = IsTranscript (transcript_of (answers_to steps))
+HasForm (Err fault) = Unit {0}
 
 unfoldable pub clean_run : List ℕ → CleanRun
 clean_run input = run_of (script_of input)

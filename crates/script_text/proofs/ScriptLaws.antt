@@ -2,20 +2,21 @@
 use Rattle.std.specs.Prelude.{◌≡◌, ◌+◌, ◌-◌, ◌<◌, ◌≤◌, ◌==◌, ℕ, Bool, true, false, List, [], ◌∷◌, ◌++◌, Option, Some, None, Ok, length, take, map, filter, nat_lt}
 use Rattle.std.specs.List.{All, sum}
 use Rattle.std.specs.Str.{IsUtf8, is_utf8}
-use Rattle.std.proofs.Common.{refl, sym, ap, subst, arith, append-nil, append_assoc, length-append, length-take}
-use Rattle.std.proofs.lemmas.Bool.{cond_both, ltb-true, ltb-false, eqb-true}
+use Rattle.std.proofs.Common.{refl, sym, subst, arith, length-append, length-take}
+use Rattle.std.proofs.lemmas.Bool.{cond_both, ltb-true, ltb-false}
+use Rattle.std.proofs.lemmas.Bool.Decides.{nat_tests}
 use Rattle.std.proofs.lemmas.List.Elements.{All-nil, All-cons, All-head, All-tail, All-filter}
 use Rattle.std.proofs.lemmas.List.Sums.{sum_by-cons}
 use Rattle.std.proofs.lemmas.Str.{IsUtf8-nil, IsUtf8-append, IsUtf8-from_ascii, IsUtf8-from_is_utf8, is_utf8-from_IsUtf8}
 use Rattle.std.proofs.lemmas.Str.Ascii.{IsAscii-cons, IsAscii-nil}
 use Rattle.dita_doc.specs.Lines.{lines_of}
-use Rattle.dita_doc.specs.Bytes.{line_feed, space, onto_first, spaced_parts, has_bytes, spaced_words}
+use Rattle.dita_doc.specs.Bytes.{line_feed, space, is_space, onto_first, spaced_parts, has_bytes, spaced_words}
 use Rattle.dita_doc.specs.declared.request.Request as given
 use Rattle.dita_doc.specs.Request.{Request, Put, PutIf, Remove, Get, Names, Build, text_size, IsUtf8Request}
 use Rattle.script_text.specs.Script.{script_limit, request_limit, Opening, PutOf, PutIfOf, with_body, named, Step, Begun, whole_step, script_line, is_no_line, steps_from, script_of}
 use Rattle.script_text.specs.Facts.{steps_size, IsUtf8Step, FitsScript, IsSession}
 use Rattle.script_text.specs.Read.{step_seen, steps_seen}
-use Rattle.dita_doc.proofs.Utf8Laws.{utf8_cut_at}
+use Rattle.dita_doc.proofs.Utf8Laws.{utf8_parts}
 use Rattle.script_text.proofs.LineLaws.{has_line}
 use Rattle.script_text.proofs.ScriptTurns.{AreLast, texts_of, name_in, step_of, GoesOn, Follows, steps_keep, script_follows}
 
@@ -219,34 +220,6 @@ script_size bytes steps e = omega (arith, script_texts bytes steps e, script_sho
 
 -- UTF-8
 
--- bytes put before the first part
-abbrev put_first : List ℕ → List (List ℕ) → List (List ℕ)
-put_first front [] = front ∷ []
-put_first front (part ∷ parts) = (front ++ part) ∷ parts
-
-first_onto : (front : List ℕ) (b : ℕ) (parts : List (List ℕ))
-    → put_first front (onto_first b parts) ≡ put_first (front ++ b ∷ []) parts
-first_onto front b [] = refl
-first_onto front b (part ∷ parts) = ap (λ (first : List ℕ). first ∷ parts) (sym (append_assoc front (b ∷ []) part))
-
-unput : (parts : List (List ℕ)) → All IsUtf8 (put_first [] parts) → All IsUtf8 parts
-unput [] all = All-nil IsUtf8
-unput (part ∷ parts) all = all
-
--- the parts of UTF-8, of which the first has begun
-parts_utf8 : (front line : List ℕ) → IsUtf8 (front ++ line) → All IsUtf8 (put_first front (spaced_parts line))
-parts_utf8 front [] utf8 = All-cons IsUtf8 (front ++ []) [] utf8 (All-nil IsUtf8)
-parts_utf8 front (b ∷ line) utf8 =
-    cond_both (b == space) ([] ∷ spaced_parts line) (onto_first b (spaced_parts line))
-    (λ parts. All IsUtf8 (put_first front parts))
-    (λ spaced.
-    let same : b ≡ space = eqb-true b space spaced in
-    let around = utf8_cut_at b (front ++ b ∷ line) front line (omega arith) refl utf8 in
-    All-cons IsUtf8 (front ++ []) (spaced_parts line) (subst IsUtf8 (sym (append-nil front)) around.0)
-    (unput (spaced_parts line) (parts_utf8 [] line around.1)))
-    (λ e. subst (All IsUtf8) (sym (first_onto front b (spaced_parts line)))
-    (parts_utf8 (front ++ b ∷ []) line (subst IsUtf8 (sym (append_assoc front (b ∷ []) line)) utf8)))
-
 behind_utf8 : (front texts : List (List ℕ)) → All IsUtf8 (front ++ texts) → All IsUtf8 texts
 behind_utf8 [] texts all = all
 behind_utf8 (text ∷ front) texts all = behind_utf8 front texts (All-tail IsUtf8 text (front ++ texts) all)
@@ -255,7 +228,7 @@ behind_utf8 (text ∷ front) texts all = behind_utf8 front texts (All-tail IsUtf
 asked_utf8 : (line : List ℕ) (texts : List (List ℕ)) → is_utf8 line ≡ true → AreLast texts (spaced_words line)
     → All IsUtf8 texts
 asked_utf8 line texts utf8 are =
-    let parts = unput (spaced_parts line) (parts_utf8 [] line (IsUtf8-from_is_utf8 line utf8)) in
+    let parts = utf8_parts is_space line (λ b high. grind (arith, nat_tests)) (IsUtf8-from_is_utf8 line utf8) in
     behind_utf8 are.0 texts (subst (All IsUtf8) (sym are.1) (All-filter has_bytes IsUtf8 (spaced_parts line) parts))
 
 first_utf8 : (text : List ℕ) (texts : List (List ℕ)) → All IsUtf8 (text ∷ texts) → is_utf8 text ≡ true

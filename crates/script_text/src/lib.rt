@@ -26,15 +26,15 @@ pub use fault::{ScriptCode, ScriptFault};
 pub use script::Script;
 use std::alloc::Global;
 
-// How many bytes the longest script has.
-const SCRIPT_LIMIT: usize = 67_108_864;
+/// How many bytes the longest script has.
+pub const SCRIPT_LIMIT: usize = 67_108_864;
 
 /// Reads a script. One of more than 67,108,864 bytes is rejected, and nothing behind the first byte
 /// too many is looked at.
 ///
 /// # Errors
 ///
-/// The first faulty line with its first fault, or want of memory.
+/// The first faulty line with its first fault, or out of memory.
 pub fn read_script(alloc: Global, bytes: &[u8]) -> Result<Script, Stop<ScriptFault>>
     ensures { GivesSeen (λ script. read_spec.steps_seen script.steps) result
         (script_spec.script_of bytes.now) }

@@ -1,6 +1,6 @@
-//! The program `show_pages`, which is not shipped: it does what `dita_desk clean` does, over
-//! standard input, and writes each page behind the transcript, behind a line `page NAME BYTES`. So
-//! a run that keeps no file shows its pages too.
+//! The program `show_pages`, which is not shipped. It runs `clean` over standard input, and writes
+//! each page behind the transcript and a line `page NAME BYTES`. So the pages are seen of a run that
+//! keeps no file.
 #![tactic(auto)]
 
 use desk_top::{Status, run_clean};

@@ -1,4 +1,3 @@
 pub mod LineOnceLaws
 pub mod OnceLaws
 pub mod ShownOnceLaws
-pub mod WrittenLaws

@@ -16,7 +16,7 @@ use Rattle.dita_doc.specs.Bytes.{spaced_parts}
 use Rattle.transcript_text.proofs.CodeLaws.{fault_code_lacks}
 use Rattle.transcript_text.proofs.FaultLaws.{place_lacks, fault_line_parts}
 use Rattle.transcript_text.proofs.HeadLaws.{small_from}
-use Rattle.transcript_text.proofs.LackLaws.{lacks_decimal, has_byte, cut_once, cut_last}
+use Rattle.dita_doc.proofs.LackLaws.{lacks_decimal, has_byte, cut_once, cut_last}
 use Rattle.transcript_text.proofs.TextLaws.{decimal_word, name_words, page_words}
 use Rattle.transcript_text.proofs.WordLaws.{one_peeled}
 

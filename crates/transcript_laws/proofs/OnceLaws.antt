@@ -14,11 +14,10 @@ use Rattle.transcript_text.specs.Below.{count_of}
 use Rattle.transcript_text.specs.Heads.{IsEntryLine, IsRowLine, IsEndLine}
 use Rattle.transcript_text.specs.Told.{bar, entry_lines, row_lines, transcript_lines}
 use Rattle.transcript_text.proofs.FormLaws.{below_shown, shown_counted, entry_head_is}
-use Rattle.transcript_text.proofs.HeadLaws.{small_from, entry_line_once, entry_no_row, entry_no_end, row_head_is, row_no_end}
+use Rattle.transcript_text.proofs.HeadLaws.{small_from, entry_line_once, entry_no_row, entry_no_end, row_head_is, row_no_end, end_is}
 use Rattle.transcript_laws.proofs.LineOnceLaws.{front_once}
 use Rattle.transcript_text.proofs.OneLineLaws.{lines_of_text}
 use Rattle.transcript_laws.proofs.ShownOnceLaws.{shown_once}
-use Rattle.transcript_text.proofs.StateLaws.{end_is}
 use Rattle.transcript_text.proofs.WordLaws.{words_same, one_peeled}
 
 -- lines with a bar in front

@@ -7,9 +7,9 @@ use Rattle.std.proofs.lemmas.List.{map-append, length-replicate}
 use Rattle.std.proofs.lemmas.List.Elements.{All-nil, All-append, All-replicate}
 use Rattle.std.proofs.lemmas.Str.{IsUtf8-nil, is_utf8-from_IsUtf8, IsUtf8-from_ascii}
 use Rattle.std.proofs.lemmas.Str.Ascii.{IsAscii-cons, IsAscii-nil}
-use Rattle.dita_doc.specs.Lines.{line}
+use Rattle.dita_doc.specs.Lines.{line, IsLineText}
 use Rattle.dita_doc.specs.declared.fault.FaultCode.TheVariants.{NoClass}
-use Rattle.transcript_text.specs.Transcript.{IsLineText, IsNameShown, IsNameLine, name_line, InOutlet, PageShown, IsPageShown, page_line, FaultShown, IsFaultShown, fault_line, IsTranscript, end_head}
+use Rattle.transcript_text.specs.Transcript.{IsNameShown, IsNameLine, name_line, InOutlet, PageShown, IsPageShown, page_line, FaultShown, IsFaultShown, fault_line, IsTranscript, end_head}
 use Rattle.transcript_text.specs.Transcript as shown
 use Rattle.transcript_text.specs.declared.below.Below.{Below}
 use Rattle.transcript_text.specs.declared.below.Below.TheVariants as belows

@@ -1,13 +1,13 @@
--- The text of an entry, from its parts.
-use Rattle.std.specs.Prelude.{◌≡◌, ◌<◌, ◌==◌, ℕ, Bool, true, false, List, [], ◌∷◌, ◌++◌, Option, Some, None, Result, Ok, Err, length, option_map, IfSome, OnOk, if◌then◌else◌}
+-- The text of an entry, from its parts, and that it is in the form.
+use Rattle.std.specs.Prelude.{◌≡◌, ◌<◌, ◌==◌, ℕ, Bool, true, false, List, [], ◌∷◌, ◌++◌, Option, Some, None, Result, Ok, Err, length, IfSome, OnOk, if◌then◌else◌}
 use Rattle.std.proofs.Common.{refl, sym, ap, ◌∙◌, arith, append_assoc, length-append}
 use Rattle.std.specs.List.{flat_map}
 use Rattle.dita_doc.specs.Desk.{Reply, IsStored, IsRemoved, Bytes, NameList, IsRefused, Conflict, Absent, TooManyNames, Begun}
 use Rattle.dita_doc.specs.History.{Entry}
 use Rattle.dita_doc.specs.Lines.{line}
 use Rattle.dita_doc.specs.PyxEscapes.{escaped, escaped_byte}
-use Rattle.transcript_text.specs.Transcript.{Shown, OfBuild, BuildShown, shown_words, shown_lines, with_detail, bar_line, entry_text, reply_shown, entry_shown}
-use Rattle.transcript_text.specs.Written.{is_begun, numbers_text, shown_text}
+use Rattle.transcript_text.specs.Transcript.{Shown, OfBuild, BuildShown, Fits64, Fits32, IsBuildShown, IsShown, shown_words, shown_lines, with_detail, bar_line, reply_shown, entry_shown}
+use Rattle.transcript_text.specs.Written.{IsTextOfEntry, is_begun, numbers_text, shown_text}
 use Rattle.transcript_text.proofs.FaultLaws.{detail_shown}
 
 -- what is given of a build is shown exactly where the reply is that a build has its place
@@ -35,35 +35,33 @@ other_shown Absent e = (_, refl)
 other_shown (TooManyNames limit) e = (_, refl)
 other_shown Begun e = absurd (cc)
 
--- the three numbers and what is shown are the entry's text
-entry_of : (place : ℕ) (entry : Entry) (built : Option BuildShown) (shown : Shown) (text : List ℕ)
-    → reply_shown entry.reply built ≡ Some shown
-    → text ≡ numbers_text place entry.session entry.number ++ shown_text shown
-    → Some text ≡ option_map entry_text (entry_shown place entry built)
-entry_of place entry built shown text is told =
-    let numbers = numbers_text place entry.session entry.number in
-    let below = flat_map bar_line (shown_lines shown) in
-    let whole : text ≡ line (numbers ++ shown_words shown) ++ below =
-    told ∙ sym (append_assoc numbers (line (shown_words shown)) below)
-    ∙ ap (λ (l : List ℕ). l ++ below) (sym (append_assoc numbers (shown_words shown) (10 ∷ []))) in
-    rw (is, whole) refl
+-- the whole of it, from its numbers and what is shown
+module _ (place : ℕ) (entry : Entry) (front text : List ℕ)
+    (numbers : front ≡ numbers_text place entry.session entry.number)
+    (fits : Fits64 place × Fits32 entry.session × Fits32 entry.number) where
+  -- the three numbers, and then what is shown
+  entry_of : (built : Option BuildShown) (shown : Shown) → reply_shown entry.reply built ≡ Some shown
+      → text ≡ front ++ shown_text shown → IsShown shown → IsTextOfEntry (entry_shown place entry built) text
+  entry_of built shown is told valid =
+      let three = numbers_text place entry.session entry.number in
+      let below = flat_map bar_line (shown_lines shown) in
+      let whole : text ≡ line (three ++ shown_words shown) ++ below =
+      told ∙ ap (λ (l : List ℕ). l ++ shown_text shown) numbers
+      ∙ sym (append_assoc three (line (shown_words shown)) below)
+      ∙ ap (λ (l : List ℕ). l ++ below) (sym (append_assoc three (shown_words shown) (10 ∷ []))) in
+      rw is (record { place = fits.0; session = fits.1; number = fits.2; shown = valid }, whole)
 
-pub built_written : (place : ℕ) (entry : Entry) (built : BuildShown) (front text : List ℕ)
-    → front ≡ numbers_text place entry.session entry.number → true ≡ is_begun entry.reply
-    → text ≡ front ++ shown_text (OfBuild built)
-    → Some text ≡ option_map entry_text (entry_shown place entry (Some built))
-built_written place entry built front text numbers begun told =
-    entry_of place entry (Some built) (OfBuild built) text (begun_shown entry.reply built begun)
-    (told ∙ ap (λ (l : List ℕ). l ++ shown_text (OfBuild built)) numbers)
+  pub built_written : (built : BuildShown) → true ≡ is_begun entry.reply → text ≡ front ++ shown_text (OfBuild built)
+      → IsBuildShown built → IsTextOfEntry (entry_shown place entry (Some built)) text
+  built_written built begun told valid =
+      entry_of (Some built) (OfBuild built) (begun_shown entry.reply built begun) told valid
 
-pub reply_written : (place : ℕ) (entry : Entry) (front text : List ℕ)
-    → front ≡ numbers_text place entry.session entry.number → false ≡ is_begun entry.reply
-    → IfSome (reply_shown entry.reply None) (λ shown. text ≡ front ++ shown_text shown)
-    → Some text ≡ option_map entry_text (entry_shown place entry None)
-reply_written place entry front text numbers other told =
-    let shown = other_shown entry.reply other in
-    let same : text ≡ front ++ shown_text shown.0 = rw shown.1 at told in
-    entry_of place entry None shown.0 text shown.1 (same ∙ ap (λ (l : List ℕ). l ++ shown_text shown.0) numbers)
+  pub reply_written : false ≡ is_begun entry.reply
+      → IfSome (reply_shown entry.reply None) (λ shown. text ≡ front ++ shown_text shown)
+      → IfSome (reply_shown entry.reply None) IsShown → IsTextOfEntry (entry_shown place entry None) text
+  reply_written other told valid =
+      let shown = other_shown entry.reply other in
+      entry_of None shown.0 shown.1 (rw shown.1 at told) (rw shown.1 at valid)
 
 -- the detail of a fault
 

@@ -7,12 +7,13 @@ use Rattle.std.proofs.lemmas.Str.{IsUtf8-nil, is_utf8-from_IsUtf8}
 use Rattle.dita_doc.specs.declared.fault.FaultCode.{FaultCode}
 use Rattle.dita_doc.specs.Cut.{Lacks, IsCutAt, IsCutAtLast}
 use Rattle.dita_doc.specs.Faults.{fault_code_text}
-use Rattle.transcript_text.specs.Transcript.{IsNameShown, IsLineText, with_detail, FaultShown}
+use Rattle.dita_doc.specs.Lines.{IsLineText}
+use Rattle.transcript_text.specs.Transcript.{IsNameShown, with_detail, FaultShown}
 use Rattle.dita_doc.specs.Bytes.{spaced_parts}
 use Rattle.transcript_text.specs.Words.{words_in, number_of}
 use Rattle.transcript_text.specs.Below.{IsLastNumber, IsPlaceText, IsCodeText, IsDetail, IsFaultText, is_fault_code}
 use Rattle.transcript_text.proofs.CodeLaws.{fault_code_found, fault_code_known, fault_code_lacks}
-use Rattle.transcript_text.proofs.LackLaws.{lacks_append, lacks_cons, lacks_end, lacks_decimal, lacks_name, has_byte, cut_once, cut_last, no_equal}
+use Rattle.dita_doc.proofs.LackLaws.{lacks_append, lacks_cons, lacks_end, lacks_decimal, lacks_name, has_byte, cut_once, cut_last, no_equal}
 use Rattle.transcript_text.proofs.WordLaws.{words_some}
 use Rattle.transcript_text.proofs.NumberLaws.{number_is, number_says}
 
@@ -27,10 +28,6 @@ last_by n words (Some rest) false is small e =
     λ last. let none : spaced_parts rest.now ≡ [] = cc (last.2) in words_some rest.now none
 
 -- the name and the line of a fault
-
-pub place_not_cut : (text : List ℕ) → Lacks 58 text → IsPlaceText text → ⊥
-place_not_cut text lacks is =
-    has_byte 58 is.0 (decimal is.1) (subst (Lacks 58) (is.4 ∙ append_assoc is.0 (codes ":") (decimal is.1)) lacks)
 
 place_parts : (text name line : List ℕ) (is : IsPlaceText text) → IsCutAtLast 58 text name line
     → (name ≡ is.0) × (line ≡ decimal is.1)
@@ -186,10 +183,6 @@ fault_parts : (text place code : List ℕ) (told : HasFault text) → IsCutAt 32
 fault_parts text place code told cut =
     cut_once 32 place told.place code told.code cut.first (place_lacks 32 told.place (omega arith) told.placed)
     (sym cut.whole ∙ told.whole)
-
-pub fault_not_cut : (text : List ℕ) → Lacks 32 text → IsFaultText text → ⊥
-fault_not_cut text lacks is =
-    let told = fault_told text is in has_byte 32 told.place told.code (subst (Lacks 32) told.whole lacks)
 
 pub fault_not_placed : (text place code : List ℕ) → IsCutAt 32 text place code → (IsPlaceText place → ⊥)
     → IsFaultText text → ⊥

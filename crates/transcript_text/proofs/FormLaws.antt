@@ -8,7 +8,8 @@ use Rattle.dita_doc.specs.Faults.{pyx_code_text}
 use Rattle.dita_doc.specs.declared.fault.PyxCode.{PyxCode}
 use Rattle.dita_doc.specs.declared.plan.PlanStop.{PlanStop}
 use Rattle.dita_doc.specs.declared.plan.PlanStop.TheVariants as stops
-use Rattle.transcript_text.specs.Transcript.{Shown, StoredAt, RemovedAt, ConflictAt, IsAbsent, IsFull, RefusedFor, Lines, Names, OfBuild, BuildShown, BuiltPages, StoppedBy, PagesTooLarge, NotYetBuilt, IsBuildShown, IsShown, shown_words, shown_lines, built_words, built_lines, stop_text, IsLineText, IsNameLine, name_line, PageShown, IsPageShown, page_line, FaultShown, IsFaultShown, fault_line, EntryShown, IsEntryShown, entry_head}
+use Rattle.dita_doc.specs.Lines.{IsLineText}
+use Rattle.transcript_text.specs.Transcript.{Shown, StoredAt, RemovedAt, ConflictAt, IsAbsent, IsFull, RefusedFor, Lines, Names, OfBuild, BuildShown, BuiltPages, StoppedBy, PagesTooLarge, NotYetBuilt, IsBuildShown, IsShown, shown_words, shown_lines, built_words, built_lines, stop_text, IsNameLine, name_line, PageShown, IsPageShown, page_line, FaultShown, IsFaultShown, fault_line, EntryShown, IsEntryShown, entry_head}
 use Rattle.transcript_text.specs.declared.below.Below.{Below}
 use Rattle.transcript_text.specs.declared.below.Below.TheVariants as belows
 use Rattle.dita_doc.specs.Bytes.{spaced_parts}

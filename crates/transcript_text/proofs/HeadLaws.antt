@@ -4,14 +4,14 @@ use Rattle.std.specs.Fmt.{decimal}
 use Rattle.std.proofs.Common.{refl, sym, ap, ◌∙◌, arith, append_assoc}
 use Rattle.std.proofs.lemmas.Fmt.{decimal_injective}
 use Rattle.dita_doc.specs.Cut.{Lacks}
-use Rattle.transcript_text.specs.Transcript.{IsValShown, PartShown, IsPage, IsContents, part_text, part_index, val_text, RowShown, IsRowShown, row_head, Totals, end_head}
+use Rattle.transcript_text.specs.Transcript.{Fits64, IsValShown, PartShown, IsPage, IsContents, part_text, part_index, val_text, RowShown, IsRowShown, row_head, Totals, end_head}
 use Rattle.transcript_text.specs.declared.below.Below.{Below}
 use Rattle.dita_doc.specs.Bytes.{spaced_parts}
 use Rattle.transcript_text.specs.Below.{below_of}
 use Rattle.transcript_text.specs.Heads.{IsEntryLine, IsRowLine, row_words, IsEndLine}
 use Rattle.transcript_text.specs.Written.{numbers_text}
-use Rattle.transcript_text.proofs.LackLaws.{lacks_decimal, lacks_name}
-use Rattle.transcript_text.proofs.WordLaws.{words_behind, one_word, words_same, one_peeled}
+use Rattle.dita_doc.proofs.LackLaws.{lacks_decimal, lacks_name}
+use Rattle.transcript_text.proofs.WordLaws.{words_behind, one_word, one_peeled}
 use Rattle.transcript_text.proofs.TextLaws.{decimal_word}
 
 -- a number and what stands behind its space
@@ -56,13 +56,6 @@ entry_line_once line reply other p s n q t m below less first second =
     let same : spaced_parts reply ≡ spaced_parts other = p4.1 in
     let said : Some below ≡ Some less = sym first.said ∙ ap below_of same ∙ second.said in
     cc
-
--- the line is told by its numbers and its reply
-pub entry_line_told : (line reply : List ℕ) (place session number : ℕ) (below : Below)
-    → IsEntryLine line place session number reply below → line ≡ numbers_text place session number ++ reply
-entry_line_told line reply place session number below is =
-    words_same line _ (is.words
-    ∙ sym (entry_head_words place session number reply is.place_fits is.session_fits is.number_fits))
 
 -- rows
 
@@ -143,6 +136,15 @@ end_head_words totals first second third = ap (λ words. codes "end" ∷ words)
     ∙ number_word totals.entries _ first
     ∙ ap (λ words. decimal totals.entries ∷ words)
     (number_word totals.made _ second ∙ ap (λ words. decimal totals.made ∷ words) (decimal_word totals.dropped third)))
+
+pub end_is : (totals : Totals) → Fits64 totals.entries → Fits64 totals.made → Fits64 totals.dropped
+    → IsEndLine (end_head totals) totals.entries totals.made totals.dropped
+end_is totals first second third = record {
+  entries_fits = first;
+  made_fits = second;
+  dropped_fits = third;
+  words = end_head_words totals first second third;
+}
 
 -- three kinds of lines
 other_words : (a b : List ℕ) (l x y : List (List ℕ)) → (a ≡ b → ⊥) → l ≡ a ∷ x → l ≡ b ∷ y → ⊥

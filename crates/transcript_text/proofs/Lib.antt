@@ -4,7 +4,6 @@ pub mod EntryLaws
 pub mod FaultLaws
 pub mod FormLaws
 pub mod HeadLaws
-pub mod LackLaws
 pub mod LineLaws
 pub mod WordLaws
 pub mod NumberLaws
@@ -14,3 +13,4 @@ pub mod ShownLaws
 pub mod StateLaws
 pub mod TextLaws
 pub mod Utf8Laws
+pub mod WrittenForm

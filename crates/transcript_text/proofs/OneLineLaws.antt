@@ -6,17 +6,17 @@ use Rattle.std.proofs.Common.{refl, sym, ap, ◌∙◌, arith, append_assoc, app
 use Rattle.std.proofs.lemmas.Grind.{flat_map-append}
 use Rattle.std.proofs.lemmas.List.Elements.{All-nil, All-cons, All-head, All-tail, All-append, All-map, All-weaker}
 use Rattle.dita_doc.specs.Cut.{Lacks}
-use Rattle.dita_doc.specs.Lines.{lines_of, line}
+use Rattle.dita_doc.specs.Lines.{lines_of, line, IsLineText}
 use Rattle.dita_doc.specs.declared.plan.PlanStop.{PlanStop}
 use Rattle.dita_doc.specs.declared.plan.PlanStop.TheVariants as stops
 use Rattle.dita_doc.specs.Faults.{pyx_code_text, fault_code_text}
-use Rattle.transcript_text.specs.Transcript.{Shown, StoredAt, RemovedAt, ConflictAt, IsAbsent, IsFull, RefusedFor, Lines, Names, OfBuild, BuildShown, BuiltPages, StoppedBy, PagesTooLarge, NotYetBuilt, IsBuildShown, IsShown, shown_words, shown_lines, built_words, built_lines, stop_text, IsLineText, IsNameShown, IsNameLine, name_line, PageMark, InOutlet, InRow, IsMark, mark_words, PageShown, IsPageShown, page_line, FaultShown, IsFaultShown, with_detail, fault_line, EntryShown, IsEntryShown, entry_head, entry_text, PartShown, IsPage, IsContents, part_text, part_index, val_text, IsValShown, RowShown, IsRowShown, row_head, row_text, bar_line, Totals, end_head, IsTranscript, transcript_text}
+use Rattle.transcript_text.specs.Transcript.{Shown, StoredAt, RemovedAt, ConflictAt, IsAbsent, IsFull, RefusedFor, Lines, Names, OfBuild, BuildShown, BuiltPages, StoppedBy, PagesTooLarge, NotYetBuilt, IsBuildShown, IsShown, shown_words, shown_lines, built_words, built_lines, stop_text, IsNameShown, IsNameLine, name_line, PageMark, InOutlet, InRow, IsMark, mark_words, PageShown, IsPageShown, page_line, FaultShown, IsFaultShown, with_detail, fault_line, EntryShown, IsEntryShown, entry_head, entry_text, PartShown, IsPage, IsContents, part_text, part_index, val_text, IsValShown, RowShown, IsRowShown, row_head, row_text, bar_line, Totals, end_head, IsTranscript, transcript_text}
 use Rattle.transcript_text.specs.Transcript as shown
 use Rattle.dita_doc.proofs.LinesLaws.{lines_after}
 use Rattle.transcript_text.specs.Told.{bar, first_line, entry_lines, row_lines, transcript_lines}
 use Rattle.transcript_text.proofs.CodeLaws.{pyx_code_lacks, fault_code_lacks}
 use Rattle.transcript_text.proofs.HeadLaws.{small_from}
-use Rattle.transcript_text.proofs.LackLaws.{lacks_append, lacks_decimal, lacks_name}
+use Rattle.dita_doc.proofs.LackLaws.{lacks_append, lacks_decimal, lacks_name}
 
 number_one : (n : ℕ) → n < 2 ^ 64 → Lacks 10 (decimal n)
 number_one n small = lacks_decimal 10 n (λ range. omega (arith, range.0)) small

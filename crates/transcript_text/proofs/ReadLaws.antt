@@ -4,7 +4,7 @@ use Rattle.std.specs.List.{flat_map}
 use Rattle.std.proofs.Common.{refl, sym, ap, subst, ◌∙◌, inl, inr, arith, append_assoc, append-nil, length-append}
 use Rattle.std.proofs.lemmas.Grind.{flat_map-append}
 use Rattle.std.proofs.lemmas.List.{take-append-drop, take-append-le, take_all}
-use Rattle.std.proofs.lemmas.List.Elements.{All-nil, All-push}
+use Rattle.std.proofs.lemmas.List.Elements.{All-push}
 use Rattle.dita_doc.specs.Cut.{Lacks, IsCutAt}
 use Rattle.dita_doc.specs.Lines.{lines_of, ends_with_line, line}
 use Rattle.transcript_text.specs.Transcript.{EntryShown, RowShown, IsTranscript, shown_words, shown_lines, entry_text, row_text, bar_line, transcript_text, end_head}
@@ -17,7 +17,7 @@ use Rattle.transcript_text.specs.declared.state.State.TheVariants.{Start, Entrie
 use Rattle.transcript_text.specs.declared.transcript.Transcript.{Transcript}
 use Rattle.transcript_text.specs.declared.transcript.BadTranscript.{BadTranscript}
 use Rattle.transcript_text.specs.Read.{IsRead, Begins, first_lines, IsBadAt, IsFaultOf, IsLine}
-use Rattle.transcript_text.specs.State.{HasRead, MayStart, MayEntries, MayRows, May}
+use Rattle.transcript_text.specs.State.{HasRead, MayEntries, MayRows, May}
 use Rattle.transcript_text.specs.Told.{bar, first_line, entry_lines, row_lines, transcript_lines}
 use Rattle.transcript_text.proofs.AliveLaws.{IsAlive, alive, all_whole}
 use Rattle.transcript_text.proofs.LineLaws.{back_shorter, rest_line}
@@ -33,38 +33,6 @@ pub record HasReadLines (state : State) (number : ℕ) (bytes rest : List ℕ) :
   pub within : number + length rest ≤ length bytes
   pub may : (s : shown.Transcript) → IsTranscript s → (more : List (List ℕ)) → transcript_lines s ≡ read ++ more
       → May state more
-
--- at the start
-
-pub start_read : (bytes : List ℕ) → HasReadLines Start 0 bytes bytes
-start_read bytes = record {
-  read = [];
-  has = refl;
-  lack = All-nil (Lacks 10);
-  counted = refl;
-  whole = refl;
-  within = omega arith;
-  may = λ s is more lines. subst MayStart lines (
-    _,
-    refl,
-    record {
-      entries = s.entries;
-      valid = is.entries;
-      back = flat_map row_lines s.rows ++ end_head s.totals ∷ [];
-      behind = record {
-        rows = s.rows;
-        valid = is.rows;
-        rising = is.rising;
-        totals = s.totals;
-        counted = is.counted;
-        made = is.made;
-        dropped = is.dropped;
-        lines = refl;
-      };
-      lines = refl;
-    },
-  );
-}
 
 -- one more line
 

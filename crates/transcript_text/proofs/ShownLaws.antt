@@ -10,7 +10,8 @@ use Rattle.std.proofs.lemmas.List.Elements.{All-nil, All-cons}
 use Rattle.std.proofs.lemmas.Slice.Eq.{bytes_eq-Decides}
 use Rattle.dita_doc.specs.Faults.{pyx_code_text}
 use Rattle.dita_doc.specs.declared.plan.PlanStop.TheVariants as stops
-use Rattle.transcript_text.specs.Transcript.{Shown, StoredAt, RemovedAt, ConflictAt, IsAbsent, IsFull, RefusedFor, Lines, Names, OfBuild, BuiltPages, StoppedBy, PagesTooLarge, NotYetBuilt, IsShown, shown_words, shown_lines, IsLineText, IsNameLine, name_line, PageShown, IsPageShown, page_line, FaultShown, IsFaultShown, fault_line}
+use Rattle.dita_doc.specs.Lines.{IsLineText}
+use Rattle.transcript_text.specs.Transcript.{Shown, StoredAt, RemovedAt, ConflictAt, IsAbsent, IsFull, RefusedFor, Lines, Names, OfBuild, BuiltPages, StoppedBy, PagesTooLarge, NotYetBuilt, IsShown, shown_words, shown_lines, IsNameLine, name_line, PageShown, IsPageShown, page_line, FaultShown, IsFaultShown, fault_line}
 use Rattle.transcript_text.specs.declared.below.Below.{Below}
 use Rattle.transcript_text.specs.declared.below.Below.TheVariants as belows
 use Rattle.dita_doc.specs.Bytes.{spaced_parts}

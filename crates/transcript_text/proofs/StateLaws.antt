@@ -6,8 +6,8 @@ use Rattle.std.proofs.lemmas.Grind.{flat_map-append}
 use Rattle.std.proofs.lemmas.List.{map-append}
 use Rattle.std.proofs.lemmas.List.Elements.{All-nil, All-head, All-tail, All-push}
 use Rattle.dita_doc.specs.declared.fact.Part.{Part}
-use Rattle.dita_doc.specs.Lines.{line}
-use Rattle.transcript_text.specs.Transcript.{Fits64, IsLineText, EntryShown, IsEntryShown, entry_head, Shown, shown_words, shown_lines, PartShown, RowShown, IsRowShown, row_head, NeverFall, Totals, end_head}
+use Rattle.dita_doc.specs.Lines.{line, IsLineText}
+use Rattle.transcript_text.specs.Transcript.{Fits64, EntryShown, IsEntryShown, entry_head, Shown, shown_words, shown_lines, PartShown, RowShown, IsRowShown, row_head, NeverFall, Totals, end_head}
 use Rattle.transcript_text.specs.declared.below.Below.{Below}
 use Rattle.transcript_text.specs.declared.transcript.EntryText.{EntryText}
 use Rattle.transcript_text.specs.declared.transcript.RowText.{RowText}
@@ -19,22 +19,11 @@ use Rattle.transcript_text.specs.Written.{numbers_text}
 use Rattle.std.proofs.lemmas.Bool.{eqb-true}
 use Rattle.transcript_text.specs.Told.{entry_told, row_told, bar, first_line, entry_lines, row_lines}
 use Rattle.transcript_text.proofs.FormLaws.{below_shown, shown_fit, shown_counted, entry_head_is}
-use Rattle.transcript_text.proofs.HeadLaws.{entry_head_words, entry_line_once, entry_no_row, entry_no_end, row_head_is, row_line_once, row_no_end, end_head_words}
+use Rattle.transcript_text.proofs.HeadLaws.{entry_head_words, entry_line_once, entry_no_row, entry_no_end, row_head_is, row_line_once, row_no_end, end_head_words, end_is}
 use Rattle.transcript_text.proofs.ShownLaws.{HasShown, shown_of}
 use Rattle.transcript_text.proofs.WordLaws.{words_same}
 
 -- Rows
-
-pub end_is : (totals : Totals) → Fits64 totals.entries → Fits64 totals.made → Fits64 totals.dropped
-    → IsEndLine (end_head totals) totals.entries totals.made totals.dropped
-end_is totals first second third =
-    record {
-      entries_fits = first;
-      made_fits = second;
-      dropped_fits = third;
-      words =
-          end_head_words totals first second third;
-    }
 
 -- what may come first where rows or the end may come
 record IsRowFirst (last : ℕ) (given : List ℕ) (more : List (List ℕ)) : Type 0 where
@@ -75,8 +64,7 @@ first_by last given more (row ∷ rows) totals valid rising counted made dropped
           rows = rows;
           valid = All-tail IsRowShown row rows valid;
           rising = rising.1;
-          totals =
-              totals;
+          totals = totals;
           counted = counted;
           made = made;
           dropped = dropped;
@@ -239,8 +227,7 @@ row_text_of left serial given more (text ∷ texts) back fit count some behind l
     fit = All-tail IsLineText text texts fit;
     count = omega arith;
     back = back;
-    behind =
-        behind;
+    behind = behind;
     lines = cc;
   };
 }
@@ -249,18 +236,6 @@ may_row_text : (left serial : ℕ) (given : List ℕ) (more : List (List ℕ)) �
     → 0 < left → IsRowText left serial given more
 may_row_text left serial given more may some =
     row_text_of left serial given more may.texts may.back may.fit may.count some may.behind may.lines
-
-pub row_no_bar : (left serial : ℕ) (given : List ℕ) (more : List (List ℕ)) → ((text : List ℕ) → given ≡ bar text → ⊥)
-    → MayRowLines left serial (given ∷ more) → 0 < left → ⊥
-row_no_bar left serial given more none may some =
-    let one = may_row_text left serial given more may some in none one.text one.is
-
-pub row_no_text : (left serial : ℕ) (given text : List ℕ) (more : List (List ℕ)) → given ≡ bar text
-    → (IsLineText text → ⊥) → MayRowLines left serial (given ∷ more) → 0 < left → ⊥
-row_no_text left serial given text more is none may some =
-    let one = may_row_text left serial given more may some in
-    let same : one.text ≡ text = cc (one.is) in
-    none (subst IsLineText same one.fits)
 
 pub row_may_more : (left now serial : ℕ) (given : List ℕ) (more : List (List ℕ))
     → MayRowLines left serial (given ∷ more) → 0 < left → now ≡ left - 1 → MayRowLines now serial more
@@ -283,8 +258,7 @@ row_same : (opened : RowText) (part : PartShown) (texts : List (List ℕ)) → o
       serial = opened.serial;
       part = part;
       map = opened.key.map;
-      val =
-          opened.key.val;
+      val = opened.key.val;
       lines = texts;
     })
 row_same opened part texts parted same = rw (← parted, ← same) refl
@@ -309,8 +283,7 @@ row_closed entries rows more opened left read has none is =
       serial = begun.serial_fits;
       index = begun.index_fits;
       map = begun.map_named;
-      val =
-          begun.val_named;
+      val = begun.val_named;
       count = begun.count_fits;
       lines = has.fit;
     } in
@@ -355,8 +328,7 @@ closed_by entries opened below read has told =
       place = has.begun.place_fits;
       session = has.begun.session_fits;
       number = has.begun.number_fits;
-      shown =
-          told.valid;
+      shown = told.valid;
     } in
     let same : opened ≡ entry_told entry = entry_same opened told.shown told.words told.below in
     let head : has.head ≡ entry_head entry =
@@ -461,14 +433,6 @@ entry_may_more below at now given more may less is = rw is (may_one below at giv
 
 -- an entry begins, or a row or the end comes
 
-pub entry_opened : (entries : List EntryText) (opened : EntryText) (place session number : ℕ) (reply given : List ℕ)
-    (below : Below) (read : List (List ℕ)) → HasEntries entries read
-    → IsEntryLine given place session number reply below
-    → opened ≡ record { place = place; session = session; number = number; reply = reply; lines = [] }
-    → HasOpenEntry entries opened below (read ++ given ∷ [])
-entry_opened entries opened place session number reply given below read has is same =
-    rw same (record { before = read; head = given; whole = has; begun = is; fit = tt; few = omega arith; lines = refl })
-
 entry_first : (given reply : List ℕ) (p s n : ℕ) (below : Below) (more back : List (List ℕ)) (entries : List EntryShown)
     → All IsEntryShown entries → MayRows 0 back → IsEntryLine given p s n reply below
     → given ∷ more ≡ flat_map entry_lines entries ++ back → MayEntryLines below 0 more
@@ -492,8 +456,7 @@ entry_first given reply p s n below more back (entry ∷ entries) valid behind i
         entries = entries;
         valid = All-tail IsEntryShown entry entries valid;
         back = back;
-        behind =
-            behind;
+        behind = behind;
         lines = refl;
       };
       lines = rest ∙ append_assoc (map bar (shown_lines entry.shown)) (flat_map entry_lines entries) back;
@@ -529,7 +492,6 @@ rows_none entries read has =
       valid = All-nil IsRowShown;
       rising = tt;
       ended = refl;
-      same =
-          refl;
+      same = refl;
       lines = sym (append-nil read);
     }

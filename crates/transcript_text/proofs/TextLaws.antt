@@ -5,7 +5,7 @@ use Rattle.std.proofs.Common.{refl, sym, ap, ◌∙◌, inl, inr, arith}
 use Rattle.transcript_text.specs.Transcript.{IsNameShown, name_line, PageMark, InOutlet, InRow, IsMark, mark_words, PageShown, page_line}
 use Rattle.dita_doc.specs.Bytes.{spaced_parts}
 use Rattle.transcript_text.specs.Below.{IsLastNumber, IsNameText, IsPageText, below_of}
-use Rattle.transcript_text.proofs.LackLaws.{lacks_decimal, lacks_name}
+use Rattle.dita_doc.proofs.LackLaws.{lacks_decimal, lacks_name}
 use Rattle.transcript_text.proofs.WordLaws.{words_behind, words_some, one_word, words_same}
 
 pub decimal_word : (n : ℕ) → n < 2 ^ 64 → spaced_parts (decimal n) ≡ decimal n ∷ []

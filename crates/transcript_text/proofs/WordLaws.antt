@@ -53,13 +53,6 @@ spaced_words (b ∷ line) = spaced_from b line (b == 32) refl (spaced_words line
 pub words_same : (x y : List ℕ) → spaced_parts x ≡ spaced_parts y → x ≡ y
 words_same x y e = append_cancel_right x y (32 ∷ []) (sym (spaced_words x) ∙ ap spaced e ∙ spaced_words y)
 
--- a line of a first word and those of a rest
-pub words_cons : (x word y : List ℕ) → spaced_parts x ≡ word ∷ spaced_parts y → x ≡ word ++ 32 ∷ y
-unfolding spaced
-words_cons x word y e = append_cancel_right x (word ++ 32 ∷ y) (32 ∷ [])
-    (sym (spaced_words x) ∙ ap spaced e ∙ ap (λ (l : List ℕ). word ++ 32 ∷ l) (spaced_words y)
-    ∙ sym (append_assoc word (32 ∷ y) (32 ∷ [])))
-
 -- there is a word
 pub words_some : (line : List ℕ) → spaced_parts line ≡ [] → ⊥
 unfolding spaced

@@ -4,7 +4,8 @@ use Rattle.std.specs.List.{list_any}
 use Rattle.std.specs.Fmt.{decimal}
 use Rattle.dita_doc.specs.declared.fault.FaultCode.{FaultCode}
 use Rattle.dita_doc.specs.Faults.{pyx_code_text, fault_code_text}
-use Rattle.transcript_text.specs.Transcript.{IsNameShown, IsLineText, with_detail, IsNameLine, name_line, PageShown, IsPageShown, page_line, FaultShown, IsFaultShown, fault_line}
+use Rattle.dita_doc.specs.Lines.{IsLineText}
+use Rattle.transcript_text.specs.Transcript.{IsNameShown, with_detail, IsNameLine, name_line, PageShown, IsPageShown, page_line, FaultShown, IsFaultShown, fault_line}
 use Rattle.dita_doc.specs.Bytes.{Bytes}
 use Rattle.transcript_text.specs.Words.{TextLines, Words, number_of}
 use Rattle.transcript_text.specs.declared.below.Below.{Below}

@@ -22,14 +22,14 @@ Begins front = (s : shown.Transcript) × IsTranscript s × (rest : List ℕ) × 
 abbrev pub first_lines : ℕ → List ℕ → List ℕ
 first_lines count bytes = flat_map line (take count (lines_of bytes))
 
--- The bytes are no transcript, and this is the first line up to which none begins so, or else the last one. A rest
--- without LF is a line.
+-- The bytes are no transcript. The first line that no transcript has behind the lines before it; if there is none, the
+-- last line, since the text ends too early. A rest without LF is a line.
 pub record IsBadAt (bytes : List ℕ) (number : ℕ) : Type 0 where
   pub none : (s : shown.Transcript) → IsTranscript s → transcript_text s ≡ bytes → ⊥
   pub before : (m : ℕ) → m < number → Begins (first_lines m bytes)
   pub there : (number ≡ length (lines_of bytes)) ⊎ (Begins (first_lines number bytes) → ⊥)
 
--- want of memory says nothing of the bytes
+-- out of memory, nothing is said of the bytes
 abbrev pub IsFaultOf : Stop BadTranscript → List ℕ → Type 0
 IsFaultOf (Fault bad) bytes = IsBadAt bytes bad.line
 IsFaultOf NoMemory bytes = Unit {0}

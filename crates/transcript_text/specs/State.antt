@@ -1,8 +1,8 @@
 -- What is read of a transcript after some lines, and which lines may follow.
 use Rattle.std.specs.Prelude.{◌≡◌, ◌+◌, ◌<◌, ◌≤◌, ℕ, List, [], ◌∷◌, ◌++◌, length, map, All}
 use Rattle.std.specs.List.{flat_map}
-use Rattle.dita_doc.specs.Lines.{line}
-use Rattle.transcript_text.specs.Transcript.{Fits64, IsLineText, EntryShown, IsEntryShown, PartShown, RowShown, IsRowShown, NeverFall, Totals, end_head}
+use Rattle.dita_doc.specs.Lines.{line, IsLineText}
+use Rattle.transcript_text.specs.Transcript.{Fits64, EntryShown, IsEntryShown, PartShown, RowShown, IsRowShown, NeverFall, Totals, end_head}
 use Rattle.transcript_text.specs.declared.below.Below.{Below}
 use Rattle.transcript_text.specs.declared.transcript.EntryText.{EntryText}
 use Rattle.transcript_text.specs.declared.transcript.RowText.{RowText}

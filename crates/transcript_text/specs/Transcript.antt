@@ -11,10 +11,9 @@ use Rattle.dita_doc.specs.declared.fault.PyxCode.{PyxCode}
 use Rattle.dita_doc.specs.declared.plan.PlanStop.{PlanStop}
 use Rattle.dita_doc.specs.declared.plan.PlanStop.TheVariants as stops
 use Rattle.dita_doc.specs.PyxEscapes.{escaped}
-use Rattle.dita_doc.specs.Bytes.{line_feed, space}
-use Rattle.dita_doc.specs.Cut.{Lacks}
+use Rattle.dita_doc.specs.Bytes.{space}
 use Rattle.dita_doc.specs.Faults.{pyx_code_text, fault_code_text}
-use Rattle.dita_doc.specs.Lines.{lines_of, line}
+use Rattle.dita_doc.specs.Lines.{lines_of, line, IsLineText}
 use Rattle.dita_doc.specs.Name.{is_name}
 use Rattle.dita_doc.specs.Desk.{Reply, IsStored, IsRemoved, Bytes, NameList, IsRefused, Conflict, Absent, TooManyNames, Begun, stored_limit}
 use Rattle.dita_doc.specs.History.{Entry}
@@ -199,11 +198,6 @@ Fits64 n = n < 2 ^ 64
 
 abbrev pub Fits32 : ℕ → Type 0
 Fits32 n = n < 2 ^ 32
-
--- a text that may stand on a line
-pub record IsLineText (text : List ℕ) : Type 0 where
-  pub utf8 : is_utf8 text ≡ true
-  pub one : Lacks line_feed text
 
 pub record IsNameShown (name : List ℕ) : Type 0 where
   pub named : is_name name ≡ true

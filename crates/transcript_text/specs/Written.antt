@@ -1,5 +1,5 @@
 -- What is written of entries, in the words of `Transcript`.
-use Rattle.std.specs.Prelude.{◌≡◌, ◌++◌, ℕ, Bool, true, false, List, Option, codes, map, option_map}
+use Rattle.std.specs.Prelude.{◌≡◌, ◌++◌, ℕ, Bool, true, false, List, Option, Some, None, codes, map, option_map}
 use Rattle.std.specs.Fmt.{decimal}
 use Rattle.std.specs.List.{flat_map}
 use Rattle.std.specs.Str.{is_utf8}
@@ -62,3 +62,8 @@ numbers_text place session number =
 -- the rest of an entry behind its three numbers: the rest of its line, and the lines below
 abbrev pub shown_text : Shown → List ℕ
 shown_text what = line (shown_words what) ++ flat_map bar_line (shown_lines what)
+
+-- the text is that of an entry as it is shown, and what is shown is in the form
+abbrev pub IsTextOfEntry : Option shown.EntryShown → List ℕ → Type 0
+IsTextOfEntry None text = ⊥
+IsTextOfEntry (Some entry) text = shown.IsEntryShown entry × (text ≡ shown.entry_text entry)

@@ -12,8 +12,9 @@ use std::alloc::Global;
 ///
 /// # Errors
 ///
-/// The first line up to which no transcript begins so, or else the last one; or want of memory,
-/// which also stands for a fault in a line that is past number 2^32 - 1.
+/// The first line that no transcript has behind the lines before it; if there is none, the last
+/// line, since the text ends too early. Or out of memory, which also stands for a fault in a line
+/// that is past number 2^32 - 1.
 pub fn read_transcript(alloc: Global, bytes: &[u8]) -> Result<Transcript, Stop<BadTranscript>>
     ensures read { IfOk result (λ transcript. read_spec.IsRead transcript bytes.now) }
     ensures refused { IfErr result (λ stop. read_spec.IsFaultOf stop bytes.now) }

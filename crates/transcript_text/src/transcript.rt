@@ -32,8 +32,9 @@ pub struct Transcript {
     pub total: (u64, u64, u64),
 }
 
-/// Bytes are no transcript: the first line up to which no transcript begins so, or else the last
-/// one. Lines are counted from 1; the empty text has line 0.
+/// Bytes are no transcript. The first line that no transcript has behind the lines before it; if
+/// there is none, the last line, since the text ends too early. Lines are counted from 1; the empty
+/// text has line 0.
 #[derive(Clone, Copy, Debug, PartialEq, Eq)]
 pub struct BadTranscript {
     pub line: u32,

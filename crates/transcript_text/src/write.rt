@@ -1,10 +1,11 @@
 //! Entries to lines.
 
-ghost use Rattle.std.specs.Prelude.{◌≡◌, ◌++◌, length, map, option_map, is_some};
-ghost use Rattle.std.specs.Prelude.{IfOk, IfSome, OnOk};
+ghost use Rattle.std.specs.Prelude.{◌≡◌, ◌++◌, length, map, is_some, true};
+ghost use Rattle.std.specs.Prelude.{All, IfOk, IfSome, OnOk};
 ghost use Rattle.std.specs.Fmt.{decimal};
 ghost use Rattle.std.specs.List.{flat_map};
 ghost use Rattle.std.specs.Option.{option_copied};
+ghost use Rattle.std.specs.Str.{is_utf8};
 ghost use Rattle.dita_doc.specs.Lines as lines_spec;
 ghost use Rattle.dita_doc.specs.PyxEscapes as pyx_escapes_spec;
 ghost use Rattle.dita_doc.specs.Seen as seen_spec;
@@ -17,7 +18,7 @@ use dita_doc::{
 };
 use std::alloc::{AllocError, Global};
 
-/// The text of an entry at its place; `built` is what its build gave.
+/// The text of an entry at its place, in the form of transcripts; `built` is what its build gave.
 pub fn write_entry(
     alloc: Global,
     place: u64,
@@ -27,9 +28,9 @@ pub fn write_entry(
     // A built text is given exactly if the reply is that a build has its place.
     requires built { is_some built ≡ written_spec.is_begun (seen_spec.reply_seen entry.now.reply) }
     requires text { written_spec.IsText (seen_spec.reply_seen entry.now.reply) }
-    ensures { IfOk result (λ text. Some text ≡ option_map transcript_spec.entry_text
+    ensures { IfOk result (λ text. written_spec.IsTextOfEntry
         (transcript_spec.entry_shown place (seen_spec.entry_seen entry.now)
-        (written_spec.built_shown (option_copied built.entry)))) }
+        (written_spec.built_shown (option_copied built.entry))) text) }
 {
     let mut out = List::new(alloc);
     append_numbers(alloc, &mut out, place, entry.session, entry.number)?;
@@ -66,7 +67,10 @@ fn append_numbers(
     session: u32,
     number: u32,
 ) -> Result<(), AllocError>
-    ensures { OnOk result (out.new ≡ out.old ++ written_spec.numbers_text place session number) }
+    ensures text { OnOk result
+        (out.new ≡ out.old ++ written_spec.numbers_text place session number) }
+    ensures fits { OnOk result (transcript_spec.Fits64 place × transcript_spec.Fits32 session
+        × transcript_spec.Fits32 number) }
 {
     out.append(format!(in alloc; "entry {place} {session} {number} ")?.as_bytes())
 }
@@ -74,8 +78,11 @@ fn append_numbers(
 // Appends a reply and the lines below it. Of the reply that a build has its place there is nothing
 // to show without the build.
 fn append_reply(alloc: Global, out: &mut List<u8>, reply: &Reply) -> Result<(), AllocError>
-    ensures { let shown = transcript_spec.reply_shown (seen_spec.reply_seen reply.now) None in
+    requires text { written_spec.IsText (seen_spec.reply_seen reply.now) }
+    ensures text { let shown = transcript_spec.reply_shown (seen_spec.reply_seen reply.now) None in
         OnOk result (IfSome shown (λ what. out.new ≡ out.old ++ written_spec.shown_text what)) }
+    ensures form { let shown = transcript_spec.reply_shown (seen_spec.reply_seen reply.now) None in
+        OnOk result (IfSome shown transcript_spec.IsShown) }
 {
     match reply {
         Reply::Stored(version) => append_number(alloc, out, b"stored ", *version),
@@ -83,9 +90,10 @@ fn append_reply(alloc: Global, out: &mut List<u8>, reply: &Reply) -> Result<(), 
         Reply::Bytes(bytes) => append_text(alloc, out, bytes.as_slice()),
         Reply::NameList(names) => append_names(alloc, out, names.as_slice()),
         Reply::Refused(fault) => {
+            let line = fault.line;
             out.append(b"refused ")?;
             out.append(fault.code.text().as_bytes())?;
-            append_number(alloc, out, b" ", u64::from(fault.line))
+            append_number(alloc, out, b" ", u64::from(line))
         }
         Reply::Conflict(version) => append_number(alloc, out, b"conflict ", *version),
         Reply::Absent => out.append(b"absent\n"),
@@ -101,7 +109,9 @@ fn append_number(
     words: &[u8],
     number: u64,
 ) -> Result<(), AllocError>
-    ensures { OnOk result (out.new ≡ out.old ++ lines_spec.line (words.now ++ decimal number)) }
+    ensures text { OnOk result
+        (out.new ≡ out.old ++ lines_spec.line (words.now ++ decimal number)) }
+    ensures fits { OnOk result (transcript_spec.Fits64 number) }
 {
     out.append(words)?;
     out.append(format!(in alloc; "{number}\n")?.as_bytes())
@@ -109,8 +119,11 @@ fn append_number(
 
 // Appends a text line by line.
 fn append_text(alloc: Global, out: &mut List<u8>, bytes: &[u8]) -> Result<(), AllocError>
-    ensures { let shown = transcript_spec.Lines (lines_spec.lines_of bytes.now) in
+    requires { is_utf8 bytes.now ≡ true }
+    ensures text { let shown = transcript_spec.Lines (lines_spec.lines_of bytes.now) in
         OnOk result (out.new ≡ out.old ++ written_spec.shown_text shown) }
+    ensures form { OnOk result (transcript_spec.IsShown
+        (transcript_spec.Lines (lines_spec.lines_of bytes.now))) }
 {
     append_number(alloc, out, b"text ", count_lines(bytes) as u64)?;
     let mut rest = bytes;
@@ -147,8 +160,10 @@ fn append_line(out: &mut List<u8>, text: &[u8]) -> Result<(), AllocError>
 
 // Appends names with their versions.
 fn append_names(alloc: Global, out: &mut List<u8>, names: &[Read]) -> Result<(), AllocError>
-    ensures { let shown = transcript_spec.Names (map seen_spec.read_seen names.now) in
+    ensures text { let shown = transcript_spec.Names (map seen_spec.read_seen names.now) in
         OnOk result (out.new ≡ out.old ++ written_spec.shown_text shown) }
+    ensures form { OnOk result (transcript_spec.IsShown
+        (transcript_spec.Names (map seen_spec.read_seen names.now))) }
 {
     append_number(alloc, out, b"names ", names.len() as u64)?;
     for read in names {
@@ -158,8 +173,9 @@ fn append_names(alloc: Global, out: &mut List<u8>, names: &[Read]) -> Result<(),
 }
 
 fn append_name(alloc: Global, out: &mut List<u8>, read: &Read) -> Result<(), AllocError>
-    ensures { let text = transcript_spec.name_line (seen_spec.read_seen read.now) in
+    ensures text { let text = transcript_spec.name_line (seen_spec.read_seen read.now) in
         OnOk result (out.new ≡ out.old ++ transcript_spec.bar_line text) }
+    ensures form { OnOk result (transcript_spec.IsNameLine (seen_spec.read_seen read.now)) }
 {
     out.append(b"|")?;
     out.append(read.name.as_bytes())?;
@@ -168,8 +184,10 @@ fn append_name(alloc: Global, out: &mut List<u8>, read: &Read) -> Result<(), All
 
 // Appends what a build gave.
 fn append_built(alloc: Global, out: &mut List<u8>, built: &BuiltText) -> Result<(), AllocError>
-    ensures { let shown = transcript_spec.OfBuild (written_spec.text_shown built.now) in
+    ensures text { let shown = transcript_spec.OfBuild (written_spec.text_shown built.now) in
         OnOk result (out.new ≡ out.old ++ written_spec.shown_text shown) }
+    ensures form { OnOk result (transcript_spec.IsBuildShown
+        (written_spec.text_shown built.now)) }
 {
     match built {
         BuiltText::Pages(pages, faults) => {
@@ -202,8 +220,11 @@ fn append_pages(
     out: &mut List<u8>,
     pages: &[(Name, PageMark)],
 ) -> Result<(), AllocError>
-    ensures { let texts = map transcript_spec.page_line (map written_spec.page_shown pages.now) in
+    ensures text { let shown = map written_spec.page_shown pages.now in
+        let texts = map transcript_spec.page_line shown in
         OnOk result (out.new ≡ out.old ++ flat_map transcript_spec.bar_line texts) }
+    ensures form { OnOk result (All transcript_spec.IsPageShown
+        (map written_spec.page_shown pages.now)) }
 {
     for page in pages {
         append_page(alloc, out, &page.0, page.1)?;
@@ -217,8 +238,11 @@ fn append_page(
     name: &Name,
     mark: PageMark,
 ) -> Result<(), AllocError>
-    ensures { let text = transcript_spec.page_line (written_spec.page_shown (name.now, mark)) in
+    ensures text { let shown = written_spec.page_shown (name.now, mark) in
+        let text = transcript_spec.page_line shown in
         OnOk result (out.new ≡ out.old ++ transcript_spec.bar_line text) }
+    ensures form { OnOk result (transcript_spec.IsPageShown
+        (written_spec.page_shown (name.now, mark))) }
 {
     out.append(b"|page ")?;
     out.append(name.as_bytes())?;
@@ -229,9 +253,11 @@ fn append_page(
 }
 
 fn append_faults(alloc: Global, out: &mut List<u8>, faults: &[Fault]) -> Result<(), AllocError>
-    ensures { let shown = map transcript_spec.fault_shown faults.now in
+    ensures text { let shown = map transcript_spec.fault_shown faults.now in
         let texts = map transcript_spec.fault_line shown in
         OnOk result (out.new ≡ out.old ++ flat_map transcript_spec.bar_line texts) }
+    ensures form { OnOk result (All transcript_spec.IsFaultShown
+        (map transcript_spec.fault_shown faults.now)) }
 {
     for fault in faults {
         append_fault(alloc, out, fault)?;
@@ -240,8 +266,10 @@ fn append_faults(alloc: Global, out: &mut List<u8>, faults: &[Fault]) -> Result<
 }
 
 fn append_fault(alloc: Global, out: &mut List<u8>, fault: &Fault) -> Result<(), AllocError>
-    ensures { let text = transcript_spec.fault_line (transcript_spec.fault_shown fault.now) in
+    ensures text { let text = transcript_spec.fault_line (transcript_spec.fault_shown fault.now) in
         OnOk result (out.new ≡ out.old ++ transcript_spec.bar_line text) }
+    ensures form { OnOk result (transcript_spec.IsFaultShown
+        (transcript_spec.fault_shown fault.now)) }
 {
     let line = fault.line;
     out.append(b"|")?;

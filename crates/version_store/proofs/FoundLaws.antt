@@ -6,7 +6,7 @@ use Rattle.std.specs.Cmp.Lexicographic.{slice_cmp, bytes_decides}
 use Rattle.std.specs.declared.cmp.Ordering.TheVariants.{Less, Equal, Greater}
 use Rattle.std.proofs.lemmas.Bool.{false≢true}
 use Rattle.std.proofs.lemmas.Option.{none-some, same_Some}
-use Rattle.dita_doc.specs.Desk.{Stored, State, IsSortedByName, is_named, found, version_at, version_of, with_stored, without_name}
+use Rattle.dita_doc.specs.Desk.{Stored, State, IsSortedByName, is_named, found, with_stored, without_name}
 use Rattle.dita_doc.proofs.NameOrder.{with_order, named_itself, named_by_order, found_above, same_from_equal, below_from_above, below_all_lower}
 
 -- a test of a name is decided by whether the names are the same
@@ -16,10 +16,6 @@ not_named stored name other = by_test (is_named name stored) refl
     by_test : (b : Bool) → is_named name stored ≡ b → is_named name stored ≡ false
     by_test true e = absurd (other ((bytes_decides stored.name name).0 e))
     by_test false e = e
-
--- a name that is not found has version 0
-pub no_version : (state : State) (name : List ℕ) → found state name ≡ None → version_at state name ≡ 0
-no_version state name none = ap version_of none
 
 -- what was stored is found under its name, and nothing else has changed
 pub found_with_same : (new : Stored) (state : State) → found (with_stored new state) new.name ≡ Some new
@@ -85,21 +81,6 @@ found_without_other gone (stored ∷ state) name other =
           ∙ sym (ap (λ b. cond b (Some stored) (found state name))
           (not_named stored name (λ same. other (sym ((bytes_decides stored.name gone).0 e) ∙ same))))
       | false ↦ λ e. ap (cond (is_named name stored) (Some stored)) rest
-    ] in
-    by_test refl
-
--- what is found has the name that was sought
-pub found_named : (state : State) (name : List ℕ) (stored : Stored) → found state name ≡ Some stored
-    → stored.name ≡ name
-found_named [] name stored is = absurd (none-some stored is)
-found_named (first ∷ state) name stored is =
-    let rest = found_named state name stored in
-    let by_test : is_named name first ≡ is_named name first → stored.name ≡ name =
-    elim (is_named name first) as (λ b. is_named name first ≡ b → stored.name ≡ name) [
-      | true ↦ λ e. ap (λ (s : Stored). s.name)
-          (sym (same_Some first stored (sym (ap (λ b. cond b (Some first) (found state name)) e) ∙ is)))
-          ∙ (bytes_decides first.name name).0 e
-      | false ↦ λ e. rest (sym (ap (λ b. cond b (Some first) (found state name)) e) ∙ is)
     ] in
     by_test refl
 

@@ -3,7 +3,7 @@ use Rattle.std.proofs.Common.{◌≡◌, ℕ, zero, suc, ◌+◌, ◌<◌, ◌�
 use Rattle.std.specs.List.{AllByRecursion, slice_get}
 use Rattle.std.proofs.lemmas.List.{append-nil, take-append-le, take_all}
 use Rattle.std.proofs.lemmas.List.Sums.{sum-map, sum_by_push}
-use Rattle.std.proofs.lemmas.Option.{none-some, same_Some, slice_get_within}
+use Rattle.std.proofs.lemmas.Option.{none-some, same_Some}
 use Rattle.std.proofs.lemmas.Bool.Decides.{nat_tests}
 use Rattle.dita_doc.specs.Pyx.{document_of}
 use Rattle.dita_doc.specs.Request.{Request, text_size, Put, PutIf, Remove, Get, Names, Build}
@@ -26,13 +26,7 @@ pub replay_push : (state : State) (place : ℕ) (history : List Entry) (entry : 
     ≡ next (replay state place history) (place + length history) entry.request
 replay_push state place history entry = replay_append state place history (entry ∷ [])
 
--- legal to the end, and one more that is answered as the desk answers
-pub legal_front : (state : State) (place : ℕ) (front back : List Entry) → AreLegal state place (front ++ back)
-    → AreLegal state place front
-legal_front state place [] back legal = tt
-legal_front state place (entry ∷ front) back legal =
-    (legal.0, legal_front (next state place entry.request) (place + 1) front back legal.1)
-
+-- legal up to each place, and with one more that is answered as the desk answers
 pub legal_take : (state : State) (place : ℕ) (history : List Entry) (n : ℕ) → AreLegal state place history
     → AreLegal state place (take n history)
 legal_take state place history zero legal = tt
@@ -273,10 +267,3 @@ pub from_sources : (history : List Entry) (n : ℕ) (name : List ℕ) (stored : 
     → found (sources history n) name ≡ Some stored → ComesFrom (take n history) stored
 from_sources history n name stored is = every_found (ComesFrom (take n history)) (sources history n) name stored
     (from_entries (take n history)) is
-
--- so each version is of an entry
-pub versions_within : (history : List Entry) (stored : Stored) → ComesFrom history stored
-    → (1 ≤ stored.version) × (stored.version ≤ length history)
-versions_within history stored from =
-    let within = slice_get_within history from.place from.entry from.stands in
-    (omega (arith, from.version), omega (arith, from.version, within))

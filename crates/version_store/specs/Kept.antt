@@ -73,7 +73,7 @@ pub record IsFull (kept : Kept) (request : Request) (full : Full) : Type 0 where
       (kept.entry_limit ≤ length kept.history)
       ⊎ (kept.text_limit < history_size kept.history + text_size request)
 
--- why a request was not answered; want of memory says nothing
+-- why a request was not answered; out of memory says nothing
 abbrev pub IsFullIf : Kept → Request → Stop Full → Type 0
 IsFullIf kept request (Fault full) = IsFull kept request full
 IsFullIf kept request NoMemory = Unit {0}

@@ -27,7 +27,7 @@ pub const TEXT_LIMIT: u64 = 67_108_864;
 pub struct Store {
     sources: Arc<Sources>,
     entries: Vec<Entry>,
-    /// The bytes of the names and bodies of all entries.
+    // The bytes of the names and bodies of all entries.
     text: u64,
     entry_limit: u64,
     text_limit: u64,
@@ -47,7 +47,7 @@ impl Model for Store {
 }
 
 impl Store {
-    /// Nothing was asked yet, and the limits are a desk's.
+    /// A store of which nothing was asked yet, with the limits of a desk.
     pub fn new(alloc: Global) -> Result<Store, NoMemory>
         ensures { IfOk result (λ store. store
             ≡ kept_spec.nothing_kept kept_spec.entry_limit_of_desk kept_spec.text_limit_of_desk) }
@@ -55,8 +55,8 @@ impl Store {
         Store::with_limits(alloc, ENTRY_LIMIT, TEXT_LIMIT)
     }
 
-    /// Nothing was asked yet. So many entries, and so many bytes of their names and bodies, are the
-    /// most.
+    /// A store of which nothing was asked yet, for at most so many entries, and so many bytes of
+    /// their names and bodies.
     pub fn with_limits(alloc: Global, entries: u64, text_bytes: u64) -> Result<Store, NoMemory>
         ensures { IfOk result (λ store. store ≡ kept_spec.nothing_kept entries text_bytes) }
     {
@@ -74,7 +74,7 @@ impl Store {
     ///
     /// # Errors
     ///
-    /// What stands in the history, if one more request would pass a limit, or want of memory.
+    /// What stands in the history, if one more request would pass a limit, or out of memory.
     pub fn answer(
         &mut self,
         alloc: Global,

@@ -5,6 +5,8 @@ use lib.Utf8.{encode}
 use Rattle.script_text.specs.declared.fault.ScriptCode.TheVariants as fault
 use Rattle.dita_doc.specs.Request.{Put, Build}
 use Rattle.script_text.specs.Script.{script_of}
+use Rattle.script_laws.specs.Blocks.{Steps, IsScriptOf}
+use Rattle.script_laws.proofs.WholeLaws.{script_said, script_read}
 
 abbrev lf : List ℕ
 lf = 10 ∷ []
@@ -44,3 +46,16 @@ good : script_of (codes "# x" ++ lf ++ codes "1 put a" ++ lf ++ codes "-x" ++ lf
     { session = 2; request = Build (codes "a") (Some (codes "b")) } ∷ [])
 unfolding script_of is_utf8 chars encode
 good = refl
+
+-- The same texts as lists of blocks
+
+-- the body of its put has no end, so no list of blocks has this text
+no_blocks : (steps : Steps) → IsScriptOf steps (codes "1 put a" ++ lf ++ codes "..") → ⊥
+no_blocks steps script =
+    let read = script_read (codes "1 put a" ++ lf ++ codes "..") steps script in let faulty = no_end in absurd cc
+
+-- a comment, a put, and a build without its last LF
+some_blocks : IsScriptOf (record { session = 1; request = Put (codes "a") (codes "-x" ++ lf) }
+    ∷ record { session = 2; request = Build (codes "a") (Some (codes "b")) } ∷ [])
+    (codes "# x" ++ lf ++ codes "1 put a" ++ lf ++ codes "-x" ++ lf ++ codes "." ++ lf ++ codes " 02  build a b")
+some_blocks = script_said _ _ good

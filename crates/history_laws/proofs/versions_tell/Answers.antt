@@ -7,7 +7,7 @@ use Rattle.dita_doc.specs.History.{Entry, sources}
 use Rattle.dita_doc.specs.Pyx.{document_of}
 use Rattle.dita_doc.specs.Request.{Request, Put, PutIf, Remove, Get, Names, Build}
 use Rattle.version_store.specs.Entries.{Entries, Puts}
-use Rattle.version_store.proofs.FoundLaws.{found_named}
+use Rattle.dita_doc.proofs.NameOrder.{named_as_found}
 use Rattle.version_store.proofs.HistoryLaws.{from_sources, slice_get-take}
 use Rattle.history_laws.proofs.versions_tell.Goals as goal
 
@@ -31,7 +31,7 @@ one_document history m n name stored again is too same =
     let first = from_sources history m name stored is in
     let second = from_sources history n name again too in
     let named : stored.name ≡ again.name =
-    found_named (sources history m) name stored is ∙ sym (found_named (sources history n) name again too) in
+    named_as_found (sources history m) name stored is ∙ sym (named_as_found (sources history n) name again too) in
     let place : first.place ≡ second.place = omega (arith, first.version, second.version, same) in
     let one : first.entry ≡ second.entry =
     same_Some first.entry second.entry

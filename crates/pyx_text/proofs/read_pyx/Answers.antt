@@ -4,6 +4,7 @@ use Rattle.dita_doc.specs.Pyx.{reading}
 use Rattle.dita_doc.specs.Tree.{ArePreorder, nodes_of, are_placed}
 use Rattle.dita_doc.proofs.TreeLaws.{preorder_of_content}
 use Rattle.pyx_text.proofs.PlacedLaws.{placed_written}
+use Rattle.pyx_text.proofs.ReadTrees.{kept_tree}
 use Rattle.pyx_text.proofs.ReaderLaws.{whole_fault}
 use Rattle.pyx_text.proofs.read_pyx.Goals as goal
 
@@ -34,3 +35,6 @@ invariant_of-result c =
 pub returns-clause-tree : goal.returns-clause-tree
 returns-clause-tree c =
     c.in_ok-nodes.ensures.tree c.args.bytes.now (c.in_ok-feed.ensures.ok [] c.new-reader.ensures)
+
+pub returns-clause-kept : goal.returns-clause-kept
+returns-clause-kept c = kept_tree c.in_ok-nodes.nodes c.args.bytes.now (returns-clause-tree c)

@@ -8,7 +8,6 @@ returns-else-is_end c =
     body_paragraphs-none _ _ _ _ _ _ _ c.in-Element.ensures.content
     (elim c.else-is_end.branch [
       | else-is_end-via-then-is_end+else-has_class_alone w ↦
-          (let class = rw w.as_slice.ensures at w.if-has_class_alone.ensures in
-          rw (← w.if-is_end.ensures, ← class) refl)
+          rw (← w.if-is_end.ensures, ← w.if-has_class_alone.ensures) refl
       | else-is_end-via-else-is_end w ↦ rw (← w.if-is_end.ensures) refl
     ])

@@ -5,7 +5,7 @@ use Rattle.clean_build.proofs.flat.title.Goals.{else-is_end-via-then-is_end+then
 
 pub returns-else-is_end : goal.returns-else-is_end
 returns-else-is_end c =
-    title_text-none c.args.attributes.now _ _ _ _ _ c.in-Chars.ensures.content
+    title_text-none c.args.element.now.attributes _ _ _ _ _ c.in-Chars.ensures.content
     (elim c.else-is_end.branch [
       | else-is_end-via-then-is_end+then-has_class_alone+else-not-is_blank w ↦
           (let blank = rw (w.as_bytes.ensures.value, c.as_str-text.ensures) at w.if-not-is_blank.ensures in

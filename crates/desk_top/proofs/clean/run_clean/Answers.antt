@@ -5,10 +5,11 @@ use Rattle.desk_top.proofs.clean.run_clean.Goals as goal
 pub returns-in-Ok-answered : goal.returns-in-Ok-answered
 returns-in-Ok-answered g c =
     let answer = rw c.as_slice.ensures at c.in-Ok-answered.ensures.ok in
+    let form = rw c.as_slice.ensures at c.in-Ok-answered.ensures.form in
     let pages = rw c.as_slice.ensures at c.in-Ok-answered.ensures.pages in
     let written = rw c.as_slice-in-Ok-answered.ensures at c.written.ensures in
     ends_written _ _ c.in-Ok.input c.in-Ok-answered.output c.in-Ok-answered.status _ c.in-Ok.ensures.ok answer.0
-    answer.1 pages written
+    answer.1 form pages written
 
 pub returns-in-Err-Fault-answered : goal.returns-in-Err-Fault-answered
 returns-in-Err-Fault-answered g c =

@@ -1,10 +1,10 @@
-use Rattle.std.proofs.Common.{◌++◌, ap, sym, ◌∙◌, subst, option_map, Option}
+use Rattle.std.proofs.Common.{◌++◌, ap, sym, ◌∙◌, subst, Option}
 use Rattle.dita_doc.specs.Bytes.{Bytes}
 use Rattle.dita_doc.specs.History.{Entry}
 use Rattle.dita_doc.specs.Seen.{entry_seen, request_seen}
 use Rattle.run_spec.specs.Answers.{given_shown}
-use Rattle.transcript_text.specs.Transcript.{entry_text, entry_shown}
-use Rattle.transcript_text.specs.Written.{IsText, built_shown, text_shown}
+use Rattle.transcript_text.specs.Transcript.{entry_shown}
+use Rattle.transcript_text.specs.Written.{IsText, IsTextOfEntry, built_shown, text_shown}
 use Rattle.transcript_text.specs.declared.built.BuiltText.{BuiltText}
 use Rattle.desk_top.proofs.AnswerLaws.{kept_by, answer_put, answer_front, answers_whole, begun_answer, entry_is, reply_text, some_copied, some_shown}
 use Rattle.desk_top.proofs.TakesLaws.{front_all, puts_front}
@@ -67,7 +67,7 @@ returns-clause-ok g c =
     answers_whole _ _ _ _ _ (entry_seen c.entry.result.now)
     (built_shown c.in_ok-built.built) c.in_ok-entry.entry c.args.text.now c.append.new.self kept c.entry.ensures
     c.in_ok-built.ensures.shown
-    (c.in_ok-entry.ensures
-    ∙ ap (λ (built : Option BuiltText). option_map entry_text
-    (entry_shown c.in_ok-place.place (entry_seen c.entry.result.now) (built_shown built))) c.as_ref.ensures.value)
+    (subst (λ (built : Option BuiltText). IsTextOfEntry
+    (entry_shown c.in_ok-place.place (entry_seen c.entry.result.now) (built_shown built)) c.in_ok-entry.entry)
+    c.as_ref.ensures.value c.in_ok-entry.ensures)
     (c.in_ok-append.ensures ∙ ap (λ (more : Bytes). c.args.text.now ++ more) c.as_slice.ensures)

@@ -8,7 +8,7 @@ use Rattle.script_text.specs.Facts.{IsOwnStep}
 use Rattle.script_text.specs.Read.{step_seen, steps_seen}
 use Rattle.script_text.proofs.ScriptFacts.{script_fits}
 use Rattle.version_store.specs.Kept.{Kept}
-use Rattle.desk_top.proofs.RunLaws.{HasAnswered, none_answered, one_answered, room_left, answer_begun, all_told, no_more}
+use Rattle.desk_top.proofs.RunLaws.{HasAnswered, none_answered, one_answered, room_left, answer_begun, none_left, all_told, all_in_form, no_more}
 use Rattle.desk_top.proofs.TakesLaws.{puts_front}
 use Rattle.desk_top.proofs.run.answer_all.Goals as goal
 
@@ -74,14 +74,17 @@ returns-in_err-answer-clause-pages g c =
 
 pub returns-clause-text : goal.returns-clause-text
 returns-clause-text g c =
-    let all = steps_seen c.args.script.steps in
     let none = no_more (into_iter_items c.loop-session.session-iterator) _ c.loop-session.invariant.size
     c.in-None.ensures.steps.0 in
-    let before =
-    subst (λ (left : List (ℕ × given.Request)). HasAnswered all c.loop-session.store.history
-    (steps_seen left) c.loop-session.text (g.O.Outlet.pages c.args.outlet.now)
-    (g.O.Outlet.pages c.loop-session.outlet)) none c.loop-session.invariant.answered in
-    all_told all c.loop-session.store.history c.loop-session.text c.append.new.self c.entries.result _ _ before
-    c.entries.ensures.value
+    let before = none_left _ _ _ _ _ _ (ap steps_seen none) c.loop-session.invariant.answered in
+    all_told (steps_seen c.args.script.steps) c.loop-session.store.history c.loop-session.text c.append.new.self
+    c.entries.result _ _ before c.entries.ensures.value
     (c.in_ok-append.ensures ∙ ap (λ (more : Bytes). c.loop-session.text ++ more) (c.as_slice.ensures
     ∙ c.in_ok-end.ensures))
+
+pub returns-clause-form : goal.returns-clause-form
+returns-clause-form g c =
+    let none = no_more (into_iter_items c.loop-session.session-iterator) _ c.loop-session.invariant.size
+    c.in-None.ensures.steps.0 in
+    let before = none_left _ _ _ _ _ _ (ap steps_seen none) c.loop-session.invariant.answered in
+    all_in_form (steps_seen c.args.script.steps) _ _ _ _ (script_fits c.args.script) before

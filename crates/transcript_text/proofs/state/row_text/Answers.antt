@@ -1,6 +1,6 @@
 use Rattle.std.proofs.Common.{ap, ◌∙◌, ◌++◌, ◌∷◌, [], ℕ, List, append_assoc, refl, sym, subst}
 use Rattle.dita_doc.specs.Cut.{Lacks}
-use Rattle.transcript_text.specs.Transcript.{IsLineText}
+use Rattle.dita_doc.specs.Lines.{IsLineText}
 use Rattle.transcript_text.proofs.StateLaws.{row_more, row_may_more}
 use Rattle.transcript_text.proofs.state.row_text.Goals as goal
 

@@ -1,6 +1,0 @@
-use Rattle.std.proofs.Common.{◌≡◌, drop}
-use Rattle.dita_doc.specs.ClassValue.{value_of}
-use Rattle.clean_build.proofs.flat.value_of.Given as goal
-
-abbrev pub invariant-loop-attribute : goal.invariant-loop-attribute
-invariant-loop-attribute l = value_of l.name l.attributes ≡ value_of l.name (drop l.attribute-index l.attributes)

@@ -1,0 +1,147 @@
+-- A run over a source that tells its bytes is the run over all of them.
+use Rattle.std.specs.Prelude.{◌≡◌, ◌+◌, ◌<◌, ◌≤◌, ◌⊎◌, ℕ, Bool, true, false, List, [], ◌++◌, Option, Some, None, Result, Ok, Err, length, take, nat_lt}
+use Rattle.std.specs.Io.KnownBytes.{Appends}
+use Rattle.std.proofs.Common.{refl, sym, ◌∙◌, ap, subst, arith, append-nil, length-append, length-take, take-take, take_at, take_all, inl, inr}
+use Rattle.std.proofs.lemmas.Bool.{ltb-true, ltb-false}
+use Rattle.std.proofs.lemmas.Bool.Decides.{nat_tests}
+use Rattle.dita_doc.specs.Bytes.{Bytes}
+use Rattle.dita_doc.specs.Lines.{lines_of}
+use Rattle.dita_outside.specs.Pages.{Pages, TakesPages}
+use Rattle.run_spec.specs.CleanRun.{HasForm, clean_run, run_of, read_limit}
+use Rattle.run_spec.specs.declared.status.Status.{Status}
+use Rattle.run_spec.specs.declared.status.Status.TheVariants as statuses
+use Rattle.script_text.specs.Script.{Step, script_line, steps_from, script_limit, script_of}
+use Rattle.script_text.specs.declared.fault.ScriptFault.{ScriptFault}
+use Rattle.script_text.proofs.ScriptLaws.{script_short}
+use Rattle.desk_top.specs.Ends.{AnswersWhole, EndsClean, FinishesClean, RunsClean}
+use Rattle.desk_top.specs.Outside.{Outside}
+use Rattle.desk_top.specs.Reads.{Reads}
+use Rattle.desk_laws.specs.SureRun.{NoneFailed}
+use Rattle.desk_laws.specs.WholeRun.{EndsAsAll, IsAnswered, IsDone}
+use Rattle.desk_laws.proofs.HistoryLaws.{told_once, one_history}
+
+-- The bytes behind the first one too many
+
+same_long : (limit : ℕ) (bytes : Bytes) → nat_lt limit (length (take (limit + 1) bytes)) ≡ nat_lt limit (length bytes)
+same_long limit bytes = grind (arith, nat_tests, length-take)
+
+cut_steps : (limit : ℕ) (bytes : Bytes)
+    → steps_from script_line (nat_lt limit (length (take (limit + 1) bytes))) 0 0 None
+    (lines_of (take (limit + 1) (take (limit + 1) bytes)))
+    ≡ steps_from script_line (nat_lt limit (length bytes)) 0 0 None (lines_of (take (limit + 1) bytes))
+cut_steps limit bytes =
+    ap (λ long. steps_from script_line long 0 0 None (lines_of (take (limit + 1) (take (limit + 1) bytes))))
+    (same_long limit bytes)
+    ∙ ap (λ text. steps_from script_line (nat_lt limit (length bytes)) 0 0 None (lines_of text))
+    (take-take (limit + 1) (limit + 1) bytes (omega arith))
+
+cut_script : (bytes : Bytes) → script_of (take (script_limit + 1) bytes) ≡ script_of bytes
+unfolding script_of
+cut_script bytes = cut_steps script_limit bytes
+
+pub cut_run : (bytes : Bytes) → clean_run (take read_limit bytes) ≡ clean_run bytes
+unfolding clean_run
+cut_run bytes = ap run_of (cut_script bytes)
+
+-- What was read
+
+front_by : (limit : ℕ) (held input left : Bytes) (less : Bool) → held ≡ input ++ left → length input ≤ limit
+    → (length input < limit → left ≡ []) → nat_lt (length input) limit ≡ less → input ≡ take limit held
+front_by limit held input left true whole within ended l =
+    let none : left ≡ [] = ended (ltb-true _ _ l) in
+    let all : held ≡ input = rw none at whole ∙ append-nil input in
+    rw all (sym (take_all limit input within))
+front_by limit held input left false whole within ended l =
+    let full = ltb-false (length input) limit l in
+    let count : length input ≡ limit = omega arith in
+    rw whole (sym (take_at input left limit count))
+
+front_read : (held input : Bytes) (new : Option Bytes) → Reads read_limit (Some held) new input
+    → input ≡ take read_limit held
+front_read held input None read = absurd read.gave
+front_read held input (Some left) read = front_by read_limit held input left _ read.gave read.within read.whole refl
+
+pub same_run : (old new : Outside) (held input : Bytes) → old.left ≡ Some held
+    → Reads read_limit old.left new.left input → clean_run input ≡ clean_run held
+same_run old new held input tells read =
+    let front = front_read held input new.left (subst (λ left. Reads read_limit left new.left input) tells read) in
+    ap clean_run front ∙ cut_run held
+
+-- a run that answered a source ended as all of its bytes say
+pub ends_as_all : (old new : Outside) (held input : Bytes) (status own : Status) (pages : Pages) (output : Bytes)
+    → old.left ≡ Some held → Reads read_limit old.left new.left input → RunsClean input own pages output
+    → own ≡ status → TakesPages old.pages new.pages pages → Appends old.taken new.taken output
+    → EndsAsAll held old new status
+ends_as_all old new held input status own pages output tells read runs is put written =
+    let whole = sym (same_run old new held input tells read) ∙ runs in
+    record {
+      ends = sym is ∙ sym (ap (λ run. run.status) whole);
+      pages = subst (TakesPages old.pages new.pages) (sym (ap (λ run. run.pages) whole)) put;
+      output = subst (Appends old.taken new.taken) (sym (ap (λ run. run.output) whole)) written;
+    }
+
+pub answered_whole : (old new : Outside) (held : Bytes) (status : Status) → old.left ≡ Some held
+    → AnswersWhole FinishesClean old new status → EndsAsAll held old new status
+answered_whole old new held status tells (run, is, put, written) =
+    ends_as_all old new held run.input status run.status run.pages run.output tells run.read run.is.0 is put written
+
+-- A run that is done
+
+done_steps : (found : Result (List Step) ScriptFault) → statuses.Done ≡ (run_of found).status
+    → (steps : List Step) × (found ≡ Ok steps)
+done_steps (Ok steps) e = (steps, refl)
+done_steps (Err fault) e = absurd cc
+
+-- a script is read to the end of its source
+record IsReadWhole (held input : Bytes) (new : Option Bytes) : Type 0 where
+  pub ended : new ≡ Some []
+  pub all : input ≡ held
+
+read_whole : (limit : ℕ) (held input : Bytes) (new : Option Bytes) → Reads (limit + 1) (Some held) new input
+    → length held ≤ limit → IsReadWhole held input new
+read_whole limit held input None read short = absurd read.gave
+read_whole limit held input (Some left) read short =
+    let whole : held ≡ input ++ left = read.gave in
+    let size : length held ≡ length input + length left = ap length whole ∙ length-append input left in
+    let none : left ≡ [] = read.whole (omega arith) in
+    record { ended = ap Some none; all = sym (rw none at whole ∙ append-nil input) }
+
+pub done_whole : (old new : Outside) (held : Bytes) → old.left ≡ Some held
+    → AnswersWhole FinishesClean old new statuses.Done → IsDone held old new
+unfolding clean_run
+done_whole old new held tells (run, is, put, written) =
+    let all = answered_whole old new held statuses.Done tells (run, is, put, written) in
+    let found = done_steps (script_of held) all.ends in
+    let answers = ap run_of found.1 in
+    let read = read_whole script_limit held run.input new.left
+    (subst (λ left. Reads read_limit left new.left run.input) tells run.read) (script_short held found.0 found.1) in
+    let form = subst HasForm (ap script_of read.all ∙ found.1) run.is.1 in
+    record {
+      ended = read.ended;
+      steps = found.0;
+      script = found.1;
+      pages = subst (TakesPages old.pages new.pages) (ap (λ run. run.pages) answers) all.pages;
+      output = subst (Appends old.taken new.taken) (ap (λ run. run.output) answers) all.output;
+      told = told_once found.0 form;
+      history = one_history found.0;
+    }
+
+-- By the status
+
+pub answered_all : (old new : Outside) (status : Status) (held : Bytes) → IsAnswered status → old.left ≡ Some held
+    → EndsClean old new status → EndsAsAll held old new status
+answered_all old new status held (inl is) tells ends =
+    rw is (answered_whole old new held statuses.Done tells (rw is at ends))
+answered_all old new status held (inr is) tells ends =
+    rw is (answered_whole old new held statuses.Script tells (rw is at ends))
+
+pub sure_whole : (old new : Outside) (status : Status) (held : Bytes) → NoneFailed old new → old.left ≡ Some held
+    → EndsClean old new status → (status ≡ statuses.NoMemory) ⊎ EndsAsAll held old new status
+sure_whole old new statuses.Done held none tells ends = inr (answered_whole old new held statuses.Done tells ends)
+sure_whole old new statuses.Script held none tells ends = inr (answered_whole old new held statuses.Script tells ends)
+sure_whole old new statuses.NoMemory held none tells ends = inl refl
+sure_whole old new statuses.ReadFault held none tells ends = absurd (none.source ends.0)
+sure_whole old new statuses.OutletFault held none tells ends = absurd (none.outlet ends.0)
+sure_whole old new statuses.WriteFault held none tells ends = absurd (none.sink ends.0)
+sure_whole old new statuses.Words held none tells ends = absurd ends
+sure_whole old new statuses.Port held none tells ends = absurd ends

@@ -1,0 +1,5 @@
+use Rattle.desk_laws.proofs.WholeLaws.{sure_whole}
+use Rattle.desk_laws.proofs.sure_run.Goals as goal
+
+pub returns-clause-whole : goal.returns-clause-whole
+returns-clause-whole c = sure_whole

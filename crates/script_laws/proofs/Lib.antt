@@ -1,0 +1,7 @@
+pub mod WordLaws
+pub mod NumberLaws
+pub mod LinesSaid
+pub mod LinesRead
+pub mod BlocksSaid
+pub mod BlocksRead
+pub mod WholeLaws
