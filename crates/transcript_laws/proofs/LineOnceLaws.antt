@@ -10,7 +10,8 @@ use Rattle.dita_doc.specs.declared.fault.PyxCode.{PyxCode}
 use Rattle.dita_doc.specs.declared.fault.PyxCode.TheVariants as pyx
 use Rattle.dita_doc.specs.Faults.{pyx_code_text, fault_code_text}
 use Rattle.dita_doc.specs.Cut.{Lacks}
-use Rattle.transcript_text.specs.Transcript.{IsNameLine, name_line, PageMark, InOutlet, InRow, IsMark, mark_words, PageShown, IsPageShown, page_line, FaultShown, IsFaultShown, with_detail, fault_line}
+use Rattle.fault_report.specs.FaultLine.{with_detail}
+use Rattle.transcript_text.specs.Transcript.{IsNameLine, name_line, PageMark, InOutlet, InRow, IsMark, mark_words, PageShown, IsPageShown, page_line, FaultShown, IsFaultShown, fault_line}
 use Rattle.transcript_text.specs.declared.below.TheConstants.{PYX_CODES, FAULT_CODES}
 use Rattle.dita_doc.specs.Bytes.{spaced_parts}
 use Rattle.transcript_text.proofs.CodeLaws.{fault_code_lacks}

@@ -6,7 +6,8 @@ use Rattle.dita_doc.specs.Desk.{Reply, IsStored, IsRemoved, Bytes, NameList, IsR
 use Rattle.dita_doc.specs.History.{Entry}
 use Rattle.dita_doc.specs.Lines.{line}
 use Rattle.dita_doc.specs.PyxEscapes.{escaped, escaped_byte}
-use Rattle.transcript_text.specs.Transcript.{Shown, OfBuild, BuildShown, Fits64, Fits32, IsBuildShown, IsShown, shown_words, shown_lines, with_detail, bar_line, reply_shown, entry_shown}
+use Rattle.fault_report.specs.FaultLine.{with_detail}
+use Rattle.transcript_text.specs.Transcript.{Shown, OfBuild, BuildShown, Fits64, Fits32, IsBuildShown, IsShown, shown_words, shown_lines, bar_line, reply_shown, entry_shown}
 use Rattle.transcript_text.specs.Written.{IsTextOfEntry, is_begun, numbers_text, shown_text}
 use Rattle.transcript_text.proofs.FaultLaws.{detail_shown}
 
@@ -62,26 +63,3 @@ module _ (place : ℕ) (entry : Entry) (front text : List ℕ)
   reply_written other told valid =
       let shown = other_shown entry.reply other in
       entry_of None shown.0 shown.1 (rw shown.1 at told) (rw shown.1 at valid)
-
--- the detail of a fault
-
-some_if : (test : Bool) (x y : List ℕ) → 0 < length x → 0 < length y → 0 < length (if test then x else y)
-some_if true x y first second = first
-some_if false x y first second = second
-
-byte_some : (b : ℕ) → 0 < length (escaped_byte b)
-byte_some b =
-    some_if (b == 10) _ _ (omega arith)
-    (some_if (b == 9) _ _ (omega arith) (some_if (b == 92) _ _ (omega arith) (omega arith)))
-
-escaped_some : (detail : List ℕ) → 0 < length detail → 0 < length (escaped detail)
-escaped_some [] some = absurd (omega arith)
-escaped_some (b ∷ detail) some = omega (arith, length-append (escaped_byte b) (escaped detail), byte_some b)
-
-pub detail_appended : {A E : Type 0} (result : Result A E) (out next later detail : List ℕ) → 0 < length detail
-    → next ≡ out ++ 32 ∷ [] → OnOk result (later ≡ next ++ escaped detail)
-    → OnOk result (later ≡ out ++ with_detail (escaped detail))
-detail_appended (Ok x) out next later detail some spaced told =
-    told ∙ ap (λ (l : List ℕ). l ++ escaped detail) spaced ∙ append_assoc out (32 ∷ []) (escaped detail)
-    ∙ ap (λ (l : List ℕ). out ++ l) (sym (detail_shown (escaped detail) (escaped_some detail some)))
-detail_appended (Err e) out next later detail some spaced told = tt

@@ -8,7 +8,8 @@ use Rattle.dita_doc.specs.declared.fault.FaultCode.{FaultCode}
 use Rattle.dita_doc.specs.Cut.{Lacks, IsCutAt, IsCutAtLast}
 use Rattle.dita_doc.specs.Faults.{fault_code_text}
 use Rattle.dita_doc.specs.Lines.{IsLineText}
-use Rattle.transcript_text.specs.Transcript.{IsNameShown, with_detail, FaultShown}
+use Rattle.fault_report.specs.FaultLine.{with_detail}
+use Rattle.transcript_text.specs.Transcript.{IsNameShown, FaultShown}
 use Rattle.dita_doc.specs.Bytes.{spaced_parts}
 use Rattle.transcript_text.specs.Words.{words_in, number_of}
 use Rattle.transcript_text.specs.Below.{IsLastNumber, IsPlaceText, IsCodeText, IsDetail, IsFaultText, is_fault_code}

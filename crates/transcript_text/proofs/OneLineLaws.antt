@@ -10,7 +10,8 @@ use Rattle.dita_doc.specs.Lines.{lines_of, line, IsLineText}
 use Rattle.dita_doc.specs.declared.plan.PlanStop.{PlanStop}
 use Rattle.dita_doc.specs.declared.plan.PlanStop.TheVariants as stops
 use Rattle.dita_doc.specs.Faults.{pyx_code_text, fault_code_text}
-use Rattle.transcript_text.specs.Transcript.{Shown, StoredAt, RemovedAt, ConflictAt, IsAbsent, IsFull, RefusedFor, Lines, Names, OfBuild, BuildShown, BuiltPages, StoppedBy, PagesTooLarge, NotYetBuilt, IsBuildShown, IsShown, shown_words, shown_lines, built_words, built_lines, stop_text, IsNameShown, IsNameLine, name_line, PageMark, InOutlet, InRow, IsMark, mark_words, PageShown, IsPageShown, page_line, FaultShown, IsFaultShown, with_detail, fault_line, EntryShown, IsEntryShown, entry_head, entry_text, PartShown, IsPage, IsContents, part_text, part_index, val_text, IsValShown, RowShown, IsRowShown, row_head, row_text, bar_line, Totals, end_head, IsTranscript, transcript_text}
+use Rattle.fault_report.specs.FaultLine.{with_detail}
+use Rattle.transcript_text.specs.Transcript.{Shown, StoredAt, RemovedAt, ConflictAt, IsAbsent, IsFull, RefusedFor, Lines, Names, OfBuild, BuildShown, BuiltPages, StoppedBy, PagesTooLarge, NotYetBuilt, IsBuildShown, IsShown, shown_words, shown_lines, built_words, built_lines, stop_text, IsNameShown, IsNameLine, name_line, PageMark, InOutlet, InRow, IsMark, mark_words, PageShown, IsPageShown, page_line, FaultShown, IsFaultShown, fault_line, EntryShown, IsEntryShown, entry_head, entry_text, PartShown, IsPage, IsContents, part_text, part_index, val_text, IsValShown, RowShown, IsRowShown, row_head, row_text, bar_line, Totals, end_head, IsTranscript, transcript_text}
 use Rattle.transcript_text.specs.Transcript as shown
 use Rattle.dita_doc.proofs.LinesLaws.{lines_after}
 use Rattle.transcript_text.specs.Told.{bar, first_line, entry_lines, row_lines, transcript_lines}

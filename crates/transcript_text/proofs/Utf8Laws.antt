@@ -12,7 +12,8 @@ use Rattle.dita_doc.specs.Bytes.{space, spaced_parts}
 use Rattle.dita_doc.specs.Desk.{stored_limit}
 use Rattle.dita_doc.specs.Faults.{pyx_code_text, fault_code_text}
 use Rattle.dita_doc.proofs.Utf8Laws.{utf8_cons}
-use Rattle.transcript_text.specs.Transcript.{Shown, StoredAt, RemovedAt, ConflictAt, IsAbsent, IsFull, RefusedFor, Lines, Names, OfBuild, BuildShown, BuiltPages, StoppedBy, PagesTooLarge, NotYetBuilt, IsBuildShown, IsShown, shown_words, built_words, stop_text, IsNameShown, PageMark, InOutlet, InRow, IsMark, mark_words, with_detail}
+use Rattle.fault_report.specs.FaultLine.{with_detail}
+use Rattle.transcript_text.specs.Transcript.{Shown, StoredAt, RemovedAt, ConflictAt, IsAbsent, IsFull, RefusedFor, Lines, Names, OfBuild, BuildShown, BuiltPages, StoppedBy, PagesTooLarge, NotYetBuilt, IsBuildShown, IsShown, shown_words, built_words, stop_text, IsNameShown, PageMark, InOutlet, InRow, IsMark, mark_words}
 use Rattle.transcript_text.specs.declared.below.Below.{Below}
 use Rattle.transcript_text.specs.declared.below.Below.TheVariants as belows
 use Rattle.transcript_text.specs.Below.{count_of, FitsAt, IsNameText, IsPageText, IsFaultText, below_of}

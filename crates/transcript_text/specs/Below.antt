@@ -5,7 +5,8 @@ use Rattle.std.specs.Fmt.{decimal}
 use Rattle.dita_doc.specs.declared.fault.FaultCode.{FaultCode}
 use Rattle.dita_doc.specs.Faults.{pyx_code_text, fault_code_text}
 use Rattle.dita_doc.specs.Lines.{IsLineText}
-use Rattle.transcript_text.specs.Transcript.{IsNameShown, with_detail, IsNameLine, name_line, PageShown, IsPageShown, page_line, FaultShown, IsFaultShown, fault_line}
+use Rattle.fault_report.specs.FaultLine.{with_detail}
+use Rattle.transcript_text.specs.Transcript.{IsNameShown, IsNameLine, name_line, PageShown, IsPageShown, page_line, FaultShown, IsFaultShown, fault_line}
 use Rattle.dita_doc.specs.Bytes.{Bytes}
 use Rattle.transcript_text.specs.Words.{TextLines, Words, number_of}
 use Rattle.transcript_text.specs.declared.below.Below.{Below}

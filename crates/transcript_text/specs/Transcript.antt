@@ -11,12 +11,12 @@ use Rattle.dita_doc.specs.declared.fault.PyxCode.{PyxCode}
 use Rattle.dita_doc.specs.declared.plan.PlanStop.{PlanStop}
 use Rattle.dita_doc.specs.declared.plan.PlanStop.TheVariants as stops
 use Rattle.dita_doc.specs.PyxEscapes.{escaped}
-use Rattle.dita_doc.specs.Bytes.{space}
-use Rattle.dita_doc.specs.Faults.{pyx_code_text, fault_code_text}
+use Rattle.dita_doc.specs.Faults.{pyx_code_text}
 use Rattle.dita_doc.specs.Lines.{lines_of, line, IsLineText}
 use Rattle.dita_doc.specs.Name.{is_name}
 use Rattle.dita_doc.specs.Desk.{Reply, IsStored, IsRemoved, Bytes, NameList, IsRefused, Conflict, Absent, TooManyNames, Begun, stored_limit}
 use Rattle.dita_doc.specs.History.{Entry}
+use Rattle.fault_report.specs.FaultLine.{line_of}
 
 -- What an entry shows
 
@@ -90,13 +90,8 @@ mark_words (InRow serial) = codes "row " ++ decimal serial
 abbrev pub page_line : PageShown → List ℕ
 page_line page = codes "page " ++ page.name ++ codes " " ++ mark_words page.mark
 
-abbrev pub with_detail : List ℕ → List ℕ
-with_detail [] = []
-with_detail (b ∷ detail) = space ∷ b ∷ detail
-
 abbrev pub fault_line : FaultShown → List ℕ
-fault_line fault = fault.name ++ codes ":" ++ decimal fault.line ++ codes " " ++ fault_code_text fault.code
-    ++ with_detail fault.detail
+fault_line fault = line_of fault.name fault.line fault.code fault.detail
 
 abbrev pub built_lines : BuildShown → List (List ℕ)
 built_lines (BuiltPages pages faults) = map page_line pages ++ map fault_line faults

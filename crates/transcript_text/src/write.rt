@@ -7,15 +7,13 @@ ghost use Rattle.std.specs.List.{flat_map};
 ghost use Rattle.std.specs.Option.{option_copied};
 ghost use Rattle.std.specs.Str.{is_utf8};
 ghost use Rattle.dita_doc.specs.Lines as lines_spec;
-ghost use Rattle.dita_doc.specs.PyxEscapes as pyx_escapes_spec;
 ghost use Rattle.dita_doc.specs.Seen as seen_spec;
 ghost use Rattle.transcript_text.specs.Transcript as transcript_spec;
 ghost use Rattle.transcript_text.specs.Written as written_spec;
 
 use crate::built::{BuiltText, PageMark};
-use dita_doc::{
-    Entry, Fault, List, Name, NoMemory, PlanStop, Read, Reply, append_pyx, split_at_first,
-};
+use dita_doc::{Entry, Fault, List, Name, NoMemory, PlanStop, Read, Reply, split_at_first};
+use fault_report::fault_line;
 use std::alloc::{AllocError, Global};
 
 /// The text of an entry at its place, in the form of transcripts; `built` is what its build gave.
@@ -183,7 +181,7 @@ fn append_name(alloc: Global, out: &mut List<u8>, read: &Read) -> Result<(), All
 }
 
 // Appends what a build gave.
-fn append_built(alloc: Global, out: &mut List<u8>, built: &BuiltText) -> Result<(), AllocError>
+fn append_built(alloc: Global, out: &mut List<u8>, built: &BuiltText) -> Result<(), NoMemory>
     ensures text { let shown = transcript_spec.OfBuild (written_spec.text_shown built.now) in
         OnOk result (out.new ≡ out.old ++ written_spec.shown_text shown) }
     ensures form { OnOk result (transcript_spec.IsBuildShown
@@ -197,9 +195,9 @@ fn append_built(alloc: Global, out: &mut List<u8>, built: &BuiltText) -> Result<
             append_pages(alloc, out, pages.as_slice())?;
             append_faults(alloc, out, faults.as_slice())
         }
-        BuiltText::Stopped(stop) => append_stop(out, *stop),
-        BuiltText::TooLarge(total) => append_number(alloc, out, b"toolarge ", *total),
-        BuiltText::NotYet => out.append(b"notyet\n"),
+        BuiltText::Stopped(stop) => Ok(append_stop(out, *stop)?),
+        BuiltText::TooLarge(total) => Ok(append_number(alloc, out, b"toolarge ", *total)?),
+        BuiltText::NotYet => Ok(out.append(b"notyet\n")?),
     }
 }
 
@@ -252,7 +250,7 @@ fn append_page(
     }
 }
 
-fn append_faults(alloc: Global, out: &mut List<u8>, faults: &[Fault]) -> Result<(), AllocError>
+fn append_faults(alloc: Global, out: &mut List<u8>, faults: &[Fault]) -> Result<(), NoMemory>
     ensures text { let shown = map transcript_spec.fault_shown faults.now in
         let texts = map transcript_spec.fault_line shown in
         OnOk result (out.new ≡ out.old ++ flat_map transcript_spec.bar_line texts) }
@@ -265,29 +263,23 @@ fn append_faults(alloc: Global, out: &mut List<u8>, faults: &[Fault]) -> Result<
     Ok(())
 }
 
-fn append_fault(alloc: Global, out: &mut List<u8>, fault: &Fault) -> Result<(), AllocError>
+fn append_fault(alloc: Global, out: &mut List<u8>, fault: &Fault) -> Result<(), NoMemory>
     ensures text { let text = transcript_spec.fault_line (transcript_spec.fault_shown fault.now) in
         OnOk result (out.new ≡ out.old ++ transcript_spec.bar_line text) }
     ensures form { OnOk result (transcript_spec.IsFaultShown
         (transcript_spec.fault_shown fault.now)) }
 {
-    let line = fault.line;
-    out.append(b"|")?;
-    out.append(fault.name.as_bytes())?;
-    out.append(format!(in alloc; ":{line} ")?.as_bytes())?;
-    out.append(fault.code.text().as_bytes())?;
-    append_detail(out, fault.detail.as_bytes())?;
-    out.append(b"\n")
+    keeps_to_form(fault);
+    append_line(out, fault_line(alloc, fault)?.as_bytes())?;
+    Ok(())
 }
 
-// Appends the detail of a fault, with its escapes, behind a space; an empty one has no space.
-fn append_detail(out: &mut List<u8>, detail: &[u8]) -> Result<(), AllocError>
-    ensures { let shown = pyx_escapes_spec.escaped detail.now in
-        OnOk result (out.new ≡ out.old ++ transcript_spec.with_detail shown) }
+// A fault is in the form by the types of its fields. Each is looked at, so that what its type says
+// is known here.
+fn keeps_to_form(fault: &Fault)
+    ensures { transcript_spec.IsFaultShown (transcript_spec.fault_shown fault.now) }
 {
-    if detail.is_empty() {
-        return Ok(());
-    }
-    out.append(b" ")?;
-    append_pyx(out, detail)
+    let _ = fault.name.as_bytes();
+    let _ = u64::from(fault.line);
+    let _ = fault.detail.as_bytes();
 }

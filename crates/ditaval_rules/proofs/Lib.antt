@@ -1,0 +1,4 @@
+pub mod ReadingLaws
+pub mod RuleLaws
+pub mod SubjectLaws
+pub mod TableLaws

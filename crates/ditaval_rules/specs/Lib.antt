@@ -1,0 +1,4 @@
+pub mod Reading
+pub mod Rules
+pub mod Subject
+pub mod Verdict

@@ -1,0 +1,3 @@
+pub mod CodeNumber
+pub mod FaultLine
+pub mod Report

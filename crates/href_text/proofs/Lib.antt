@@ -1,0 +1,3 @@
+pub mod PartCountLaws
+pub mod ReferenceLaws
+pub mod JoinedLaws
