@@ -17,7 +17,7 @@ use std::alloc::Global;
 #[derive(Debug, Drop)]
 pub enum Opening {
     Put(Name),
-    /// Where this version stands.
+    /// A put that stores only if this version stands under the name.
     PutIf(u64, Name),
 }
 

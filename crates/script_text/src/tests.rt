@@ -6,7 +6,7 @@ use dita_doc::{Body, List, Name, Request, Stop};
 use std::alloc::{AllocError, Global};
 use std::test::Fail;
 
-/// The fault of a script, if it has one.
+// The fault of a script, if it has one.
 fn fault(alloc: Global, bytes: &[u8]) -> Result<Option<ScriptFault>, AllocError> {
     fault_of(read_script(alloc, bytes))
 }
@@ -25,7 +25,7 @@ fn at(code: ScriptCode, line: u32) -> Option<ScriptFault> {
     Some(ScriptFault { code, line })
 }
 
-/// So many lines, all the same.
+// So many lines, all the same.
 fn repeated(alloc: Global, line: &[u8], count: u32) -> Result<List<u8>, AllocError> {
     let mut text = List::new(alloc);
     for _ in 0..count {
@@ -34,7 +34,7 @@ fn repeated(alloc: Global, line: &[u8], count: u32) -> Result<List<u8>, AllocErr
     Ok(text)
 }
 
-/// What was read of a script, each request in one form, whatever form it was written in.
+// What was read of a script, each request in one form, whatever form it was written in.
 fn shown(alloc: Global, bytes: &[u8]) -> Result<Option<List<u8>>, AllocError> {
     let script = match read_script(alloc, bytes) {
         Ok(script) => script,
@@ -81,7 +81,7 @@ fn append_name(text: &mut List<u8>, word: &[u8], name: &Name) -> Result<(), Allo
     text.append(name.as_bytes())
 }
 
-/// The bytes, and whether they are a document.
+// The bytes, and whether they are a document.
 fn append_body(text: &mut List<u8>, body: &Body) -> Result<(), AllocError> {
     text.append(b"[")?;
     text.append(body.bytes.as_slice())?;

@@ -26,18 +26,18 @@ pub enum State {
     Start,
     /// Whole entries.
     Entries(List<EntryText>),
-    /// And an entry of which lines are to come.
+    /// Whole entries, and an entry of which lines are to come.
     Entry(List<EntryText>, EntryText, Below),
-    /// All entries, and whole rows; the serial of the last one, or 0.
+    /// All entries and whole rows, with the serial of the last row, or 0 if there is none.
     Rows(List<EntryText>, List<RowText>, u64),
-    /// And a row of which so many lines are to come.
+    /// All entries, whole rows, and a row of which so many lines are to come.
     Row(List<EntryText>, List<RowText>, RowText, u64),
-    /// All.
+    /// The whole transcript.
     End(Transcript),
 }
 
 impl State {
-    /// Takes the next line, without its LF; nothing is made of one that may not stand there.
+    /// Takes the next line, without its LF. The answer is `None` if the line may not stand there.
     pub fn next(self, alloc: Global, line: &[u8]) -> Result<Option<State>, AllocError>
         requires { cut_spec.Lacks bytes_spec.line_feed line.now }
         ensures sound { (read : TextLines) → state_spec.HasRead self read →
