@@ -1,5 +1,5 @@
 -- How a run ends, by its status, over what the source, the sink and the outlet tell.
-use Rattle.std.specs.Prelude.{◌≡◌, ◌⊎◌, ℕ, [], ◌++◌, Option}
+use Rattle.std.specs.Prelude.{◌≡◌, ◌⊎◌, ℕ, Bool, true, false, [], ◌++◌, Option}
 use Rattle.std.specs.Io.KnownBytes.{Keeps, Appends}
 use Rattle.dita_doc.specs.Bytes.{Bytes}
 use Rattle.dita_outside.specs.Cause.{Rose}
@@ -73,3 +73,10 @@ WritesLast old new before now output status result =
     (Appends old new output × (result ≡ status))
     ⊎ (AppendsFront old new output × ((Rose before now × (result ≡ statuses.WriteFault))
     ⊎ (result ≡ statuses.NoMemory)))
+
+-- the end of the program, where the words decide whether a mode is run: words that are not read touch nothing. Else the
+-- run of their mode ended so; out of memory, it may not have begun
+abbrev pub EndsProgram : (read : Bool) → (runs : Status → Type 0) → (untouched : Type 0) → Status → Type 0
+EndsProgram read runs untouched statuses.Words = (read ≡ false) × untouched
+EndsProgram read runs untouched statuses.NoMemory = ((read ≡ true) × runs statuses.NoMemory) ⊎ untouched
+EndsProgram read runs untouched status = (read ≡ true) × runs status

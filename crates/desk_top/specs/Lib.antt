@@ -3,4 +3,3 @@ pub mod Ends
 pub mod Outside
 pub mod Reads
 pub mod Runs
-pub mod Words

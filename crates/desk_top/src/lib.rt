@@ -14,8 +14,8 @@ mod run;
 #[cfg(test)]
 mod tests;
 mod top;
-mod words;
 
 pub use clean::run_clean;
+pub use command_line::out_folder;
 pub use run_spec::Status;
 pub use top::desk_top;

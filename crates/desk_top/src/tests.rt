@@ -90,22 +90,37 @@ fn a_failed_outlet_has_the_pages_before(rt: HostRuntime) -> Result<(), Fail> {
     Ok(())
 }
 
-#[test]
-fn words_of_no_mode_touch_nothing(rt: HostRuntime) -> Result<(), Fail> {
-    let alloc = rt.alloc();
+// The status of the program over words that are separated by spaces, and what it wrote.
+fn run_words(alloc: Global, line: &str, script: &[u8]) -> Result<(Status, List<u8>), Fail> {
     let mut words = Vec::new(alloc);
-    words.push(String::from_str(alloc, "dita_desk")?)?;
-    words.push(String::from_str(alloc, "fly")?)?;
+    for word in line.split(' ') {
+        words.push(String::from_str(alloc, word)?)?;
+    }
     let mut sink = SureSink::new(alloc);
     let mut outlet = SureOutlet::new(alloc);
-    let status = desk_top(
-        alloc,
-        &words,
-        &mut source(alloc, SCRIPT)?,
-        &mut sink,
-        &mut outlet,
+    let mut source = source(alloc, script)?;
+    let status = desk_top(alloc, &words, &mut source, &mut sink, &mut outlet);
+    Ok((status, List::from_slice(alloc, sink.bytes().as_slice())?))
+}
+
+#[test]
+fn words_that_are_not_read_touch_nothing(rt: HostRuntime) -> Result<(), Fail> {
+    let alloc = rt.alloc();
+    for line in ["dita_desk fly", "dita_desk clean --topics 1"] {
+        let (status, written) = run_words(alloc, line, SCRIPT)?;
+        assert_eq!(rt; (line, status, written.len()), (line, Status::Words, 0));
+    }
+    Ok(())
+}
+
+#[test]
+fn options_of_other_modes_are_read(rt: HostRuntime) -> Result<(), Fail> {
+    let alloc = rt.alloc();
+    let (status, written) = run_words(alloc, "dita_desk clean --topics 2", b"")?;
+    assert_eq!(rt; status, Status::Done);
+    assert_eq!(rt;
+        written.as_slice(),
+        b"dita transcript 1\nend 0 0 0\n".as_slice()
     );
-    assert_eq!(rt; status, Status::Words);
-    assert!(rt; sink.bytes().is_empty());
     Ok(())
 }

@@ -1,47 +1,103 @@
 //! The program `dita_desk`: the words of the command, standard input as the source, standard output
-//! as the sink, and the folder `out` as the outlet. Its exit status is that of the run.
+//! as the sink, and the folder that the words name as the outlet. Its exit status is that of the
+//! run.
 #![tactic(auto)]
 
-use desk_top::{Status, desk_top};
+use command_line::command;
+use desk_top::{Status, desk_top, out_folder};
+use dita_doc::NoMemory;
 use dita_outside::{FolderOutlet, StdSink, StdSource};
-use std::alloc::AllocError;
-use std::env;
 use std::io::ErrorKind;
 use std::process::ExitCode;
+use std::{env, io};
 use thiserror::Error;
 
-// A run that did not end as it should.
+// A run that did not end as it should, and what the system said if it failed.
 #[derive(Debug, Drop, Error)]
-#[error("dita_desk: {0:?}")]
-struct Ended(Status);
-
-fn main(rt: HostRuntime) -> ExitCode {
-    let status = match run(&rt) {
-        Ok(status) => status,
-        Err(_) => Status::NoMemory,
-    };
-    if status != Status::Done {
-        // If standard error can't be written, the exit status alone tells.
-        let _ = rt.eprintln(Ended(status));
-    }
-    ExitCode::from(status.number())
+enum Ended<'a> {
+    #[error("dita_desk: {0:?}")]
+    With(Status),
+    #[error("dita_desk: {status:?}\n{place}: {error}")]
+    Because {
+        status: Status,
+        place: &'a str,
+        error: io::Error,
+    },
 }
 
-fn run(rt: &HostRuntime) -> Result<Status, AllocError> {
+fn main(rt: HostRuntime) -> ExitCode {
+    match run(&rt) {
+        Ok(code) => code,
+        Err(NoMemory) => end(&rt, Status::NoMemory),
+    }
+}
+
+fn run(rt: &HostRuntime) -> Result<ExitCode, NoMemory> {
     let alloc = rt.alloc();
     let mut words = Vec::new(alloc);
     let given = match env::args(rt) {
         Ok(given) => given,
-        // A word that is not UTF-8 is none that the command takes.
-        Err(error) if error.kind() == ErrorKind::InvalidData => return Ok(Status::Words),
-        Err(_) => return Err(AllocError),
+        Err(error) if error.kind() == ErrorKind::InvalidData => {
+            // If standard error can't be written, the exit status alone tells.
+            let _ = rt.eprintln("error: a word of the command is not UTF-8");
+            return Ok(end(rt, Status::Words));
+        }
+        Err(_) => return Err(NoMemory),
     };
     for word in given {
         words.push(word)?;
     }
-    let folder = String::from_str(alloc, "out")?;
+    let folder = out_folder(alloc, words.as_slice())?;
     let mut source = StdSource::new(rt.stdin());
     let mut sink = StdSink::new(rt.stdout());
     let mut outlet = FolderOutlet::new(rt.clone()?, folder);
-    Ok(desk_top(alloc, words.as_slice(), &mut source, &mut sink, &mut outlet))
+    let status = desk_top(alloc, words.as_slice(), &mut source, &mut sink, &mut outlet);
+    match status {
+        Status::Words => refuse(rt, words.as_slice()),
+        Status::ReadFault => Ok(end_by(rt, status, "standard input", source.last_error())),
+        Status::WriteFault => Ok(end_by(rt, status, "standard output", sink.last_error())),
+        Status::OutletFault => match outlet.last_error() {
+            Some(page) => Ok(end_by(rt, status, page.path.as_str(), Some(page.error))),
+            None => Ok(end(rt, status)),
+        },
+        _ => Ok(end(rt, status)),
+    }
+}
+
+// Words that the command does not read: they ask for its help or its version, or are wrong.
+fn refuse(rt: &HostRuntime, words: &[String]) -> Result<ExitCode, NoMemory> {
+    if let Err(error) = command(rt.alloc())?.try_get_matches_from(words) {
+        let printed = error.print(rt);
+        if !error.use_stderr() {
+            return Ok(match printed {
+                Ok(()) => ExitCode::SUCCESS,
+                Err(error) => end_by(rt, Status::WriteFault, "standard output", Some(error)),
+            });
+        }
+    }
+    Ok(end(rt, Status::Words))
+}
+
+// The exit status of a run that failed, with what the system said, if it did.
+fn end_by(rt: &HostRuntime, status: Status, place: &str, error: Option<io::Error>) -> ExitCode {
+    match error {
+        Some(error) => {
+            // If standard error can't be written, the exit status alone tells.
+            let _ = rt.eprintln(Ended::Because {
+                status,
+                place,
+                error,
+            });
+            ExitCode::from(status.number())
+        }
+        None => end(rt, status),
+    }
+}
+
+// The exit status of a run. If it is not that of a run that is done, standard error names it.
+fn end(rt: &HostRuntime, status: Status) -> ExitCode {
+    if status != Status::Done {
+        let _ = rt.eprintln(Ended::With(status));
+    }
+    ExitCode::from(status.number())
 }

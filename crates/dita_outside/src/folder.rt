@@ -4,7 +4,7 @@ ghost use Rattle.std.specs.Prelude.{None};
 
 use crate::count::with_fault;
 use crate::{Failed, Outlet};
-use dita_doc::{Name, Stop};
+use dita_doc::{Name, Stop, Text};
 use std::alloc::Global;
 use std::path::Path;
 use std::rt::Files;
@@ -18,17 +18,41 @@ use std::{fs, io};
 #[derive(Debug, Drop)]
 pub struct FolderOutlet<R: Files + AllocGlobal + Drop> {
     rt: R,
-    folder: String,
+    folder: Text,
     faults: u64,
+    last: Option<PageError>,
+}
+
+/// Why a page was not taken: the path of its file, and the error of the system.
+#[derive(Debug, Drop)]
+pub struct PageError {
+    pub path: String,
+    pub error: io::Error,
 }
 
 impl<R: Files + AllocGlobal + Drop> FolderOutlet<R> {
     /// The folder of this path, which need not be there yet.
-    pub fn new(rt: R, folder: String) -> FolderOutlet<R> {
+    pub fn new(rt: R, folder: Text) -> FolderOutlet<R> {
         FolderOutlet {
             rt,
             folder,
             faults: 0,
+            last: None,
+        }
+    }
+
+    /// Why the last page that was not taken failed. For the reader of a message; no contract rests
+    /// on it.
+    pub fn last_error(&self) -> Option<&PageError> {
+        self.last.as_ref()
+    }
+
+    // Puts a page at its path. A file that holds its bytes already is left as it is.
+    fn put(&self, path: Path<'_>, beside: &str, bytes: &[u8]) -> io::Result<()> {
+        if self.holds(path, bytes) {
+            Ok(())
+        } else {
+            self.write(path, beside, bytes)
         }
     }
 
@@ -70,11 +94,13 @@ impl<R: Files + AllocGlobal + Drop> Outlet for FolderOutlet<R> {
         let path = format!(in alloc; "{folder}/{name}")?;
         // A name has no space, so no page stands where this one is written.
         let beside = format!(in alloc; "{folder}/{name} new")?;
-        let path = Path::new(path.as_str());
-        if self.holds(path, bytes) || self.write(path, beside.as_str(), bytes).is_ok() {
-            return Ok(());
+        match self.put(Path::new(path.as_str()), beside.as_str(), bytes) {
+            Ok(()) => Ok(()),
+            Err(error) => {
+                self.faults = with_fault(self.faults);
+                self.last = Some(PageError { path, error });
+                Err(Stop::Fault(Failed))
+            }
         }
-        self.faults = with_fault(self.faults);
-        Err(Stop::Fault(Failed))
     }
 }

@@ -13,7 +13,7 @@ mod source;
 #[cfg(test)]
 mod tests;
 
-pub use folder::FolderOutlet;
+pub use folder::{FolderOutlet, PageError};
 pub use outlet::{MemOutlet, Outlet, SureOutlet};
 pub use sink::{MemSink, Sink, StdSink, SureSink};
 pub use source::{MemSource, Source, StdSource, SureSource};

@@ -10,7 +10,7 @@ use crate::Failed;
 use crate::count::with_fault;
 use dita_doc::{List, Stop};
 use std::alloc::Global;
-use std::io::Write;
+use std::io::{self, ErrorKind, Write};
 
 /// A sink of bytes.
 pub trait Sink {
@@ -173,12 +173,23 @@ impl Sink for SureSink {
 pub struct StdSink<W: Write> {
     writer: W,
     faults: u64,
+    last: Option<io::Error>,
 }
 
 impl<W: Write> StdSink<W> {
     /// The writer as a sink.
     pub fn new(writer: W) -> StdSink<W> {
-        StdSink { writer, faults: 0 }
+        StdSink {
+            writer,
+            faults: 0,
+            last: None,
+        }
+    }
+
+    /// The error of the last write that failed. For the reader of a message; no contract rests on
+    /// it.
+    pub fn last_error(&self) -> Option<io::Error> {
+        self.last
     }
 }
 
@@ -193,8 +204,9 @@ impl<W: Write> Sink for StdSink<W> {
         }
         match self.writer.write(bytes) {
             Ok(count) if count > 0 => Ok(count),
-            _ => {
+            taken => {
                 self.faults = with_fault(self.faults);
+                self.last = Some(taken.err().unwrap_or(io::Error::from(ErrorKind::WriteZero)));
                 Err(Stop::Fault(Failed))
             }
         }

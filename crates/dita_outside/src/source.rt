@@ -9,7 +9,7 @@ ghost use Rattle.dita_outside.specs.Cause as cause_spec;
 use crate::Failed;
 use crate::count::with_fault;
 use dita_doc::List;
-use std::io::Read;
+use std::io::{self, Read};
 
 /// A source of bytes.
 pub trait Source {
@@ -137,12 +137,22 @@ impl Source for SureSource {
 pub struct StdSource<R: Read> {
     reader: R,
     faults: u64,
+    last: Option<io::Error>,
 }
 
 impl<R: Read> StdSource<R> {
     /// The reader as a source.
     pub fn new(reader: R) -> StdSource<R> {
-        StdSource { reader, faults: 0 }
+        StdSource {
+            reader,
+            faults: 0,
+            last: None,
+        }
+    }
+
+    /// The error of the last read that failed. For the reader of a message; no contract rests on it.
+    pub fn last_error(&self) -> Option<io::Error> {
+        self.last
     }
 }
 
@@ -154,8 +164,9 @@ impl<R: Read> Source for StdSource<R> {
     fn read(&mut self, into: &mut [u8]) -> Result<usize, Failed> {
         match self.reader.read(into) {
             Ok(count) => Ok(count),
-            Err(_) => {
+            Err(error) => {
                 self.faults = with_fault(self.faults);
+                self.last = Some(error);
                 Err(Failed)
             }
         }

@@ -3,8 +3,9 @@
 use crate::{
     Failed, FolderOutlet, MemOutlet, MemSink, MemSource, Outlet, Sink, Source, StdSink, StdSource,
 };
-use dita_doc::{List, Name, Stop};
+use dita_doc::{List, Name, Stop, Text};
 use std::alloc::{AllocError, Global};
+use std::io::ErrorKind;
 use std::os::unix::fs::MetadataExt;
 use std::test::Fail;
 use std::{env, fs};
@@ -83,7 +84,7 @@ fn a_folder_keeps_the_file_of_an_unchanged_page(rt: HostRuntime) -> Result<(), F
     let id = std::process::id(rt.process());
     let folder = format!(in alloc; "{folder}/dita-outlet-{id}")?;
     let file = format!(in alloc; "{folder}/b1/a/t.html")?;
-    let mut outlet = FolderOutlet::new(rt.clone()?, folder.clone()?);
+    let mut outlet = FolderOutlet::new(rt.clone()?, Text::from_str(alloc, folder.as_str())?);
     let page = name(alloc, "b1/a/t.html")?;
     assert_eq!(rt; outlet.put_page(alloc, &page, b"one"), Ok(()));
     let first = fs::metadata(&rt, file.as_str())?.ino();
@@ -100,6 +101,10 @@ fn a_folder_keeps_the_file_of_an_unchanged_page(rt: HostRuntime) -> Result<(), F
         Err(Stop::Fault(Failed))
     );
     assert!(rt; fs::metadata(&rt, beside.as_str()).is_err());
+    let told = outlet.last_error().ok_or("no error")?;
+    let path = format!(in alloc; "{folder}/b1/a")?;
+    assert_eq!(rt; told.path.as_str(), path.as_str());
+    assert_eq!(rt; told.error.kind(), ErrorKind::IsADirectory);
     fs::remove_dir_all(&rt, folder.as_str())?;
     Ok(())
 }

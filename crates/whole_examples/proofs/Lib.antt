@@ -1,5 +1,6 @@
 mod BuildRows
 mod ClassRows
+mod CommandRows
 mod DitavalRows
 mod FaultRows
 mod ReferenceRows

@@ -1,0 +1,33 @@
+-- What the command reads of some kinds of words (own).
+use Rattle.std.specs.Prelude.{◌≡◌, ◌≢◌, ℕ, List, [], ◌∷◌, ◌++◌, codes, true, false}
+use Rattle.clap.specs.ValueTests.{is_unsigned_in}
+use Rattle.clap.specs.Walk.{Text}
+use Rattle.command_line.specs.Command.{is_read, out_folder}
+
+-- the program's name, its mode, and words behind it
+abbrev pub clean_with : Text → List Text → List Text
+clean_with program words = program ∷ codes "clean" ∷ words
+
+-- `--NAME=VALUE`
+abbrev pub set : Text → Text → Text
+set name value = codes "--" ++ (name ++ (codes "=" ++ value))
+
+-- the option is read exactly if its value is a number from the least to the most
+abbrev pub TakesNumber : Text → ℕ → ℕ → Type 0
+TakesNumber name least most = (program value : Text)
+    → is_read (clean_with program (set name value ∷ [])) ≡ is_unsigned_in least most value
+
+-- the option stands at most once
+abbrev pub StandsOnce : Text → Type 0
+StandsOnce name = (program first second : Text)
+    → is_read (clean_with program (set name first ∷ set name second ∷ [])) ≡ false
+
+-- behind `--` no word is an option, and the mode stands there already
+abbrev pub ClosesOptions : Type 0
+ClosesOptions = (program word : Text) → is_read (clean_with program (codes "--" ∷ word ∷ [])) ≡ false
+
+-- a folder's name is any text that is not empty, and it is the folder
+abbrev pub NamesFolder : Type 0
+NamesFolder = (program folder : Text) → folder ≢ []
+    → (is_read (clean_with program (set (codes "out") folder ∷ [])) ≡ true)
+    × (out_folder (clean_with program (set (codes "out") folder ∷ [])) ≡ folder)

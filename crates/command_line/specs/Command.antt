@@ -1,0 +1,79 @@
+-- The words of the program: one command of the crate `clap`, with a mode and options (own).
+use Rattle.std.specs.Prelude.{◌≡◌, Bool, List, [], ◌∷◌, Some, fold, map, codes, unwrap_or, if◌then◌else◌, true}
+use Rattle.std.specs.Borrow.{Bor}
+use Rattle.clap.specs.Simple.{App, matches_of, new_app, new_rule, on_top, with_rule}
+use Rattle.clap.specs.Takes.{takes}
+use Rattle.clap.specs.Walk.{Rule, Text, first_of}
+use Rattle.clap.specs.declared.builder.action.ArgAction.TheVariants.{Set}
+use Rattle.clap.specs.declared.builder.value_parser.ValueParser.{ValueParser}
+use Rattle.clap.specs.declared.builder.value_parser.ValueParser.TheVariants as values
+
+-- texts as references, at no address: what a command reads does not depend on where its own texts lie
+abbrev pub at_no_address : {X : Type 0} → X → Bor X
+at_no_address value = record { ref_ptr = (0, 0); now = value }
+
+abbrev pub one_of_these : List Text → ValueParser
+one_of_these texts = values.Names (at_no_address (map at_no_address texts))
+
+-- the modes of the program
+abbrev pub modes : List Text
+modes = codes "clean" ∷ []
+
+-- an argument of one value
+abbrev pub valued : Text → ValueParser → Rule
+valued id taken = record (new_rule id) { action = Some Set; value_names = 1; parser = Some taken }
+
+-- the mode, which must be there
+abbrev pub mode : ValueParser → Rule
+mode taken = record (valued (codes "mode") taken) { required = true }
+
+-- `--name VALUE` or `--name=VALUE`, at most once; without it the value is this text
+abbrev pub option : Text → ValueParser → Text → Rule
+option name taken text = record (valued name taken) { long = Some name; defaults = text ∷ [] }
+
+-- the folder of the pages, if the words do not name one
+abbrev pub default_folder : Text
+default_folder = codes "out"
+
+-- how many threads work, the number from which a project is made and its topics, where sessions connect and how many, and
+-- the folder of the pages
+abbrev pub options : List Rule
+options = option (codes "workers") (values.Unsigned 1 16) (codes "4")
+    ∷ option (codes "number") (values.Unsigned 0 9223372036854775807) (codes "1")
+    ∷ option (codes "topics") (values.Unsigned 2 4000) (codes "40")
+    ∷ option (codes "port") (values.Unsigned 0 65535) (codes "7070")
+    ∷ option (codes "connections") (values.Unsigned 1 1024) (codes "1")
+    ∷ option (codes "out") values.NonEmptyString default_folder
+    ∷ []
+
+-- a command with this name, which tells its version
+abbrev pub versioned : Text → App
+versioned name = on_top (λ shape. record shape { has_version = true }) (new_app name)
+
+-- the command whose modes are these
+abbrev pub command_of : ValueParser → App
+command_of taken = fold with_rule (versioned (codes "dita_desk")) (mode taken ∷ options)
+
+unfoldable pub command : App
+command = command_of (one_of_these modes)
+
+-- the same, wherever the names of the modes lie
+abbrev pub IsByModes : {X : Type 0} → (ValueParser → X) → X → Type 0
+IsByModes of made = (names : Bor (List (Bor Text))) × (map (λ name. name.now) names.now ≡ modes)
+    × (made ≡ of (values.Names names))
+
+abbrev pub IsMode : Rule → Type 0
+IsMode rule = IsByModes mode rule
+
+abbrev pub IsCommand : App → Type 0
+IsCommand app = IsByModes command_of app
+
+-- the command reads the words, of which the first is the program's name
+abbrev pub is_read : List Text → Bool
+is_read words = takes command words
+
+-- the value of `--out`, if the command reads the words
+abbrev pub out_folder : List Text → Text
+out_folder words = if is_read words
+    then unwrap_or (first_of (codes "out") (matches_of command words)) default_folder
+    else default_folder

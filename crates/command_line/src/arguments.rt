@@ -1,0 +1,89 @@
+//! The command of the program, argument by argument.
+
+ghost use Rattle.std.specs.Prelude.{◌≡◌, IfOk, false};
+ghost use Rattle.clap.specs.Simple.{app_of};
+ghost use Rattle.clap.specs.Walk.{rule_of};
+ghost use Rattle.clap.specs.declared.builder.value_parser.ValueParser.TheVariants as value_parsers;
+ghost use Rattle.command_line.specs.Command as spec;
+
+use clap::builder::ValueParser;
+use clap::{Arg, ArgAction, Command};
+use std::alloc::{AllocError, Global};
+
+const VERSION: &str = "0.1.0";
+
+static MODES: [&str; 1] = ["clean"];
+
+/// The command of the program: a mode, and the options of all modes. A mode ignores the options that
+/// are not its own.
+pub fn command<'a>(alloc: Global) -> Result<Command<'a>, AllocError>
+    ensures { IfOk result (λ command. spec.IsCommand (app_of command)) }
+{
+    let workers = number(alloc, "workers", 1, 16, "4").help("Threads that work on one build");
+    let seed = number(alloc, "number", 0, i64::MAX as u64, "1").help(
+        "The number from which a project is made",
+    );
+    let topics = number(alloc, "topics", 2, 4000, "40").help("Topics of the project that is made");
+    let port = number(alloc, "port", 0, 65535, "7070").help("The port to which sessions connect");
+    let connections = number(alloc, "connections", 1, 1024, "1").help("Sessions that are served");
+    let out = option(alloc, "out", "DIR", ValueParser::NonEmptyString, "out").help(
+        "The folder of the pages",
+    );
+    Command::new(alloc, "dita_desk")
+        .version(VERSION)
+        .about("Publishes documentation written in DITA 1.3")
+        .arg(mode(alloc))?
+        .arg(workers)?
+        .arg(seed)?
+        .arg(topics)?
+        .arg(port)?
+        .arg(connections)?
+        .arg(out)
+}
+
+// The mode, which must be there.
+fn mode<'a>(alloc: Global) -> Arg<'a>
+    ensures rule { spec.IsMode (rule_of result) }
+    ensures here { result.global ≡ false }
+{
+    Arg::new(alloc, "mode")
+        .required(true)
+        .action(ArgAction::Set)
+        .value_name("MODE")
+        .value_parser(MODES.as_slice())
+        .help("clean: answers the script on standard input, on one thread")
+}
+
+// `--name VALUE`, at most once; without it the value is `default`.
+fn option<'a>(
+    alloc: Global,
+    name: &'a str,
+    value: &'a str,
+    values: ValueParser<'a>,
+    default: &'a str,
+) -> Arg<'a>
+    ensures rule { rule_of result ≡ spec.option name.entry.now values.entry default.entry.now }
+    ensures here { result.global ≡ false }
+{
+    Arg::new(alloc, name)
+        .long(name)
+        .action(ArgAction::Set)
+        .value_name(value)
+        .value_parser(values)
+        .default_value(default)
+}
+
+// The same with a number as its value.
+fn number<'a>(alloc: Global, name: &'a str, least: u64, most: u64, default: &'a str) -> Arg<'a>
+    ensures rule { rule_of result
+        ≡ spec.option name.entry.now (value_parsers.Unsigned least most) default.entry.now }
+    ensures here { result.global ≡ false }
+{
+    option(
+        alloc,
+        name,
+        "N",
+        ValueParser::unsigned(least, most),
+        default,
+    )
+}

@@ -1,0 +1,85 @@
+//! The words of the program, as they are written.
+
+use crate::{command, out_folder, reads};
+use std::alloc::{AllocError, Global};
+use std::test::Fail;
+
+fn words(alloc: Global, line: &str) -> Result<Vec<String>, AllocError> {
+    let mut words = Vec::new(alloc);
+    for word in line.split(' ') {
+        words.push(String::from_str(alloc, word)?)?;
+    }
+    Ok(words)
+}
+
+#[test]
+fn words_are_read_or_not(rt: HostRuntime) -> Result<(), Fail> {
+    let alloc = rt.alloc();
+    let read = [
+        "dita_desk clean",
+        "dita_desk clean --topics 2",
+        "dita_desk --out=www clean --number 9223372036854775807",
+        "dita_desk clean --port 0 --workers 16 --connections 1024 --topics 4000",
+        "dita_desk -- clean",
+    ];
+    for line in read {
+        assert_eq!(rt; (line, reads(alloc, &words(alloc, line)?)?), (line, true));
+    }
+    let refused = [
+        "dita_desk",
+        "dita_desk fly",
+        "dita_desk clean clean",
+        "dita_desk clean --topics 1",
+        "dita_desk clean --topics 4001",
+        "dita_desk clean --workers 0",
+        "dita_desk clean --workers 17",
+        "dita_desk clean --number 9223372036854775808",
+        "dita_desk clean --port 65536",
+        "dita_desk clean --connections 0",
+        "dita_desk clean --out a --out b",
+        "dita_desk clean --out=",
+        "dita_desk clean --out",
+        "dita_desk clean --in a",
+        "dita_desk clean -- --topics",
+        "dita_desk --help",
+        "dita_desk --version",
+    ];
+    for line in refused {
+        assert_eq!(rt; (line, reads(alloc, &words(alloc, line)?)?), (line, false));
+    }
+    Ok(())
+}
+
+#[test]
+fn the_folder_is_named(rt: HostRuntime) -> Result<(), Fail> {
+    let alloc = rt.alloc();
+    let folders = [
+        ("dita_desk clean", "out"),
+        ("dita_desk clean --out www", "www"),
+        ("dita_desk --out=a/b clean", "a/b"),
+        ("dita_desk fly --out www", "out"),
+    ];
+    for (line, folder) in folders {
+        let named = out_folder(alloc, &words(alloc, line)?)?;
+        assert_eq!(rt; (line, named.as_str()), (line, folder));
+    }
+    Ok(())
+}
+
+#[test]
+fn help_names_each_option(rt: HostRuntime) -> Result<(), Fail> {
+    let alloc = rt.alloc();
+    let help = command(alloc)?.render_help()?;
+    for part in [
+        "clean",
+        "--workers <N>",
+        "--number <N>",
+        "--topics <N>",
+        "--port <N>",
+        "--connections <N>",
+        "--out <DIR>",
+    ] {
+        assert!(rt; help.as_str().contains(part));
+    }
+    Ok(())
+}
