@@ -1,0 +1,10 @@
+mod Short
+mod MapRows
+mod StopRows
+mod FilterRows
+mod BranchRows
+mod CascadeRows
+mod KeyRows
+mod ChainRows
+mod PageRows
+mod TitleRows

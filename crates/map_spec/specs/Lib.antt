@@ -1,0 +1,13 @@
+pub mod Written
+pub mod Elements
+pub mod Target
+pub mod MapTree
+pub mod Included
+pub mod Judged
+pub mod Branches
+pub mod Cascade
+pub mod Titles
+pub mod Scopes
+pub mod Keys
+pub mod Pages
+pub mod PlanOf
