@@ -1,6 +1,6 @@
 -- The links of a page's elements (DITA 1.3, "URI-based (direct) addressing", "Processing key references to generate text or
 -- link text", "xref", "link", "image"). That a document without a page gets no link, and the faults, are our own.
-use Rattle.std.specs.Prelude.{◌==◌, ◌&&◌, ◌||◌, ℕ, Bool, false, not, List, [], ◌∷◌, ◌++◌, Option, Some, None, is_some, length, map, option_map, slice_get, unwrap_or, codes, bytes_eq, if◌then◌else◌}
+use Rattle.std.specs.Prelude.{◌==◌, ◌&&◌, ◌||◌, ℕ, Bool, true, false, not, List, [], ◌∷◌, ◌++◌, Option, Some, None, is_some, length, map, option_map, slice_get, unwrap_or, codes, bytes_eq, if◌then◌else◌}
 use Rattle.std.specs.List.{filter_map, flat_map}
 use Rattle.std.specs.Option.{option_and_then, option_map_or}
 use Rattle.dita_doc.specs.declared.content.Anchor.{Anchor}
@@ -21,6 +21,8 @@ use Rattle.map_spec.specs.Pages.{page_for}
 use Rattle.map_spec.specs.Target.{default_format, default_scope, is_far, local_file, target_by}
 use Rattle.map_spec.specs.Titles.{first_in, title_in}
 use Rattle.map_spec.specs.Written.{Element, Whole, Written}
+use Rattle.page_spec.specs.Blocks as blocks
+use Rattle.page_spec.specs.Blocks.{Form, row_for}
 use Rattle.page_spec.specs.Places.{Standing, TopicAt, all_standing, is_topic}
 
 -- Where a page's elements are read: the world, the pages of the plan, the page itself with its number, and the keys of its
@@ -214,20 +216,33 @@ pub record Added : Type 0 where
 abbrev pub nothing_added : List Fault → Added
 nothing_added faults = record { anchor = None; link = None; faults = faults }
 
+-- what counts is the form that an element's last type gives it
+abbrev pub is_reference_form : Form → Bool
+is_reference_form blocks.Reference = true
+is_reference_form _ = false
+
+abbrev pub shows_href : Form → Bool
+shows_href blocks.Reference = true
+shows_href blocks.Image = true
+shows_href _ = false
+
+abbrev pub has_form : (Form → Bool) → Element → Bool
+has_form is_form element = option_map_or (λ (row : List ℕ × Form). is_form row.1) (row_for element) false
+
 abbrev pub image_added : Here → Standing → Read → Added
 image_added here standing read = record {
   anchor = Some (record {
     place = standing.place;
-    href = (lead_of here standing.whole.0 read.target).href;
+    href = if has_form shows_href standing.whole.0 then (lead_of here standing.whole.0 read.target).href else None;
     label = None;
   });
   link = None;
   faults = read.faults;
 }
 
--- an element that is neither keyed nor a cross reference holds no link itself
+-- an element that is neither keyed nor shown as a cross reference holds no link itself
 abbrev pub holds_link : Here → Element → Bool
-holds_link here element = is_xref element || is_some (defined_key here element)
+holds_link here element = has_form is_reference_form element || is_some (defined_key here element)
 
 abbrev pub href_held : Here → Element → Lead → Option (List ℕ)
 href_held here element lead = if holds_link here element then lead.href else None
@@ -260,7 +275,7 @@ abbrev pub added_by : Here → Standing → Added
 added_by here standing =
     let element = standing.whole.0 in
     if is_image element then image_added here standing (image_of here element)
-    else if holds_link here element || is_link element
+    else if is_xref element || is_link element || is_some (defined_key here element)
     then linked_added here standing (linked_of here (topic_here standing) element)
     else nothing_added []
 

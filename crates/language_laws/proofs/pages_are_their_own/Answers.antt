@@ -1,0 +1,5 @@
+use Rattle.language_laws.proofs.UseLaws.{plan_own}
+use Rattle.language_laws.proofs.pages_are_their_own.Goals as goal
+
+pub returns : goal.returns
+returns c = plan_own
