@@ -1,4 +1,5 @@
 mod Short
+mod ShortPages
 mod MapRows
 mod StopRows
 mod FilterRows
@@ -8,3 +9,11 @@ mod KeyRows
 mod ChainRows
 mod PageRows
 mod TitleRows
+mod ContentRows
+mod PushRows
+mod LimitRows
+mod LinkRows
+mod AnchorRows
+mod HtmlRows
+mod ContentsRows
+mod BuildRows

@@ -1,0 +1,79 @@
+-- Whole builds that are known by hand.
+use Rattle.std.specs.Fmt.{digits}
+use Rattle.std.specs.Prelude.{ℕ, List, [], ◌∷◌, None, Some, refl, codes}
+use Rattle.build_spec.specs.Built.{Done, Stopped, TooLarge}
+use Rattle.dita_doc.specs.Tree.{Content}
+use Rattle.dita_doc.specs.declared.fault.Fault.{Fault}
+use Rattle.dita_doc.specs.declared.fault.FaultCode.TheVariants as codes_of
+use Rattle.dita_doc.specs.declared.plan.PlanStop.TheVariants as stops
+use Rattle.map_spec.specs.Included.{map_included}
+use Rattle.map_spec.specs.PlanOf.{plan_of}
+use Rattle.page_spec.specs.Blocks.{body_html}
+use Rattle.page_spec.specs.Content.{followed_from, resolved_from}
+use Rattle.page_spec.specs.Contents.{contents, items_from}
+use Rattle.page_spec.specs.Pushes.{all_pushes}
+use Rattle.part_spec.specs.Parts.{IsBuildBy, IsCleanBuild, page_part, rooms}
+use Rattle.reader_spec.specs.World.{World}
+use Rattle.language_examples.proofs.Short.{m, plain, planned, ref, text, these}
+use Rattle.language_examples.proofs.ShortPages.{lines, p, titled}
+
+abbrev hello : Content → World
+hello inside = these (m (ref "t.dita" ∷ []) ∷ titled "t.dita" "t" "Hello" (inside ∷ []) ∷ [])
+
+abbrev in_m : List ℕ
+in_m = codes "m.ditamap"
+
+abbrev contents_page : List ℕ
+contents_page = lines ("<!DOCTYPE html>" ∷ "<html><head><meta charset=\"utf-8\"><title>Contents</title></head>"
+    ∷ "<body>"
+    ∷ "<nav class=\"toc\"><h1>Contents</h1><ul><li><a href=\"t.html\">Hello</a></li></ul></nav>" ∷ "</body></html>"
+    ∷ [])
+
+-- a build has its pages in order, the contents page last, and no faults where there are none
+hello_build : IsCleanBuild (hello (p "A & B")) in_m None (Done ((
+  codes "t.html",
+  lines ("<!DOCTYPE html>"
+      ∷ "<html><head><meta charset=\"utf-8\"><title>Hello</title></head>" ∷ "<body>"
+      ∷ "<article id=\"t\"><h1>Hello</h1><div class=\"body\"><p>A &amp; B</p></div></article>" ∷ "</body></html>" ∷ []),
+)
+    ∷ (codes "index.html", contents_page) ∷ []) [])
+unfolding plan_of map_included page_part all_pushes resolved_from followed_from body_html digits contents items_from
+hello_build = (refl, refl, record { rising = tt; all = λ fault among. among; only = λ fault among. among })
+
+abbrev no_class : Fault
+no_class = record { name = codes "t.dita"; line = 10; code = codes_of.NoClass; detail = codes "p" }
+
+-- faults of pages are those of the build
+build_with_fault : IsCleanBuild (hello (plain "p" [] (text "A & B" ∷ []))) in_m None (Done ((
+  codes "t.html",
+  lines ("<!DOCTYPE html>"
+      ∷ "<html><head><meta charset=\"utf-8\"><title>Hello</title></head>" ∷ "<body>"
+      ∷ "<article id=\"t\"><h1>Hello</h1><div class=\"body\">A &amp; B</div></article>" ∷ "</body></html>" ∷ []),
+)
+    ∷ (codes "index.html", contents_page) ∷ []) (no_class ∷ []))
+unfolding plan_of map_included page_part all_pushes resolved_from followed_from body_html digits contents items_from
+build_with_fault = (refl, refl, record { rising = (tt, tt); all = λ fault among. among; only = λ fault among. among })
+
+-- a build of a map that is not stored stops, and so does one by rules that are not
+no_map : IsCleanBuild (these []) in_m None (Stopped stops.NoMap)
+unfolding plan_of map_included page_part all_pushes resolved_from followed_from body_html digits contents items_from
+no_map = refl
+
+no_ditaval : IsCleanBuild (hello (p "A & B")) in_m (Some (codes "no.ditaval")) (Stopped stops.NoDitaval)
+unfolding plan_of map_included page_part all_pushes resolved_from followed_from body_html digits contents items_from
+no_ditaval = refl
+
+-- a map without references has the contents page alone
+empty_build : IsCleanBuild (these (m [] ∷ [])) in_m None (Done ((
+  codes "index.html",
+  lines ("<!DOCTYPE html>"
+      ∷ "<html><head><meta charset=\"utf-8\"><title>Contents</title></head>" ∷ "<body>"
+      ∷ "<nav class=\"toc\"><h1>Contents</h1></nav>" ∷ "</body></html>" ∷ []),
+) ∷ []) [])
+unfolding plan_of map_included page_part all_pushes resolved_from followed_from body_html digits contents items_from
+empty_build = (refl, refl, record { rising = tt; all = λ fault among. among; only = λ fault among. among })
+
+-- with less room than all pages have bytes there is no page, but their number
+too_large : IsBuildBy rooms 368 (hello (p "A & B")) None (planned (hello (p "A & B"))) (TooLarge 369)
+unfolding plan_of map_included page_part all_pushes resolved_from followed_from body_html digits contents items_from
+too_large = (refl, refl)
