@@ -1,0 +1,89 @@
+//! A page as a whole: its lines, and its limit.
+
+ghost use Rattle.std.specs.Prelude.{◌≡◌, ◌++◌, ◌∷◌, codes, IfOk, OnOk};
+ghost use Rattle.dita_doc.specs.Bytes.{line_feed};
+ghost use Rattle.dita_doc.specs.HtmlEscapes as html_escapes_spec;
+ghost use Rattle.dita_doc.specs.Lines as lines_spec;
+ghost use Rattle.page_spec.specs.PageHtml as spec;
+
+use crate::faults::{copies, too_large};
+use crate::links::append_related_line;
+use dita_doc::{Html, List, Name, NoMemory, PageLink, Text, append_html};
+use std::alloc::{AllocError, Global};
+
+// The most bytes of a page.
+const PAGE_LIMIT: usize = 4_194_304;
+
+/// A page as a whole: its lines, with the links that it shows. `name` and `line` are those of the
+/// root of the page's document, at which the fault of a page over 4 MiB stands.
+pub fn page_html(
+    alloc: Global,
+    name: &Name,
+    line: u32,
+    title: &Text,
+    body: &Html,
+    links: &List<PageLink>,
+) -> Result<Html, NoMemory>
+    ensures { IfOk result (λ html. html
+        ≡ spec.page_html name.now line title.now body.now links.now) }
+{
+    let mut faults = copies(alloc, body.faults.as_slice())?;
+    let bytes = page_text(alloc, title, body.bytes.as_slice(), links.as_slice())?;
+    if bytes.len() <= PAGE_LIMIT {
+        return Ok(Html { bytes, faults });
+    }
+    faults.push(too_large(alloc, name, line)?)?;
+    let bytes = page_text(alloc, title, &[], &[])?;
+    Ok(Html { bytes, faults })
+}
+
+// The lines of a page.
+fn page_text(
+    alloc: Global,
+    title: &Text,
+    body: &[u8],
+    links: &[PageLink],
+) -> Result<List<u8>, AllocError>
+    ensures { IfOk result (λ page. page ≡ spec.page_text title.now body.now links.now) }
+{
+    let mut page = before_body(alloc, title)?.into_bytes();
+    page.append(body)?;
+    page.append(behind_body(alloc, links)?.as_bytes())?;
+    Ok(page)
+}
+
+// The lines before the body.
+fn before_body(alloc: Global, title: &Text) -> Result<Text, AllocError>
+    ensures { IfOk result (λ text. text ≡ lines_spec.line (codes "<!DOCTYPE html>")
+        ++ lines_spec.line (codes "<html><head><meta charset=\"utf-8\"><title>"
+        ++ html_escapes_spec.escaped title.now ++ codes "</title></head>")
+        ++ lines_spec.line (codes "<body>")) }
+{
+    let mut text = Text::new(alloc);
+    text.append("<!DOCTYPE html>\n")?;
+    text.append("<html><head><meta charset=\"utf-8\">")?;
+    append_title(&mut text, title.as_str())?;
+    text.append("</head>\n")?;
+    text.append("<body>\n")?;
+    Ok(text)
+}
+
+fn append_title(out: &mut Text, title: &str) -> Result<(), AllocError>
+    ensures { OnOk result (out.new
+        ≡ out.old ++ codes "<title>" ++ html_escapes_spec.escaped title.now ++ codes "</title>") }
+{
+    out.append("<title>")?;
+    append_html(out, title)?;
+    out.append("</title>")
+}
+
+// The end of the body's line, and the lines behind it.
+fn behind_body(alloc: Global, links: &[PageLink]) -> Result<Text, AllocError>
+    ensures { IfOk result (λ text. text ≡ line_feed ∷ spec.related_line links.now
+        ++ lines_spec.line (codes "</body></html>")) }
+{
+    let mut text = Text::from_str(alloc, "\n")?;
+    append_related_line(&mut text, links)?;
+    text.append("</body></html>\n")?;
+    Ok(text)
+}

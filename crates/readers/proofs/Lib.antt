@@ -1,0 +1,5 @@
+pub mod GrowthLaws
+pub mod FoundedLaws
+pub mod LayerLaws
+pub mod TitleLaws
+pub mod AnsweredLaws
