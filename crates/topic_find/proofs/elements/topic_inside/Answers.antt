@@ -1,0 +1,16 @@
+use Rattle.std.proofs.Common.{[], Some, unwrap_or, refl, ap, ◌∙◌}
+use Rattle.page_spec.specs.Places.{TopicAt}
+use Rattle.topic_find.proofs.WalkLaws.{read_or}
+use Rattle.topic_find.proofs.elements.topic_inside.Goals as goal
+
+pub returns-then-is_topic : goal.returns-then-is_topic
+returns-then-is_topic c = λ name. rw (← c.if-is_topic.ensures name) (ap
+    (λ id. (let topic : TopicAt = record { place = c.args.place; id = id } in Some topic))
+    (
+    ap (λ text. text.now) c.unwrap_or-id.ensures
+    ∙ read_or c.value_of.result _
+    ∙ ap (λ value. unwrap_or value []) c.value_of.ensures
+    ))
+
+pub returns-else-is_topic : goal.returns-else-is_topic
+returns-else-is_topic c = λ name. rw (← c.if-is_topic.ensures name) refl
