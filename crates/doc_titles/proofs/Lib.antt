@@ -1,3 +1,2 @@
-pub mod ChildLaws
 pub mod TitleLaws
 pub mod TopicLaws

@@ -5,7 +5,7 @@ use Rattle.std.proofs.Common.{refl, sym, ap, ◌∙◌, arith}
 use Rattle.std.proofs.lemmas.Bool.{eqb-true}
 use Rattle.map_spec.specs.Titles.{first_text, title_of_document, title_of_topic, topic_named, topics}
 use Rattle.map_spec.specs.Written.{Whole, Written}
-use Rattle.doc_titles.specs.Walk.{title_if_there, topic_wanted}
+use Rattle.doc_titles.specs.Topics.{title_if_there, topic_wanted}
 use Rattle.doc_titles.proofs.TopicLaws.{first_topic}
 
 -- The first text with bytes

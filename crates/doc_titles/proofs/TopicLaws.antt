@@ -8,7 +8,7 @@ use Rattle.std.proofs.lemmas.List.Folds.{find-append}
 use Rattle.map_spec.specs.Elements.{is_whole}
 use Rattle.map_spec.specs.Titles.{first_of_document, id_of, topics}
 use Rattle.map_spec.specs.Written.{Element, Whole, Written, Node, elements_below}
-use Rattle.doc_titles.specs.Walk.{is_wanted, is_wanted_topic, topic_wanted}
+use Rattle.doc_titles.specs.Topics.{is_wanted, is_wanted_topic, topic_wanted}
 
 -- of elements that pass a first test, the first is found that passes a second
 found_from : {X : Type 0} (p : X → Bool) (x : X) (xs : List X) (is passes : Bool) → p x ≡ passes

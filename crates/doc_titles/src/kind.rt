@@ -4,7 +4,7 @@ ghost use Rattle.std.specs.Prelude.{◌≡◌, ℕ, List};
 ghost use Rattle.dita_doc.specs.Tree as tree_spec;
 ghost use Rattle.map_spec.specs.Titles as titles_spec;
 ghost use Rattle.map_spec.specs.Written as written_spec;
-ghost use Rattle.doc_titles.specs.Walk as walk_spec;
+ghost use Rattle.doc_elements.specs.Walk as walk_spec;
 
 use dita_doc::{Doc, DocKind, First, Node, Siblings};
 

@@ -4,7 +4,6 @@
 //! definition of what it answers.
 #![tactic(auto)]
 
-mod class;
 mod kind;
 #[cfg(test)]
 mod tests;

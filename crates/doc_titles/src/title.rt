@@ -1,15 +1,15 @@
 //! The title of a document.
 
-ghost use Rattle.std.specs.Prelude.{◌≡◌, ◌++◌, ℕ, List, IfOk, OnOk};
+ghost use Rattle.std.specs.Prelude.{◌≡◌, ℕ, List, IfOk};
 ghost use Rattle.dita_doc.specs.Tree as tree_spec;
-ghost use Rattle.map_spec.specs.Elements as elements_spec;
 ghost use Rattle.map_spec.specs.Titles as titles_spec;
 ghost use Rattle.map_spec.specs.Written as written_spec;
-ghost use Rattle.doc_titles.specs.Walk as walk_spec;
+ghost use Rattle.doc_elements.specs.Walk as walk_spec;
+ghost use Rattle.doc_titles.specs.Topics as topics_spec;
 
-use crate::class::is_transparent;
 use crate::topics::find_topic;
-use dita_doc::{Doc, First, Name, NoMemory, Node, Siblings, Text, fold};
+use dita_doc::{Doc, Name, NoMemory, Node, Siblings, Text};
+use doc_elements::{first_child, plain_text};
 use std::alloc::{AllocError, Global};
 
 /// The title of the topic named, else of the first topic, else the document's name. The empty text
@@ -45,7 +45,7 @@ fn topic_named<'a>(root: Siblings<'a>, id: &str) -> Option<(&'a Node, Siblings<'
 // The title of a topic that may be there; without one, the empty text.
 fn title_of_topic(alloc: Global, topic: Option<(&Node, Siblings<'_>)>) -> Result<Text, AllocError>
     ensures { (name : List ℕ) → IfOk result (λ title. title
-        ≡ walk_spec.title_if_there (walk_spec.found_in name topic.entry)) }
+        ≡ topics_spec.title_if_there (walk_spec.found_in name topic.entry)) }
 {
     let Some((_, inside)) = topic else {
         return Ok(Text::new(alloc));
@@ -53,66 +53,5 @@ fn title_of_topic(alloc: Global, topic: Option<(&Node, Siblings<'_>)>) -> Result
     match first_child(inside, "topic/title") {
         Some((_, inside)) => plain_text(alloc, inside),
         None => Ok(Text::new(alloc)),
-    }
-}
-
-// The first child of a type, and what it holds. What a transparent element holds stands in its
-// place.
-fn first_child<'a>(siblings: Siblings<'a>, token: &str) -> Option<(&'a Node, Siblings<'a>)>
-    ensures { (name : List ℕ) → walk_spec.found_in name result
-        ≡ elements_spec.first_child token.now (walk_spec.content_in name siblings.entry) }
-{
-    let mut left = siblings;
-    loop {
-        match left.split_first() {
-            First::End => return None,
-            First::Chars { rest, .. } => left = rest,
-            First::Element {
-                node,
-                inside,
-                rest,
-                ..
-            } => {
-                if is_transparent(node) {
-                    if let Some(found) = first_child(inside, token) {
-                        return Some(found);
-                    }
-                } else if node.has_type(token) {
-                    return Some((node, inside));
-                }
-                left = rest;
-            }
-        }
-    }
-}
-
-// All characters, on one line.
-fn plain_text(alloc: Global, siblings: Siblings<'_>) -> Result<Text, AllocError>
-    ensures { (name : List ℕ) → IfOk result (λ text. text
-        ≡ elements_spec.plain_text (walk_spec.content_in name siblings.entry)) }
-{
-    let mut characters = Text::new(alloc);
-    append_characters(&mut characters, siblings)?;
-    fold(alloc, characters.as_str())
-}
-
-// Appends all characters, in document order.
-fn append_characters(out: &mut Text, siblings: Siblings<'_>) -> Result<(), AllocError>
-    ensures { (name : List ℕ) → OnOk result (out.new
-        ≡ out.old ++ written_spec.characters (walk_spec.content_in name siblings.entry)) }
-{
-    let mut left = siblings;
-    loop {
-        match left.split_first() {
-            First::End => return Ok(()),
-            First::Chars { node, rest, .. } => {
-                out.append(node.text.as_str())?;
-                left = rest;
-            }
-            First::Element { inside, rest, .. } => {
-                append_characters(out, inside)?;
-                left = rest;
-            }
-        }
     }
 }

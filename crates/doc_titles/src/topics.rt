@@ -4,7 +4,8 @@ ghost use Rattle.std.specs.Prelude.{◌≡◌, ℕ, List, IfOk};
 ghost use Rattle.dita_doc.specs.Tree as tree_spec;
 ghost use Rattle.map_spec.specs.Titles as titles_spec;
 ghost use Rattle.map_spec.specs.Written as written_spec;
-ghost use Rattle.doc_titles.specs.Walk as walk_spec;
+ghost use Rattle.doc_elements.specs.Walk as walk_spec;
+ghost use Rattle.doc_titles.specs.Topics as topics_spec;
 
 use dita_doc::{Doc, First, NoMemory, Node, Siblings, Text};
 use std::alloc::Global;
@@ -26,7 +27,7 @@ pub(crate) fn find_topic<'a>(
     wanted: Option<&str>,
 ) -> Option<(&'a Node, Siblings<'a>)>
     ensures { (name : List ℕ) → walk_spec.found_in name result
-        ≡ walk_spec.topic_wanted wanted.entry (walk_spec.content_in name siblings.entry) }
+        ≡ topics_spec.topic_wanted wanted.entry (walk_spec.content_in name siblings.entry) }
 {
     let mut left = siblings;
     loop {
@@ -53,7 +54,7 @@ pub(crate) fn find_topic<'a>(
 
 fn is_wanted_topic(element: &Node, wanted: Option<&str>) -> bool
     ensures { (name : List ℕ) → result
-        ≡ walk_spec.is_wanted_topic wanted.entry (walk_spec.element_of name element.now) }
+        ≡ topics_spec.is_wanted_topic wanted.entry (walk_spec.element_of name element.now) }
 {
     element.has_type("topic/topic")
         && match wanted {

@@ -3,7 +3,7 @@ use Rattle.dita_doc.specs.Siblings.{content}
 use Rattle.dita_doc.specs.Tree.{size_of, tree_of}
 use Rattle.map_spec.specs.Titles.{kind_of_document}
 use Rattle.map_spec.specs.Written.{written_in}
-use Rattle.doc_titles.specs.Walk.{content_in}
+use Rattle.doc_elements.specs.Walk.{content_in}
 use Rattle.doc_titles.proofs.kind.kind_of.Given as goal
 
 abbrev pub invariant-loop-rest : goal.invariant-loop-rest

@@ -1,7 +1,8 @@
 use Rattle.std.proofs.Common.{ap, ◌∙◌}
 use Rattle.map_spec.specs.Titles.{title_of_document, topic_named, topics}
 use Rattle.map_spec.specs.Written.{written_in}
-use Rattle.doc_titles.specs.Walk.{content_in, title_if_there}
+use Rattle.doc_elements.specs.Walk.{content_in}
+use Rattle.doc_titles.specs.Topics.{title_if_there}
 use Rattle.doc_titles.proofs.TitleLaws.{title_of_first, title_by_name}
 use Rattle.doc_titles.proofs.title.title_of.Goals as goal
 

@@ -1,7 +1,7 @@
 use Rattle.std.proofs.Common.{sym, ap, ◌∙◌, arith}
 use Rattle.dita_doc.specs.Tree.{size_of}
 use Rattle.map_spec.specs.Written.{written_in}
-use Rattle.doc_titles.specs.Walk.{element_of, whole_of}
+use Rattle.doc_elements.specs.Walk.{element_of, whole_of}
 use Rattle.doc_titles.proofs.TopicLaws.{topic_here, topic_inside, topic_behind}
 use Rattle.doc_titles.proofs.topics.+find_topic.Goals as goal
 

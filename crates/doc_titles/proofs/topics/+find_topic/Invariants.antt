@@ -1,7 +1,8 @@
 use Rattle.std.proofs.Common.{◌≡◌, ◌≤◌, ℕ, List}
 use Rattle.dita_doc.specs.Siblings.{content}
 use Rattle.dita_doc.specs.Tree.{size_of}
-use Rattle.doc_titles.specs.Walk.{content_in, topic_wanted}
+use Rattle.doc_elements.specs.Walk.{content_in}
+use Rattle.doc_titles.specs.Topics.{topic_wanted}
 use Rattle.doc_titles.proofs.topics.+find_topic.Given as goal
 
 abbrev pub decreases-find_topic : goal.decreases-find_topic

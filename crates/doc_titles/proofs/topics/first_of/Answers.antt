@@ -1,7 +1,7 @@
 use Rattle.std.proofs.Common.{[], None, unwrap_or, ap, ◌∙◌}
 use Rattle.map_spec.specs.Titles.{first_of_document}
 use Rattle.map_spec.specs.Written.{written_in}
-use Rattle.doc_titles.specs.Walk.{content_in}
+use Rattle.doc_elements.specs.Walk.{content_in}
 use Rattle.doc_titles.proofs.TopicLaws.{first_id, read_or}
 use Rattle.doc_titles.proofs.topics.first_of.Goals as goal
 

@@ -1,7 +1,7 @@
 use Rattle.std.proofs.Common.{◌≡◌, ◌==◌, ◌&&◌, ◌||◌, not, length}
 use Rattle.std.specs.List.{list_all}
 use Rattle.dita_doc.specs.ClassValue.{is_token, words_of}
-use Rattle.doc_titles.proofs.class.are_tokens.Given as goal
+use Rattle.doc_elements.proofs.types.are_tokens.Given as goal
 
 abbrev pub invariant-loop-word : goal.invariant-loop-word
 invariant-loop-word l = (not (length (words_of l.text) == 0) && list_all is_token (words_of l.text))

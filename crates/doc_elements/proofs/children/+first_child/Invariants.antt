@@ -2,8 +2,8 @@ use Rattle.std.proofs.Common.{◌≡◌, ◌≤◌, ℕ, List}
 use Rattle.dita_doc.specs.Siblings.{content}
 use Rattle.dita_doc.specs.Tree.{size_of}
 use Rattle.map_spec.specs.Elements.{first_child}
-use Rattle.doc_titles.specs.Walk.{content_in}
-use Rattle.doc_titles.proofs.title.+first_child.Given as goal
+use Rattle.doc_elements.specs.Walk.{content_in}
+use Rattle.doc_elements.proofs.children.+first_child.Given as goal
 
 abbrev pub decreases-first_child : goal.decreases-first_child
 decreases-first_child l = size_of (content l.siblings)

@@ -25,7 +25,7 @@ type_by token None = refl
 type_by token (Some value) = type_read token (class_of value)
 
 -- an element is of a type if its class value has the token
-is_of_type : (token : List ℕ) (element : Element) → is_a token element ≡ has_type element.attributes token
+pub is_of_type : (token : List ℕ) (element : Element) → is_a token element ≡ has_type element.attributes token
 is_of_type token element = type_by token (attribute (codes "class") element)
 
 -- it is transparent by whether it has types, and by its name
@@ -36,7 +36,7 @@ transparent_by element types name typed named = rw (typed, named) refl
 -- Children
 
 -- the elements among siblings side by side are those of both, in their order
-siblings_side_by_side : (nodes more : Written) → siblings (side_by_side nodes more) ≡ siblings nodes ++ siblings more
+pub siblings_side_by_side : (nodes more : Written) → siblings (side_by_side nodes more) ≡ siblings nodes ++ siblings more
 siblings_side_by_side End more = refl
 siblings_side_by_side (Chars text doc rest) more = siblings_side_by_side rest more
 siblings_side_by_side (Node element inside rest) more =

@@ -2,8 +2,8 @@ use Rattle.std.proofs.Common.{◌≡◌, ◌≤◌, ◌++◌, ℕ, List}
 use Rattle.dita_doc.specs.Siblings.{content}
 use Rattle.dita_doc.specs.Tree.{size_of}
 use Rattle.map_spec.specs.Written.{characters}
-use Rattle.doc_titles.specs.Walk.{content_in}
-use Rattle.doc_titles.proofs.title.+append_characters.Given as goal
+use Rattle.doc_elements.specs.Walk.{content_in}
+use Rattle.doc_elements.proofs.text.+append_characters.Given as goal
 
 abbrev pub decreases-append_characters : goal.decreases-append_characters
 decreases-append_characters l = size_of (content l.siblings)

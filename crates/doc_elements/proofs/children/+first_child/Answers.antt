@@ -1,9 +1,9 @@
 use Rattle.std.proofs.Common.{sym, ap, ◌∙◌, arith}
 use Rattle.dita_doc.specs.Tree.{size_of}
 use Rattle.map_spec.specs.Written.{written_in}
-use Rattle.doc_titles.specs.Walk.{element_of, whole_of}
-use Rattle.doc_titles.proofs.ChildLaws.{child_inside, child_behind, child_of_other_type}
-use Rattle.doc_titles.proofs.title.+first_child.Goals as goal
+use Rattle.doc_elements.specs.Walk.{element_of, whole_of}
+use Rattle.doc_elements.proofs.ChildLaws.{child_inside, child_behind, child_of_other_type}
+use Rattle.doc_elements.proofs.children.+first_child.Goals as goal
 
 pub returns-in-Some : goal.returns-in-Some
 returns-in-Some t c = λ name.

@@ -1,0 +1,3 @@
+pub mod ChildLaws
+pub mod FaultLaws
+pub mod UnderLaws
