@@ -6,9 +6,11 @@
 mod elements;
 mod meant;
 mod node;
+mod table;
 mod target;
 #[cfg(test)]
 mod tests;
 mod topics;
 
+pub use table::TargetTable;
 pub use target::find_target;

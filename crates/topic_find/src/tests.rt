@@ -3,7 +3,7 @@
 ghost use Rattle.std.specs.Prelude.{◌≡◌, IfOk};
 ghost use Rattle.dita_doc.specs.Tree as tree_spec;
 
-use crate::find_target;
+use crate::{TargetTable, find_target};
 use dita_doc::{Attribute, Doc, List, Name, Node, NodeKind, Text};
 use std::alloc::{AllocError, Global};
 use std::test::Fail;
@@ -85,5 +85,40 @@ fn a_fragment_names_an_element(rt: HostRuntime) -> Result<(), Fail> {
     assert_eq!(rt; find(alloc, "", "b")?, None);
     assert_eq!(rt; find(alloc, "two", "b")?, Some(5));
     assert_eq!(rt; find(alloc, "one", "two")?, None);
+    Ok(())
+}
+
+// A topic with one of the same id in it, a topic without an id, and paragraphs of one id in all.
+fn document_of_same_ids(alloc: Global) -> Result<Doc, AllocError> {
+    let mut nodes = List::new(alloc);
+    nodes.push(element(alloc, "dita", "", "a", 9)?)?;
+    nodes.push(element(alloc, "topic", "- topic/topic ", "one", 5)?)?;
+    nodes.push(element(alloc, "topic", "- topic/topic ", "one", 4)?)?;
+    nodes.push(element(alloc, "p", "- topic/p ", "a", 4)?)?;
+    nodes.push(element(alloc, "p", "- topic/p ", "a", 5)?)?;
+    nodes.push(element(alloc, "topic", "- topic/topic ", "", 9)?)?;
+    nodes.push(element(alloc, "p", "- topic/p ", "b", 7)?)?;
+    nodes.push(element(alloc, "topic", "- topic/topic ", "a", 9)?)?;
+    nodes.push(element(alloc, "p", "- topic/p ", "b", 9)?)?;
+    let mut origins = List::new(alloc);
+    origins.push(name(alloc)?)?;
+    Ok(Doc { origins, nodes })
+}
+
+#[test]
+fn a_table_answers_as_a_walk_does(rt: HostRuntime) -> Result<(), Fail> {
+    let alloc = rt.alloc();
+    let ids = ["", "a", "b", "one", "two"];
+    for doc in [document(alloc)?, document_of_same_ids(alloc)?] {
+        let table = TargetTable::of(alloc, &doc)?;
+        for topic in ids {
+            for element in ids {
+                let topic = text(alloc, topic)?;
+                let element = text(alloc, element)?;
+                let found = table.find(alloc, &topic, &element)?;
+                assert_eq!(rt; found, find_target(&doc, &topic, &element));
+            }
+        }
+    }
     Ok(())
 }
