@@ -1,0 +1,283 @@
+-- Documents in the making: what is put, opened and closed.
+use Rattle.std.specs.Prelude.{◌≡◌, ◌+◌, ◌^◌, ◌<◌, ◌≤◌, ℕ, zero, suc, true, List, [], ◌∷◌, ◌++◌, length, take, drop, nat_lt, reverse}
+use Rattle.std.proofs.Common.{refl, sym, ◌∙◌, ap, subst, arith, append_assoc, length-append, get_or, set}
+use Rattle.std.proofs.lemmas.Bool.{and_parts, ltb-true, lt-ltb, false≢true}
+use Rattle.std.proofs.lemmas.List.{append-nil, take_at, drop_at, length_push, reverse-append}
+use Rattle.dita_doc.specs.declared.doc.Node.{Node}
+use Rattle.dita_doc.specs.declared.doc.NodeKind.{NodeKind}
+use Rattle.dita_doc.specs.declared.doc.NodeKind.TheVariants as kinds
+use Rattle.dita_doc.specs.Siblings.{joined}
+use Rattle.dita_doc.specs.Tree.{Content, End, Chars, Element, size_of, nodes_of, content_of, element_node, is_element, ArePreorder, are_placed, are_places}
+use Rattle.dita_doc.proofs.TreeLaws.{length_nodes, preorder_of_content}
+use Rattle.doc_maker.specs.Made.{AreOpen, IsMade, Made, begins_element, changed_at, ending, leaf_of, made_of, with_end}
+
+-- the nodes of one content behind another
+nodes_joined : (c more : Content) (place : ℕ)
+    → nodes_of (joined c more) place ≡ nodes_of c place ++ nodes_of more (place + size_of c)
+nodes_joined End more place = let same : place ≡ place + 0 = omega arith in ap (λ n. nodes_of more n) same
+nodes_joined (Chars text origin line rest) more place =
+    let behind : place + 1 + size_of rest ≡ place + (1 + size_of rest) = omega arith in
+    rw (nodes_joined rest more (place + 1), behind) refl
+nodes_joined (Element name attributes origin line inside rest) more place =
+    let end = place + 1 + size_of inside in
+    let behind : end + size_of rest ≡ place + (1 + (size_of inside + size_of rest)) = omega arith in
+    rw (nodes_joined rest more end, append_assoc, behind) refl
+
+-- a preorder goes on with any content
+preorder_more : (c : Content) (nodes : List Node) (place end : ℕ) → end ≡ place + length nodes
+    → ArePreorder nodes place → ArePreorder (nodes ++ nodes_of c end) place
+preorder_more c nodes place end is tree =
+    let d = content_of nodes place in
+    let count : length nodes ≡ size_of d = ap length tree ∙ length_nodes d place in
+    let there : end ≡ place + size_of d = omega (arith, count, is) in
+    let all : nodes_of (joined d c) place ≡ nodes ++ nodes_of c end =
+    nodes_joined d c place ∙ ap (λ ns. ns ++ nodes_of c (place + size_of d)) (sym tree)
+    ∙ ap (λ n. nodes ++ nodes_of c n) (sym there) in
+    subst (λ ns. ArePreorder ns place) all (preorder_of_content (joined d c) place)
+
+-- an element that stands at a place
+record PartsAt (nodes : List Node) (place : ℕ) : Type 0 where
+  pub node : Node
+  pub whole : nodes ≡ take place nodes ++ node ∷ drop (place + 1) nodes
+  pub count : length (take place nodes) ≡ place
+  pub kind : is_element node.kind ≡ true
+
+parts_next : (nodes : List Node) (place next : ℕ) → next ≡ place + 1 → begins_element (drop place nodes) ≡ true
+    → (node : Node) × (nodes ≡ take place nodes ++ node ∷ drop next nodes) × (length (take place nodes) ≡ place)
+    × (is_element node.kind ≡ true)
+parts_next [] zero next is begins = absurd (false≢true begins)
+parts_next [] (suc place) next is begins = absurd (false≢true begins)
+parts_next (node ∷ nodes) zero zero is begins = absurd (omega arith)
+parts_next (node ∷ nodes) zero (suc zero) is begins = (node, refl, refl, begins)
+parts_next (node ∷ nodes) zero (suc (suc next)) is begins = absurd (omega arith)
+parts_next (node ∷ nodes) (suc place) zero is begins = absurd (omega arith)
+parts_next (node ∷ nodes) (suc place) (suc next) is begins =
+    let more = parts_next nodes place next (omega arith) begins in
+    (more.0, ap (λ ns. node ∷ ns) more.1, ap suc more.2, more.3)
+
+parts_at : (nodes : List Node) (place : ℕ) → begins_element (drop place nodes) ≡ true → PartsAt nodes place
+parts_at nodes place begins =
+    let parts = parts_next nodes place (place + 1) refl begins in
+    record { node = parts.0; whole = parts.1; count = parts.2; kind = parts.3 }
+
+-- so it stands within them
+pub open_inside : (nodes : List Node) (place : ℕ) (outer : List ℕ) → AreOpen nodes (place ∷ outer)
+    → place < length nodes
+open_inside nodes place outer opened =
+    let parts = parts_at nodes place opened.0 in
+    omega (
+      arith,
+      ap length parts.whole,
+      length-append (take place nodes) (parts.node ∷ drop (place + 1) nodes),
+      parts.count,
+    )
+
+-- nodes, an element behind them, and what it holds so far
+open_with : (before : List Node) (node : Node) (inside : List Node) (place : ℕ) (outer : List ℕ)
+    → length before ≡ place → is_element node.kind ≡ true → ArePreorder inside (place + 1) → AreOpen before outer
+    → AreOpen (before ++ node ∷ inside) (place ∷ outer)
+open_with before node inside place outer count kind tree opened =
+    let here : drop place (before ++ node ∷ inside) ≡ node ∷ inside = drop_at before (node ∷ inside) place count in
+    let same : before ++ node ∷ inside ≡ (before ++ node ∷ []) ++ inside =
+    sym (append_assoc before (node ∷ []) inside) in
+    let behind : drop (place + 1) (before ++ node ∷ inside) ≡ inside =
+    ap (drop (place + 1)) same ∙ drop_at (before ++ node ∷ []) inside (place + 1)
+    (omega (arith, length-append before (node ∷ []), count)) in
+    let front : take place (before ++ node ∷ inside) ≡ before = take_at before (node ∷ inside) place count in (
+      ap begins_element here ∙ kind,
+      subst (λ ns. ArePreorder ns (place + 1)) (sym behind) tree,
+      subst (λ ns. AreOpen ns outer) (sym front) opened,
+    )
+
+-- any content is put into the innermost element
+pub open_more : (c : Content) (nodes : List Node) (opened : List ℕ) (end : ℕ) → end ≡ length nodes
+    → AreOpen nodes opened → AreOpen (nodes ++ nodes_of c end) opened
+open_more c nodes [] end is tree = preorder_more c nodes 0 end (omega (arith, is)) tree
+open_more c nodes (place ∷ outer) end is opened =
+    let parts = parts_at nodes place opened.0 in
+    let before = take place nodes in
+    let inside = drop (place + 1) nodes in
+    let there : end ≡ place + 1 + length inside = omega (
+      arith,
+      is,
+      ap length parts.whole,
+      length-append before (parts.node ∷ inside),
+      parts.count,
+    ) in
+    let all : before ++ parts.node ∷ (inside ++ nodes_of c end) ≡ nodes ++ nodes_of c end =
+    sym (append_assoc before (parts.node ∷ inside) (nodes_of c end))
+    ∙ ap (λ ns. ns ++ nodes_of c end) (sym parts.whole) in
+    subst (λ ns. AreOpen ns (place ∷ outer)) all
+    (open_with before parts.node (inside ++ nodes_of c end) place outer parts.count parts.kind
+    (preorder_more c inside (place + 1) end there opened.1) opened.2)
+
+-- a node that is one content is put
+pub open_leaf : (c : Content) (node : Node) (nodes : List Node) (opened : List ℕ)
+    → nodes_of c (length nodes) ≡ node ∷ [] → AreOpen nodes opened → AreOpen (nodes ++ node ∷ []) opened
+open_leaf c node nodes opened leaf was =
+    subst (λ ns. AreOpen (nodes ++ ns) opened) leaf (open_more c nodes opened (length nodes) refl was)
+
+-- an element is put, and is opened from then on
+pub open_element : (node : Node) (nodes : List Node) (opened : List ℕ) (place : ℕ) → place ≡ length nodes
+    → is_element node.kind ≡ true → AreOpen nodes opened → AreOpen (nodes ++ node ∷ []) (place ∷ opened)
+open_element node nodes opened place is kind was =
+    open_with nodes node [] place opened (sym is) kind refl was
+
+-- Closing
+
+-- the change of a node that stands behind others
+changed_behind : (front : List Node) (node : Node) (back : List Node) (place : ℕ) (change : Node → Node)
+    → length front ≡ place → changed_at place change (front ++ node ∷ back) ≡ front ++ change node ∷ back
+changed_behind [] node back zero change at = refl
+changed_behind [] node back (suc place) change at = absurd (omega arith)
+changed_behind (first ∷ front) node back zero change at = absurd (omega arith)
+changed_behind (first ∷ front) node back (suc place) change at =
+    ap (λ ns. first ∷ ns) (changed_behind front node back place change (omega arith))
+
+-- an element whose end is told
+element_is : (node : Node) (end : ℕ) → is_element node.kind ≡ true
+    → ending end node ≡ element_node node.text node.attributes node.origin node.line end
+element_is node end kind = by_kind node.kind refl
+  where
+    by_kind : (k : NodeKind) → node.kind ≡ k
+        → ending end node ≡ element_node node.text node.attributes node.origin node.line end
+    by_kind kinds.Element is = rw is refl
+    by_kind kinds.Chars is = absurd (false≢true (ap is_element (sym is) ∙ kind))
+
+-- the innermost element ends behind all that was put
+pub open_closed : (nodes : List Node) (place : ℕ) (outer : List ℕ) → AreOpen nodes (place ∷ outer)
+    → AreOpen (with_end place nodes) outer
+open_closed nodes place outer opened =
+    let parts = parts_at nodes place opened.0 in
+    let before = take place nodes in
+    let inside = drop (place + 1) nodes in
+    let node = parts.node in
+    let c = content_of inside (place + 1) in
+    let count : length inside ≡ size_of c = ap length opened.1 ∙ length_nodes c (place + 1) in
+    let there : length nodes ≡ place + 1 + size_of c = omega (
+      arith,
+      count,
+      ap length parts.whole,
+      length-append before (node ∷ inside),
+      parts.count,
+    ) in
+    let d = Element node.text node.attributes node.origin node.line c End in
+    let element : ending (length nodes) node ∷ inside ≡ nodes_of d place =
+    ap (λ n. n ∷ inside) (element_is node (length nodes) parts.kind
+    ∙ ap (element_node node.text node.attributes node.origin node.line) there)
+    ∙ ap (λ ns. element_node node.text node.attributes node.origin node.line (place + 1 + size_of c) ∷ ns)
+    (opened.1 ∙ sym (append-nil (nodes_of c (place + 1)))) in
+    let all : before ++ nodes_of d place ≡ with_end place nodes =
+    ap (λ ns. before ++ ns) (sym element)
+    ∙ sym (changed_behind before node inside place (ending (length nodes)) parts.count)
+    ∙ ap (changed_at place (ending (length nodes))) (sym parts.whole) in
+    subst (λ ns. AreOpen ns outer) all (open_more d before outer place (sym parts.count) opened.2)
+
+-- Lists of nodes
+
+pub changed-set : (nodes : List Node) (place : ℕ) (change : Node → Node) (node : Node) → place < length nodes
+    → node ≡ get_or nodes place node → set nodes place (change node) ≡ changed_at place change nodes
+changed-set [] place change node inside is = absurd (omega arith)
+changed-set (first ∷ nodes) zero change node inside is = ap (λ n. change n ∷ nodes) is
+changed-set (first ∷ nodes) (suc place) change node inside is =
+    ap (λ ns. first ∷ ns) (changed-set nodes place change node (omega arith) is)
+
+pub length-changed : (nodes : List Node) (place : ℕ) (change : Node → Node)
+    → length (changed_at place change nodes) ≡ length nodes
+length-changed [] place change = refl
+length-changed (first ∷ nodes) zero change = refl
+length-changed (first ∷ nodes) (suc place) change = ap suc (length-changed nodes place change)
+
+-- Origins
+
+pub placed_ended : (count end place : ℕ) (nodes : List Node) → are_placed count nodes ≡ true
+    → are_placed count (changed_at place (ending end) nodes) ≡ true
+placed_ended count end place [] placed = placed
+placed_ended count end zero (node ∷ nodes) placed = placed
+placed_ended count end (suc place) (node ∷ nodes) placed =
+    let parts = and_parts (nat_lt node.origin count) (are_placed count nodes) placed in
+    rw (parts.0, placed_ended count end place nodes parts.1) refl
+
+pub placed_push : (count : ℕ) (nodes : List Node) (node : Node) → are_placed count nodes ≡ true → node.origin < count
+    → are_placed count (nodes ++ node ∷ []) ≡ true
+placed_push count [] node placed below = rw (lt-ltb node.origin count below) refl
+placed_push count (first ∷ nodes) node placed below =
+    let parts = and_parts (nat_lt first.origin count) (are_placed count nodes) placed in
+    rw (parts.0, placed_push count nodes node parts.1 below) refl
+
+pub placed_among_more : (count more : ℕ) (nodes : List Node) → count ≤ more → are_placed count nodes ≡ true
+    → are_placed more nodes ≡ true
+placed_among_more count more [] grows placed = refl
+placed_among_more count more (node ∷ nodes) grows placed =
+    let parts = and_parts (nat_lt node.origin count) (are_placed count nodes) placed in
+    let below : node.origin < more = omega (arith, ltb-true node.origin count parts.0) in
+    rw (lt-ltb node.origin more below, placed_among_more count more nodes grows parts.1) refl
+
+pub places_push : (count : ℕ) (places : List ℕ) (place : ℕ) → are_places count places ≡ true → place < count
+    → are_places count (places ++ place ∷ []) ≡ true
+places_push count [] place placed below = rw (lt-ltb place count below) refl
+places_push count (first ∷ places) place placed below =
+    let parts = and_parts (nat_lt first count) (are_places count places) placed in
+    rw (parts.0, places_push count places place parts.1 below) refl
+
+pub places_among_more : (count more : ℕ) (places : List ℕ) → count ≤ more → are_places count places ≡ true
+    → are_places more places ≡ true
+places_among_more count more [] grows placed = refl
+places_among_more count more (place ∷ places) grows placed =
+    let parts = and_parts (nat_lt place count) (are_places count places) placed in
+    let below : place < more = omega (arith, ltb-true place count parts.0) in
+    rw (lt-ltb place more below, places_among_more count more places grows parts.1) refl
+
+-- The maker's fields
+
+-- there are more names
+pub made_among_more : (names more : List (List ℕ)) (nodes : List Node) (hrefs opened : List ℕ)
+    → length names ≤ length more → IsMade (made_of names nodes hrefs opened) → IsMade (made_of more nodes hrefs opened)
+made_among_more names more nodes hrefs opened grows made = record {
+  tree = made.tree;
+  small = made.small;
+  placed = placed_among_more (length names) (length more) nodes grows made.placed;
+  each = made.each;
+  hrefs = places_among_more (length names) (length more) hrefs grows made.hrefs;
+}
+
+-- a node is put, which holds nothing
+pub made_put : (names : List (List ℕ)) (nodes : List Node) (hrefs opened : List ℕ) (was : Made) (node : Node)
+    (href : ℕ) → made_of names nodes hrefs opened ≡ was → IsMade (made_of names nodes hrefs opened)
+    → nodes_of (leaf_of node) (length was.nodes) ≡ node ∷ [] → length was.nodes + 1 < 2 ^ 32
+    → node.origin < length was.names → href < length was.names
+    → IsMade (made_of names (nodes ++ node ∷ []) (hrefs ++ href ∷ []) opened)
+made_put names nodes hrefs opened was node href view made leaf room origin below =
+    let count : length was.nodes ≡ length nodes = ap (λ (m : Made). length m.nodes) (sym view) in
+    let among : length was.names ≡ length names = ap (λ (m : Made). length m.names) (sym view) in
+    record {
+      tree = open_leaf (leaf_of node) node nodes (reverse opened)
+          (subst (λ n. nodes_of (leaf_of node) n ≡ node ∷ []) count leaf) made.tree;
+      small = omega (arith, length_push nodes node, count, room);
+      placed = placed_push (length names) nodes node made.placed (omega (arith, among, origin));
+      each = omega (arith, length_push nodes node, length_push hrefs href, made.each);
+      hrefs = places_push (length names) hrefs href made.hrefs (omega (arith, among, below));
+    }
+
+-- the innermost element is taken from those that are open, and ends
+pub made_closed : (names : List (List ℕ)) (nodes : List Node) (hrefs opened outer : List ℕ) (place : ℕ)
+    → IsMade (made_of names nodes hrefs opened) → opened ≡ outer ++ place ∷ []
+    → IsMade (made_of names (with_end place nodes) hrefs outer)
+made_closed names nodes hrefs opened outer place made popped =
+    let places : reverse opened ≡ place ∷ reverse outer =
+    ap reverse popped ∙ reverse-append outer (place ∷ []) in
+    let count = length-changed nodes place (ending (length nodes)) in
+    record {
+      tree = open_closed nodes place (reverse outer) (subst (AreOpen nodes) places made.tree);
+      small = omega (arith, count, made.small);
+      placed = placed_ended (length names) (length nodes) place nodes made.placed;
+      each = made.each ∙ sym count;
+      hrefs = made.hrefs;
+    }
+
+-- and stands among the nodes
+pub made_inside : (names : List (List ℕ)) (nodes : List Node) (hrefs opened outer : List ℕ) (place : ℕ)
+    → IsMade (made_of names nodes hrefs opened) → opened ≡ outer ++ place ∷ [] → place < length nodes
+made_inside names nodes hrefs opened outer place made popped =
+    open_inside nodes place (reverse outer)
+    (subst (AreOpen nodes) (ap reverse popped ∙ reverse-append outer (place ∷ [])) made.tree)
