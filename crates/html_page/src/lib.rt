@@ -1,7 +1,8 @@
 //! Pages as a whole.
 //!
 //! What is used above it: the bytes and the faults of a page are those that the definition of a
-//! page gives for its title, its body and its links.
+//! page gives for its title, its body and its links. Pages without a limit are made of the same
+//! lines and anchors.
 #![tactic(auto)]
 
 mod faults;
@@ -10,4 +11,5 @@ mod page;
 #[cfg(test)]
 mod tests;
 
-pub use page::page_html;
+pub use links::append_anchor;
+pub use page::{page_html, page_text};

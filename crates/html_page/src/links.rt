@@ -31,8 +31,8 @@ fn append_item(out: &mut Text, link: &PageLink) -> Result<(), AllocError>
     out.append("</li>")
 }
 
-// Appends an anchor, which shows a text and leads to a page.
-fn append_anchor(out: &mut Text, href: &str, text: &str) -> Result<(), AllocError>
+/// Appends an anchor, which shows a text and leads to a page.
+pub fn append_anchor(out: &mut Text, href: &str, text: &str) -> Result<(), AllocError>
     ensures { OnOk result (out.new ≡ out.old ++ codes "<a href=\""
         ++ html_escapes_spec.escaped_value href.now ++ codes "\">"
         ++ html_escapes_spec.escaped text.now ++ codes "</a>") }

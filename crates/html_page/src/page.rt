@@ -37,8 +37,8 @@ pub fn page_html(
     Ok(Html { bytes, faults })
 }
 
-// The lines of a page.
-fn page_text(
+/// The lines of a page, of any length.
+pub fn page_text(
     alloc: Global,
     title: &Text,
     body: &[u8],
