@@ -1,0 +1,48 @@
+//! Copies of targets and of what keys give.
+
+use dita_doc::{Fault, KeyAnswer, List, NoMemory, Reference, Target};
+use std::alloc::Global;
+
+/// A copy of a target with texts of its own.
+pub fn copy_target(alloc: Global, target: &Target) -> Result<Target, NoMemory> {
+    Ok(match target {
+        Target::Nothing => Target::Nothing,
+        Target::Local(name, reference) => {
+            Target::Local(name.clone()?, copy_reference(alloc, reference)?)
+        }
+        Target::File(name, rest) => Target::File(name.clone()?, rest.clone()?),
+        Target::Other(value) => Target::Other(value.clone()?),
+    })
+}
+
+/// A copy of the three parts of a reference.
+pub fn copy_reference(_alloc: Global, reference: &Reference) -> Result<Reference, NoMemory> {
+    Ok(Reference {
+        file: reference.file.clone()?,
+        topic: reference.topic.clone()?,
+        element: reference.element.clone()?,
+    })
+}
+
+/// A copy of what a key gives, its faults included.
+pub fn copy_answer(alloc: Global, answer: &KeyAnswer) -> Result<KeyAnswer, NoMemory> {
+    let mut faults = List::new(alloc);
+    for fault in answer.faults.as_slice() {
+        faults.push(copy_fault(fault)?)?;
+    }
+    Ok(KeyAnswer {
+        node: answer.node,
+        target: copy_target(alloc, &answer.target)?,
+        label: answer.label.clone()?,
+        faults,
+    })
+}
+
+fn copy_fault(fault: &Fault) -> Result<Fault, NoMemory> {
+    Ok(Fault {
+        name: fault.name.clone()?,
+        line: fault.line,
+        code: fault.code,
+        detail: fault.detail.clone()?,
+    })
+}
