@@ -1,0 +1,11 @@
+//! The attributes that cascade in a map: what holds at each node, by its walk to the root.
+//!
+//! What is used above it: each node of the plan carries its values, so that no later step walks up
+//! again. It is proved safe and to return.
+#![tactic(auto)]
+
+mod nearest;
+mod tokens;
+mod values;
+
+pub use values::cascade;

@@ -1,0 +1,37 @@
+//! The branches around nodes.
+
+use dita_doc::NoMemory;
+use std::alloc::Global;
+
+/// Chains of branches that stand around a node, each by its place: the inner ones first. The chain
+/// at place 0 is empty.
+#[derive(Debug, Drop)]
+pub(crate) struct Chains {
+    chains: Vec<Vec<usize>>,
+}
+
+impl Chains {
+    pub fn new(alloc: Global) -> Result<Chains, NoMemory> {
+        let mut chains = Vec::new(alloc);
+        chains.push(Vec::new(alloc))?;
+        Ok(Chains { chains })
+    }
+
+    /// The branches of a chain.
+    pub fn get(&self, chain: usize) -> &[usize] {
+        match self.chains.get(chain) {
+            Some(branches) => branches.as_slice(),
+            None => &[],
+        }
+    }
+
+    /// Makes the chain of a branch within those of a chain, and gives its place.
+    pub fn put(&mut self, alloc: Global, branch: usize, chain: usize) -> Result<usize, NoMemory> {
+        let mut branches = Vec::new(alloc);
+        branches.push(branch)?;
+        branches.extend_from_slice(self.get(chain))?;
+        let place = self.chains.len();
+        self.chains.push(branches)?;
+        Ok(place)
+    }
+}
