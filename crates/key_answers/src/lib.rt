@@ -1,0 +1,12 @@
+//! What keys give where they are used: the node that defines a key, its target and its text.
+//!
+//! What is used above it: `answer_with`, over the elements of the map's nodes, which are looked up
+//! once for all keys. It is proved safe and to return.
+#![tactic(auto)]
+
+mod chain;
+mod defined;
+mod given;
+mod label;
+
+pub use given::{answer, answer_with};

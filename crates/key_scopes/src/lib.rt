@@ -1,0 +1,18 @@
+//! Key scopes, and the search for the definition of a key.
+//!
+//! What is used above it: `scopes` makes the table once for a map, and `find` looks up keys in it
+//! without memory. It is proved safe and to return.
+#![tactic(auto)]
+
+mod children;
+mod definitions;
+mod made;
+mod names;
+mod numbering;
+mod search;
+mod spans;
+mod table;
+
+pub use made::{ScopesMade, scopes};
+pub use search::find;
+pub use table::ScopeTable;
