@@ -1,0 +1,105 @@
+//! The state of a page that is being resolved.
+
+use crate::chain::Place;
+use crate::origin::origin_of;
+use crate::rules::PageRules;
+use dita_doc::{Context, Doc, Fault, FaultCode, List, Name, NoMemory, Node, Resolved, Stop};
+use doc_elements::fault_at;
+use doc_maker::DocMaker;
+use std::alloc::Global;
+
+// How many nodes a page may have.
+const COUNT_LIMIT: u32 = 262_144;
+
+// The count of a page that has more.
+pub(crate) const TOO_MANY: u32 = COUNT_LIMIT + 1;
+
+// The answer that a page has too many nodes.
+#[derive(Clone, Copy, Debug)]
+pub(crate) struct TooMany;
+
+// Where nodes are resolved: the id of the topic around them, how many targets they are resolved
+// within, which are the first of the path, and whether they are of a range.
+#[derive(Clone, Copy)]
+pub(crate) struct At<'a> {
+    pub topic: &'a str,
+    pub links: u32,
+    pub is_range: bool,
+}
+
+// The content that was made so far, and what is needed to go on.
+#[derive(Drop)]
+pub(crate) struct Resolver<'a> {
+    pub alloc: Global,
+    pub context: &'a Context,
+    pub rules: PageRules<'a>,
+    pub maker: DocMaker,
+    pub faults: List<Fault>,
+    // The targets that are being resolved, the outermost first. What stands behind those that
+    // count is left over.
+    pub path: Vec<Place>,
+    // How many elements may be open around one whose reference is followed.
+    pub deepest: usize,
+    count: u32,
+}
+
+impl<'a> Resolver<'a> {
+    pub(crate) fn new(
+        alloc: Global,
+        context: &'a Context,
+        rules: PageRules<'a>,
+        deepest: usize,
+    ) -> Self {
+        Resolver {
+            alloc,
+            context,
+            rules,
+            maker: DocMaker::new(alloc),
+            faults: List::new(alloc),
+            path: Vec::new(alloc),
+            deepest,
+            count: 0,
+        }
+    }
+
+    pub(crate) fn finish(self) -> Resolved {
+        let Resolver {
+            maker,
+            faults,
+            count,
+            ..
+        } = self;
+        maker.finish_resolved(count, faults)
+    }
+
+    // Counts a node, unless it is one too many.
+    pub(crate) fn count_one(&mut self) -> Result<(), Stop<TooMany>> {
+        if self.count >= COUNT_LIMIT {
+            return Err(Stop::Fault(TooMany));
+        }
+        self.count += 1;
+        Ok(())
+    }
+
+    // Puts a text of a document.
+    pub(crate) fn put_chars(&mut self, doc: &Doc, node: &Node) -> Result<(), Stop<TooMany>> {
+        self.count_one()?;
+        if let Some(origin) = origin_of(doc, node) {
+            self.maker
+                .put_chars(self.alloc, node.text.clone()?, origin)?;
+        }
+        Ok(())
+    }
+
+    // Appends a fault of an element that was written in the document of this name.
+    pub(crate) fn push_fault(
+        &mut self,
+        origin: &Name,
+        element: &Node,
+        code: FaultCode,
+        detail: &str,
+    ) -> Result<(), NoMemory> {
+        let fault = fault_at(self.alloc, origin, element, code, detail)?;
+        Ok(self.faults.push(fault)?)
+    }
+}

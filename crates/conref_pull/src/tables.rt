@@ -1,0 +1,94 @@
+//! What is kept for all pages of a plan.
+
+use crate::rules::RuleLists;
+use dita_doc::{Doc, Name, NoMemory, NodeKind, Text};
+use std::alloc::Global;
+use std::collections::BTreeMap;
+use topic_find::TargetTable;
+
+/// What was read of the documents of a plan, each when a page first needs it: where their elements
+/// stand, and the rules of each DITAVAL. It holds for one plan over one world, and each answer by it
+/// is the same as with new tables.
+#[derive(Debug, Drop)]
+pub struct Tables {
+    pub(crate) rules: RuleLists,
+    pub(crate) places: PlaceTables,
+}
+
+impl Tables {
+    pub fn new(alloc: Global) -> Self {
+        Tables {
+            rules: RuleLists::new(alloc),
+            places: PlaceTables::new(alloc),
+        }
+    }
+}
+
+// Where the elements of documents stand, by the names of the documents.
+#[derive(Debug, Drop)]
+pub(crate) struct PlaceTables {
+    targets: BTreeMap<Name, TargetTable>,
+    // For each node the place behind the last of its siblings.
+    ends: BTreeMap<Name, Vec<u32>>,
+}
+
+impl PlaceTables {
+    fn new(alloc: Global) -> Self {
+        PlaceTables {
+            targets: BTreeMap::new(alloc),
+            ends: BTreeMap::new(alloc),
+        }
+    }
+
+    // The place of the element of a document that a fragment names.
+    pub(crate) fn find(
+        &mut self,
+        alloc: Global,
+        name: &Name,
+        doc: &Doc,
+        topic: &Text,
+        element: &Text,
+    ) -> Result<Option<u32>, NoMemory> {
+        if let Some(table) = self.targets.get(name) {
+            return table.find(alloc, topic, element);
+        }
+        let table = TargetTable::of(alloc, doc)?;
+        let found = table.find(alloc, topic, element)?;
+        let _ = self.targets.insert(name.clone()?, table)?;
+        Ok(found)
+    }
+
+    // The place behind the last sibling of the node at this place; for a root it is the greatest.
+    pub(crate) fn siblings_end(
+        &mut self,
+        alloc: Global,
+        name: &Name,
+        doc: &Doc,
+        place: u32,
+    ) -> Result<Option<u32>, NoMemory> {
+        if let Some(ends) = self.ends.get(name) {
+            return Ok(ends.get(place as usize).copied());
+        }
+        let ends = ends_in(alloc, doc)?;
+        let end = ends.get(place as usize).copied();
+        let _ = self.ends.insert(name.clone()?, ends)?;
+        Ok(end)
+    }
+}
+
+// For each node of a document the place behind the last of its siblings; for a root the greatest.
+fn ends_in(alloc: Global, doc: &Doc) -> Result<Vec<u32>, NoMemory> {
+    let mut ends = Vec::new(alloc);
+    // The ends of the elements around a node, the innermost last.
+    let mut around: Vec<u32> = Vec::new(alloc);
+    for (place, node) in doc.nodes.as_slice().iter().enumerate() {
+        while around.last().is_some_and(|end| *end as usize <= place) {
+            let _ = around.pop();
+        }
+        ends.push(around.last().copied().unwrap_or(u32::MAX))?;
+        if node.kind == NodeKind::Element {
+            around.push(node.end)?;
+        }
+    }
+    Ok(ends)
+}

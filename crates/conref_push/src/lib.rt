@@ -1,0 +1,19 @@
+//! Pushes of content: what goes into a document from others, the faults of pushing elements, and the
+//! document with its pushes.
+//!
+//! What is used above it: that each call is safe and returns.
+#![tactic(auto)]
+
+mod acts;
+mod attributes;
+mod pushed_doc;
+mod pushing;
+mod sources;
+mod special;
+mod table;
+mod target_docs;
+
+pub use acts::acts_in;
+pub use pushed_doc::pushed;
+pub use special::is_special;
+pub use table::{PushTable, pushes_into};
