@@ -1,0 +1,13 @@
+//! Links between the pages of a plan: the nodes that they go from and to, and the list of one page,
+//! in which each other page stands once.
+//!
+//! What is used above it: `LinkNodes`, which asks for the page of each node once, and `LinkList`,
+//! to which the links by collections and by relationship tables are appended. It is proved safe and
+//! to return.
+#![tactic(auto)]
+
+mod link_list;
+mod link_nodes;
+
+pub use link_list::{LinkList, LinksMade};
+pub use link_nodes::{LinkNode, LinkNodes};

@@ -1,0 +1,12 @@
+//! Links by relationship tables: from each page in a cell of a row to those in its other cells, and
+//! in a cell that is a family also to those beside it.
+//!
+//! What is used above it: `Rows`, made once for a plan, and `by_rows`, which makes the links of one
+//! page alone. It is proved safe and to return.
+#![tactic(auto)]
+
+mod cells;
+mod linked;
+mod table;
+
+pub use table::{Rows, by_rows};
