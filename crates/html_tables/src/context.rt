@@ -1,0 +1,49 @@
+//! Where an element stands among the tables around it.
+
+/// Whether a cell heads its column here, and the nearest group of rows.
+#[derive(Clone, Copy, Debug)]
+pub struct TableContext {
+    /// Whether a cell of a table heads its column.
+    pub head: bool,
+    /// Whether a cell of a simple table heads its column.
+    pub simple_head: bool,
+    /// The number of the nearest group among those that were met.
+    pub group: Option<usize>,
+}
+
+impl TableContext {
+    /// Where no table stands around.
+    pub fn outside() -> TableContext {
+        TableContext {
+            head: false,
+            simple_head: false,
+            group: None,
+        }
+    }
+
+    /// Where what an element holds stands, by the token that counts for the element and the nearest
+    /// group.
+    pub fn within(self, token: &str, group: Option<usize>) -> TableContext {
+        TableContext {
+            head: head_in(token, self.head),
+            simple_head: simple_head_in(token, self.simple_head),
+            group,
+        }
+    }
+}
+
+fn head_in(token: &str, around: bool) -> bool {
+    match token {
+        "topic/thead" => true,
+        "topic/tbody" | "topic/table" => false,
+        _ => around,
+    }
+}
+
+fn simple_head_in(token: &str, around: bool) -> bool {
+    match token {
+        "topic/sthead" => true,
+        "topic/strow" | "topic/simpletable" => false,
+        _ => around,
+    }
+}
