@@ -1,0 +1,26 @@
+//! The build of a map by the evaluators of the whole language: its plan, each of its pages, the
+//! contents page, and all of them together.
+//!
+//! What is used above it: `clean`. It is proved safe and to return.
+#![tactic(auto)]
+
+mod body;
+mod build_tables;
+mod faults;
+mod gathered;
+mod ground;
+mod hrefs;
+mod key_memo;
+mod page_table;
+mod parts;
+mod plan_asker;
+mod plan_keys;
+mod planning;
+mod push_memo;
+mod root;
+mod single_parts;
+mod whole_build;
+
+pub use planning::plan;
+pub use single_parts::{page, toc};
+pub use whole_build::clean;
