@@ -88,18 +88,15 @@ fn a_fragment_names_an_element(rt: HostRuntime) -> Result<(), Fail> {
     Ok(())
 }
 
-// A topic with one of the same id in it, a topic without an id, and paragraphs of one id in all.
+// A topic with one of the same id in it, and a topic without an id, with a paragraph of one id in each.
 fn document_of_same_ids(alloc: Global) -> Result<Doc, AllocError> {
     let mut nodes = List::new(alloc);
-    nodes.push(element(alloc, "dita", "", "a", 9)?)?;
-    nodes.push(element(alloc, "topic", "- topic/topic ", "one", 5)?)?;
+    nodes.push(element(alloc, "dita", "", "a", 6)?)?;
+    nodes.push(element(alloc, "topic", "- topic/topic ", "one", 4)?)?;
     nodes.push(element(alloc, "topic", "- topic/topic ", "one", 4)?)?;
     nodes.push(element(alloc, "p", "- topic/p ", "a", 4)?)?;
-    nodes.push(element(alloc, "p", "- topic/p ", "a", 5)?)?;
-    nodes.push(element(alloc, "topic", "- topic/topic ", "", 9)?)?;
-    nodes.push(element(alloc, "p", "- topic/p ", "b", 7)?)?;
-    nodes.push(element(alloc, "topic", "- topic/topic ", "a", 9)?)?;
-    nodes.push(element(alloc, "p", "- topic/p ", "b", 9)?)?;
+    nodes.push(element(alloc, "topic", "- topic/topic ", "", 6)?)?;
+    nodes.push(element(alloc, "p", "- topic/p ", "a", 6)?)?;
     let mut origins = List::new(alloc);
     origins.push(name(alloc)?)?;
     Ok(Doc { origins, nodes })
