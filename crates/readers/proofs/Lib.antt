@@ -1,5 +1,6 @@
 pub mod GrowthLaws
 pub mod FoundedLaws
+pub mod DocumentLaws
 pub mod LayerLaws
 pub mod TitleLaws
 pub mod AnsweredLaws

@@ -3,6 +3,8 @@
 ghost use Rattle.std.specs.Prelude.{◌≡◌, ℕ, [], ◌∷◌, List, IfOk, IfSome};
 ghost use Rattle.page_spec.specs.Pushes.{pushed};
 ghost use Rattle.reader_spec.specs.World.{World};
+ghost use Rattle.readers.specs.Documents as documents_spec;
+ghost use Rattle.readers.specs.Documents.{AsksOnly};
 ghost use Rattle.readers.specs.Founded as founded_spec;
 ghost use Rattle.readers.specs.Founded.{AreAllowed, Grows, StaysFounded};
 ghost use Rattle.readers.specs.Named as named_spec;
@@ -28,6 +30,8 @@ pub trait Reader {
         ensures origin { IfOk result (λ found. IfSome (told_spec.doc_of found)
             (λ doc. doc.origins ≡ name.now ∷ [])) }
         ensures founded { StaysFounded (name.now ∷ []) (told self.old) (told self.new) }
+        ensures asks { AsksOnly documents_spec.nothing (name.now ∷ []) (told self.old)
+            (told self.new) }
         ensures grows { Grows (told self.old) (told self.new) };
 
     ghost agrees: { (r : Self) → Agrees (stand r).world (told r) };
@@ -40,6 +44,8 @@ pub trait Titles: Reader {
         ensures told { IfOk result (λ answer. Self.told self.new
             ≡ told_spec.kind name.now answer ∷ Self.told self.old) }
         ensures founded { StaysFounded (name.now ∷ []) (Self.told self.old) (Self.told self.new) }
+        ensures asks { AsksOnly documents_spec.nothing [] (Self.told self.old)
+            (Self.told self.new) }
         ensures grows { Grows (Self.told self.old) (Self.told self.new) };
 
     /// The title of a topic of a document; the empty text names no topic.
@@ -48,6 +54,8 @@ pub trait Titles: Reader {
         ensures told { IfOk result (λ text. Self.told self.new
             ≡ told_spec.title name.now topic.now text ∷ Self.told self.old) }
         ensures founded { StaysFounded (name.now ∷ []) (Self.told self.old) (Self.told self.new) }
+        ensures asks { AsksOnly documents_spec.nothing [] (Self.told self.old)
+            (Self.told self.new) }
         ensures grows { Grows (Self.told self.old) (Self.told self.new) };
 
     /// The id of a document's first topic; empty if there is none.
@@ -56,6 +64,8 @@ pub trait Titles: Reader {
         ensures told { IfOk result (λ id. Self.told self.new
             ≡ told_spec.first name.now id ∷ Self.told self.old) }
         ensures founded { StaysFounded (name.now ∷ []) (Self.told self.old) (Self.told self.new) }
+        ensures asks { AsksOnly documents_spec.nothing [] (Self.told self.old)
+            (Self.told self.new) }
         ensures grows { Grows (Self.told self.old) (Self.told self.new) };
 }
 
@@ -69,6 +79,8 @@ pub trait Keys: Titles {
             ∷ Self.told self.old) }
         ensures founded { StaysFounded (founded_spec.homes (Self.stand self.old).setting.nodes)
             (Self.told self.old) (Self.told self.new) }
+        ensures asks { AsksOnly documents_spec.nothing [] (Self.told self.old)
+            (Self.told self.new) }
         ensures grows { Grows (Self.told self.old) (Self.told self.new) };
 }
 
@@ -81,6 +93,8 @@ pub trait Asker: Keys {
             ≡ told_spec.pushes (Self.stand self.old).setting.documents name.now answer
             ∷ Self.told self.old) }
         ensures founded { StaysFounded (name.now ∷ []) (Self.told self.old) (Self.told self.new) }
+        ensures asks { AsksOnly documents_spec.nothing [] (Self.told self.old)
+            (Self.told self.new) }
         ensures grows { Grows (Self.told self.old) (Self.told self.new) };
 
     /// The document with the pushes into it, if it stands there. Several questions are told.
@@ -92,6 +106,8 @@ pub trait Asker: Keys {
         ensures given { (roots : List (List ℕ)) → IfOk result (λ found. AreAllowed roots
             (Self.told self.new) (named_spec.names_of_found (named_spec.named_found found))) }
         ensures founded { StaysFounded (name.now ∷ []) (Self.told self.old) (Self.told self.new) }
+        ensures asks { AsksOnly documents_spec.of_pushes (name.now ∷ []) (Self.told self.old)
+            (Self.told self.new) }
         ensures grows { Grows (Self.told self.old) (Self.told self.new) };
 
     /// The page of a document for a context: that of the same context, else the document's first.
@@ -106,5 +122,7 @@ pub trait Asker: Keys {
             ≡ told_spec.page_of (Self.stand self.old).setting.pages name.now context.now.page place
             ∷ Self.told self.old) }
         ensures founded { StaysFounded (name.now ∷ []) (Self.told self.old) (Self.told self.new) }
+        ensures asks { AsksOnly documents_spec.nothing [] (Self.told self.old)
+            (Self.told self.new) }
         ensures grows { Grows (Self.told self.old) (Self.told self.new) };
 }

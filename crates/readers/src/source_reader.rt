@@ -98,7 +98,7 @@ impl<'a> Reader for SourceReader<'a> {
 
     ghost agrees = { λ r. r.agrees };
 
-    #[tactic(auto, using(crate::proofs::LayerLaws::putting, crate::proofs::LayerLaws::keeping))]
+    #[tactic(auto, using(crate::proofs::LayerLaws::putting, crate::proofs::LayerLaws::keeping, crate::proofs::DocumentLaws::fetching))]
     fn doc(&mut self, alloc: Global, name: &Name) -> Result<Option<Arc<Doc>>, NoMemory> {
         let found = stored(self.known.sources, name)?;
         let note = Note::document(name, &found)?;
@@ -108,7 +108,7 @@ impl<'a> Reader for SourceReader<'a> {
 }
 
 impl<'a> Titles for SourceReader<'a> {
-    #[tactic(auto, using(crate::proofs::LayerLaws::putting, crate::proofs::LayerLaws::keeping))]
+    #[tactic(auto, using(crate::proofs::LayerLaws::putting, crate::proofs::LayerLaws::keeping, crate::proofs::DocumentLaws::fetching))]
     fn kind(&mut self, alloc: Global, name: &Name) -> Result<DocKind, NoMemory> {
         let kind = kind_in(self.known.sources, name);
         let note = Note::kind(name, kind)?;
@@ -116,7 +116,7 @@ impl<'a> Titles for SourceReader<'a> {
         Ok(kind)
     }
 
-    #[tactic(auto, using(crate::proofs::LayerLaws::putting, crate::proofs::LayerLaws::keeping))]
+    #[tactic(auto, using(crate::proofs::LayerLaws::putting, crate::proofs::LayerLaws::keeping, crate::proofs::DocumentLaws::fetching))]
     fn title(&mut self, alloc: Global, name: &Name, topic: &Text) -> Result<Text, NoMemory> {
         let text = self.known.title(alloc, name, topic)?;
         let note = Note::title(name, topic, &text)?;
@@ -124,7 +124,7 @@ impl<'a> Titles for SourceReader<'a> {
         Ok(text)
     }
 
-    #[tactic(auto, using(crate::proofs::LayerLaws::putting, crate::proofs::LayerLaws::keeping))]
+    #[tactic(auto, using(crate::proofs::LayerLaws::putting, crate::proofs::LayerLaws::keeping, crate::proofs::DocumentLaws::fetching))]
     fn first(&mut self, alloc: Global, name: &Name) -> Result<Text, NoMemory> {
         let id = first_in(alloc, self.known.sources, name)?;
         let note = Note::first(name, &id)?;

@@ -1,0 +1,58 @@
+-- Which documents are asked for as a whole (own): those of a list, and those that follow from answers told before. As
+-- `Founded`, for documents alone and by any rule of what follows.
+use Rattle.std.specs.Prelude.{◌||◌, ℕ, Bool, List, [], ◌∷◌, IsTrue, map}
+use Rattle.dita_doc.specs.declared.content.Push.{Push}
+use Rattle.readers.specs.Founded.{is_among}
+use Rattle.readers.specs.Told.{Told, document, kind, title, first, key, pushes, page_of, tried}
+
+-- the document that a question asks for
+abbrev pub documents_asked : Told → List (List ℕ)
+documents_asked (document name tree) = name ∷ []
+documents_asked (kind name answer) = []
+documents_asked (title name topic text) = []
+documents_asked (first name id) = []
+documents_asked (key nodes scope text answer) = []
+documents_asked (pushes documents name answer) = []
+documents_asked (page_of pages name context answer) = []
+documents_asked (tried names) = []
+
+-- the documents that follow from what was told
+abbrev pub Follows : Type 0
+Follows = Told → List (List ℕ)
+
+abbrev pub nothing : Follows
+nothing t = []
+
+-- those from which pushes come
+abbrev pub of_pushes : Follows
+of_pushes (document name tree) = []
+of_pushes (kind name answer) = []
+of_pushes (title name topic text) = []
+of_pushes (first name id) = []
+of_pushes (key nodes scope text answer) = []
+of_pushes (pushes documents name answer) = map (λ (push : Push). push.from) answer.pushes
+of_pushes (page_of pages name context answer) = []
+of_pushes (tried names) = []
+
+-- a document may be asked for: it is a root, or follows from an answer
+abbrev pub may_ask : Follows → List (List ℕ) → List Told → List ℕ → Bool
+may_ask follows roots [] m = is_among roots m
+may_ask follows roots (t ∷ ts) m = is_among (follows t) m || may_ask follows roots ts m
+
+pub record MayAsk (follows : Follows) (roots : List (List ℕ)) (ts : List Told) (names : List (List ℕ)) : Type 0 where
+  pub each : (m : List ℕ) → IsTrue (is_among names m) → IsTrue (may_ask follows roots ts m)
+
+-- each document might be asked for when it was
+abbrev pub AskedBy : Follows → List (List ℕ) → List Told → Type 0
+AskedBy follows roots [] = Unit {0}
+AskedBy follows roots (t ∷ ts) = MayAsk follows roots ts (documents_asked t) × AskedBy follows roots ts
+
+-- one rule gives all that another gives
+pub record Covers (more less : Follows) : Type 0 where
+  pub each : (t : Told) (m : List ℕ) → IsTrue (is_among (less t) m) → IsTrue (is_among (more t) m)
+
+-- what a call does that asks for these documents, and those that follow from answers, and for no others: by each rule
+-- that covers this one, if these might be asked for, then so might all that was asked for
+pub record AsksOnly (follows : Follows) (names : List (List ℕ)) (old new : List Told) : Type 0 where
+  pub by : (rule : Follows) (roots : List (List ℕ)) → Covers rule follows → MayAsk rule roots old names
+      → AskedBy rule roots old → AskedBy rule roots new
