@@ -1,10 +1,14 @@
 //! Copies of targets and of what keys give.
 
+ghost use Rattle.std.specs.Prelude.{◌≡◌, IfOk};
+
 use dita_doc::{Fault, KeyAnswer, List, NoMemory, Reference, Target};
 use std::alloc::Global;
 
 /// A copy of a target with texts of its own.
-pub fn copy_target(alloc: Global, target: &Target) -> Result<Target, NoMemory> {
+pub fn copy_target(alloc: Global, target: &Target) -> Result<Target, NoMemory>
+    ensures { IfOk result (λ copy. copy ≡ target.now) }
+{
     Ok(match target {
         Target::Nothing => Target::Nothing,
         Target::Local(name, reference) => {
@@ -16,7 +20,9 @@ pub fn copy_target(alloc: Global, target: &Target) -> Result<Target, NoMemory> {
 }
 
 /// A copy of the three parts of a reference.
-pub fn copy_reference(_alloc: Global, reference: &Reference) -> Result<Reference, NoMemory> {
+pub fn copy_reference(_alloc: Global, reference: &Reference) -> Result<Reference, NoMemory>
+    ensures { IfOk result (λ copy. copy ≡ reference.now) }
+{
     Ok(Reference {
         file: reference.file.clone()?,
         topic: reference.topic.clone()?,
@@ -25,7 +31,9 @@ pub fn copy_reference(_alloc: Global, reference: &Reference) -> Result<Reference
 }
 
 /// A copy of what a key gives, its faults included.
-pub fn copy_answer(alloc: Global, answer: &KeyAnswer) -> Result<KeyAnswer, NoMemory> {
+pub fn copy_answer(alloc: Global, answer: &KeyAnswer) -> Result<KeyAnswer, NoMemory>
+    ensures { IfOk result (λ copy. copy ≡ answer.now) }
+{
     let mut faults = List::new(alloc);
     for fault in answer.faults.as_slice() {
         faults.push(copy_fault(fault)?)?;
@@ -38,7 +46,9 @@ pub fn copy_answer(alloc: Global, answer: &KeyAnswer) -> Result<KeyAnswer, NoMem
     })
 }
 
-fn copy_fault(fault: &Fault) -> Result<Fault, NoMemory> {
+fn copy_fault(fault: &Fault) -> Result<Fault, NoMemory>
+    ensures { IfOk result (λ copy. copy ≡ fault.now) }
+{
     Ok(Fault {
         name: fault.name.clone()?,
         line: fault.line,

@@ -1,8 +1,8 @@
 //! What a reference leads to, by its value, its format and its scope; and key references, cut at
 //! their `/`.
 //!
-//! What is used above it: all that read an href or a key reference call this crate, so that one
-//! rule holds in maps, in keys, in links and in content. It is proved safe and to return.
+//! What is used above it: the contracts of `target_by`, `named_of` and `split_key`, each the
+//! definition of what it answers, so that one rule holds in maps, in keys, in links and in content.
 #![tactic(auto)]
 
 mod copies;

@@ -1,5 +1,10 @@
 //! What a value leads to.
 
+ghost use Rattle.std.specs.Prelude.{◌≡◌, IfOk, IfSome, option_map};
+ghost use Rattle.href_text.specs.Reference as reference_spec;
+ghost use Rattle.map_spec.specs.Target as target_spec;
+ghost use Rattle.targets.specs.Named as named_spec;
+
 use dita_doc::{Name, NoMemory, Stop, Target, Text, split_text_at_first};
 use href_text::{RefFault, join_name, read_reference};
 use std::alloc::Global;
@@ -12,7 +17,10 @@ pub fn target_by(
     format: &str,
     scope: &str,
     doc: &Name,
-) -> Result<Option<Target>, NoMemory> {
+) -> Result<Option<Target>, NoMemory>
+    ensures { IfOk result (λ target.
+        target ≡ target_spec.target_by value.now format.now scope.now doc.now) }
+{
     if is_far(scope) || is_external(value) {
         Ok(Some(Target::Other(Text::from_str(alloc, value)?)))
     } else if format == "dita" {
@@ -24,7 +32,9 @@ pub fn target_by(
 
 /// The file that a value names from the document `doc`, with what stands behind its name; nothing
 /// if the value is empty or can't be joined.
-pub fn file_target(alloc: Global, value: &str, doc: &Name) -> Result<Option<Target>, NoMemory> {
+pub fn file_target(alloc: Global, value: &str, doc: &Name) -> Result<Option<Target>, NoMemory>
+    ensures { IfOk result (λ target. target ≡ target_spec.local_file doc.now value.now) }
+{
     let Some((name, behind)) = file_named(alloc, value, doc)? else {
         return Ok(None);
     };
@@ -37,12 +47,16 @@ pub fn file_target(alloc: Global, value: &str, doc: &Name) -> Result<Option<Targ
 }
 
 /// Whether a reference of this scope leads away from the documents of the desk.
-pub fn is_far(scope: &str) -> bool {
+pub fn is_far(scope: &str) -> bool
+    ensures { result ≡ target_spec.is_far scope.now }
+{
     scope == "external" || scope == "peer"
 }
 
 /// Whether a `:` stands before the first `/` and `#` of a value, so that it leads away.
-pub fn is_external(value: &str) -> bool {
+pub fn is_external(value: &str) -> bool
+    ensures { result ≡ reference_spec.is_external value.now }
+{
     for byte in value.as_bytes() {
         match byte {
             b':' => return true,
@@ -54,7 +68,10 @@ pub fn is_external(value: &str) -> bool {
 }
 
 // The topic that a value names from the document `doc`.
-fn topic_target(alloc: Global, value: &str, doc: &Name) -> Result<Option<Target>, NoMemory> {
+fn topic_target(alloc: Global, value: &str, doc: &Name) -> Result<Option<Target>, NoMemory>
+    ensures { IfOk result (λ target. target ≡ target_spec.local_topic doc.now
+        (target_spec.if_read (reference_spec.reference_of value.now))) }
+{
     let value = Text::from_str(alloc, value)?;
     let Some(reference) = if_read(read_reference(alloc, &value))? else {
         return Ok(None);
@@ -68,20 +85,37 @@ pub(crate) fn file_named<'a>(
     alloc: Global,
     value: &'a str,
     doc: &Name,
-) -> Result<Option<(Name, Option<&'a str>)>, NoMemory> {
+) -> Result<Option<(Name, Option<&'a str>)>, NoMemory>
+    ensures name { IfOk result (λ named. option_map (λ found. found.0) named
+        ≡ target_spec.file_named doc.now value.now) }
+    ensures rest { IfOk result (λ named.
+        IfSome named (λ found. named_spec.rest_with found.1 ≡ target_spec.rest_of value.now)) }
+{
     if value.is_empty() {
         return Ok(None);
     }
-    let (file, behind) = match split_text_at_first(value, b'#') {
+    let (file, behind) = split_file(value);
+    match if_read(join_name(alloc, doc, &Text::from_str(alloc, file)?))? {
+        None => Ok(None),
+        Some(name) => Ok(Some((name, behind))),
+    }
+}
+
+// The file of a value, and what stands behind the value's first `#`.
+fn split_file(value: &str) -> (&str, Option<&str>)
+    ensures file { result.0.now ≡ target_spec.file_of value.now }
+    ensures rest { named_spec.rest_with result.1 ≡ target_spec.rest_of value.now }
+{
+    match split_text_at_first(value, b'#') {
         None => (value, None),
         Some((file, behind)) => (file, Some(behind)),
-    };
-    let name = if_read(join_name(alloc, doc, &Text::from_str(alloc, file)?))?;
-    Ok(name.map(|name| (name, behind)))
+    }
 }
 
 // What was read, if it was.
-fn if_read<T: Drop>(read: Result<T, Stop<RefFault>>) -> Result<Option<T>, NoMemory> {
+fn if_read<T: Drop>(read: Result<T, Stop<RefFault>>) -> Result<Option<T>, NoMemory>
+    ensures { IfOk result (λ value. named_spec.IsIfRead value read) }
+{
     match read {
         Ok(value) => Ok(Some(value)),
         Err(Stop::Fault(_)) => Ok(None),
