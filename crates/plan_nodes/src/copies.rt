@@ -1,10 +1,14 @@
 //! Copies of nodes and of what they have.
 
+ghost use Rattle.std.specs.Prelude.{◌≡◌, IfOk};
+
 use dita_doc::{Affix, Attribute, List, Name, PlanNode, Text};
 use std::alloc::{AllocError, Global};
 
 /// A copy of a node with all that it has.
-pub fn copy_node(alloc: Global, node: &PlanNode) -> Result<PlanNode, AllocError> {
+pub fn copy_node(alloc: Global, node: &PlanNode) -> Result<PlanNode, AllocError>
+    ensures { IfOk result (λ copy. copy ≡ node.now) }
+{
     Ok(PlanNode {
         kind: node.kind,
         doc: node.doc.clone()?,
@@ -22,7 +26,9 @@ pub fn copy_node(alloc: Global, node: &PlanNode) -> Result<PlanNode, AllocError>
 }
 
 /// Copies of all nodes.
-pub fn copy_nodes(alloc: Global, nodes: &[PlanNode]) -> Result<List<PlanNode>, AllocError> {
+pub fn copy_nodes(alloc: Global, nodes: &[PlanNode]) -> Result<List<PlanNode>, AllocError>
+    ensures { IfOk result (λ copies. copies ≡ nodes.now) }
+{
     let mut copies = List::new(alloc);
     for node in nodes {
         copies.push(copy_node(alloc, node)?)?;
@@ -30,7 +36,9 @@ pub fn copy_nodes(alloc: Global, nodes: &[PlanNode]) -> Result<List<PlanNode>, A
     Ok(copies)
 }
 
-pub fn copy_texts(alloc: Global, texts: &[Text]) -> Result<List<Text>, AllocError> {
+pub fn copy_texts(alloc: Global, texts: &[Text]) -> Result<List<Text>, AllocError>
+    ensures { IfOk result (λ copies. copies ≡ texts.now) }
+{
     let mut copies = List::new(alloc);
     for text in texts {
         copies.push(text.clone()?)?;
@@ -39,7 +47,9 @@ pub fn copy_texts(alloc: Global, texts: &[Text]) -> Result<List<Text>, AllocErro
 }
 
 /// The copies share the texts of the names.
-pub fn copy_names(alloc: Global, names: &[Name]) -> Result<List<Name>, AllocError> {
+pub fn copy_names(alloc: Global, names: &[Name]) -> Result<List<Name>, AllocError>
+    ensures { IfOk result (λ copies. copies ≡ names.now) }
+{
     let mut copies = List::new(alloc);
     for name in names {
         copies.push(name.clone()?)?;
@@ -47,7 +57,9 @@ pub fn copy_names(alloc: Global, names: &[Name]) -> Result<List<Name>, AllocErro
     Ok(copies)
 }
 
-pub fn copy_affixes(alloc: Global, affixes: &[Affix]) -> Result<List<Affix>, AllocError> {
+pub fn copy_affixes(alloc: Global, affixes: &[Affix]) -> Result<List<Affix>, AllocError>
+    ensures { IfOk result (λ copies. copies ≡ affixes.now) }
+{
     let mut copies = List::new(alloc);
     for affix in affixes {
         copies.push(Affix {
@@ -61,7 +73,9 @@ pub fn copy_affixes(alloc: Global, affixes: &[Affix]) -> Result<List<Affix>, All
 pub fn copy_attributes(
     alloc: Global,
     attributes: &[Attribute],
-) -> Result<List<Attribute>, AllocError> {
+) -> Result<List<Attribute>, AllocError>
+    ensures { IfOk result (λ copies. copies ≡ attributes.now) }
+{
     let mut copies = List::new(alloc);
     for attribute in attributes {
         copies.push(attribute.clone()?)?;

@@ -1,9 +1,26 @@
 //! The elements that nodes stand for.
 
+ghost use Rattle.std.specs.Prelude.{◌≡◌, [], ◌∷◌, List, ℕ, IfOk, Some, map, option_map};
+ghost use Rattle.std.specs.Option.{option_copied};
+ghost use Rattle.doc_elements.specs.Walk as walk_spec;
+ghost use Rattle.map_spec.specs.Cascade as cascade_spec;
+ghost use Rattle.map_spec.specs.Judged as judged_spec;
+ghost use Rattle.map_spec.specs.Written as written_spec;
+ghost use Rattle.plan_nodes.specs.Home as home_spec;
+ghost use Rattle.plan_nodes.specs.HomeDocs as home_docs_spec;
+ghost use Rattle.reader_spec.specs.World.{World};
+ghost use Rattle.readers.specs.Documents as documents_spec;
+ghost use Rattle.readers.specs.Documents.{AsksOnly};
+ghost use Rattle.readers.specs.Founded as founded_spec;
+ghost use Rattle.readers.specs.Founded.{Grows, StaysFounded};
+ghost use Rattle.readers.specs.Told as told_spec;
+ghost use Rattle.readers.specs.Told.{Agrees};
+
 use dita_doc::{Doc, Name, NoMemory, Node, PlanKind, PlanNode, Siblings};
 use readers::Reader;
 use std::alloc::Global;
 use std::collections::BTreeMap;
+use std::marker::Model;
 use std::sync::Arc;
 
 // Where the element of a node stands: which of the documents, and the place in it.
@@ -13,11 +30,31 @@ struct Home {
     place: u32,
 }
 
+// A document and the name under which it stands.
+#[derive(Debug, Drop)]
+struct NamedDoc {
+    name: Name,
+    doc: Arc<Doc>,
+}
+
 /// The documents in which the nodes of a map stand, and the element of each node.
 #[derive(Debug, Drop)]
 pub struct Homes {
-    docs: Vec<Arc<Doc>>,
+    docs: Vec<NamedDoc>,
     homes: Vec<Option<Home>>,
+}
+
+impl Model for Homes {
+    ghost use Rattle.std.specs.Prelude.{List, Option, map};
+    ghost use Rattle.map_spec.specs.Written as written_spec;
+    ghost use Rattle.plan_nodes.specs.HomeDocs as home_docs_spec;
+    ghost use Rattle.plan_nodes.specs.WholeCode as whole_code_spec;
+
+    ghost Value = { List (Option written_spec.Whole) };
+
+    ghost coded = { whole_code_spec.homes_code };
+
+    ghost view = { λ h. map (home_docs_spec.whole_of h.docs.items) h.homes.items };
 }
 
 impl Homes {
@@ -27,38 +64,92 @@ impl Homes {
         alloc: Global,
         reader: &mut R,
         nodes: &[PlanNode],
-    ) -> Result<Homes, NoMemory> {
-        let mut docs = Vec::new(alloc);
-        let mut homes = Vec::new(alloc);
-        let mut known: BTreeMap<Name, Option<usize>> = BTreeMap::new(alloc);
-        for node in nodes {
-            if node.kind == PlanKind::Group {
-                homes.push(None)?;
-                continue;
-            }
-            let doc = doc_of(alloc, reader, &mut known, &mut docs, &node.doc)?;
-            homes.push(home_at(doc, node.place))?;
-        }
-        Ok(Homes { docs, homes })
+    ) -> Result<Homes, NoMemory>
+        ensures known { (world : World) → Agrees world (R.told reader.new)
+            → IfOk result (λ homes. homes ≡ map (cascade_spec.whole_at world) nodes.now) }
+        ensures value { IfOk result (λ homes. homes
+            ≡ map (cascade_spec.whole_at (R.stand reader.old).world) nodes.now) }
+        ensures stand { R.stand reader.new ≡ R.stand reader.old }
+        ensures founded { StaysFounded (founded_spec.homes nodes.now) (R.told reader.old)
+            (R.told reader.new) }
+        ensures asks { AsksOnly documents_spec.nothing (founded_spec.homes nodes.now)
+            (R.told reader.old) (R.told reader.new) }
+        ensures grows { Grows (R.told reader.old) (R.told reader.new) }
+    {
+        homes_of(alloc, reader, nodes)
     }
 
     /// The element of the node at this place, if it has one.
-    pub fn element(&self, at: usize) -> Option<&Node> {
+    pub fn element(&self, at: usize) -> Option<&Node>
+        ensures { home_spec.found_in (home_spec.doc_of self.now at) result
+            ≡ home_spec.element_at self.now at }
+    {
         let (element, _) = self.whole(at)?;
         Some(element)
     }
 
     /// The element of the node at this place, and what it holds, if it has one.
-    pub fn whole(&self, at: usize) -> Option<(&Node, Siblings<'_>)> {
-        let home = (*self.homes.get(at)?)?;
-        let doc = self.docs.get(home.doc)?;
-        Siblings::element_at(doc, home.place)
+    pub fn whole(&self, at: usize) -> Option<(&Node, Siblings<'_>)>
+        ensures { walk_spec.found_in (home_spec.doc_of self.now at) result
+            ≡ home_spec.whole_at self.now at }
+    {
+        let home = home_at(&self.homes, at)?;
+        whole_of(&self.docs, home)
     }
 
     /// The value of an attribute of the node's element, if it has it.
-    pub fn value(&self, at: usize, name: &str) -> Option<&str> {
+    pub fn value(&self, at: usize, name: &str) -> Option<&str>
+        ensures { option_copied result ≡ home_spec.value_at self.now at name.now }
+    {
         self.element(at)?.value_of(name)
     }
+}
+
+// What `Homes::of` says, but of the reader's own world.
+#[tactic(auto, using(crate::proofs::Walking::walking))]
+fn homes_of<R: Reader>(alloc: Global, reader: &mut R, nodes: &[PlanNode]) -> Result<Homes, NoMemory>
+    ensures known { (world : World) → Agrees world (R.told reader.new)
+        → IfOk result (λ homes. homes ≡ map (cascade_spec.whole_at world) nodes.now) }
+    ensures stand { R.stand reader.new ≡ R.stand reader.old }
+    ensures founded { StaysFounded (founded_spec.homes nodes.now) (R.told reader.old)
+        (R.told reader.new) }
+    ensures asks { AsksOnly documents_spec.nothing (founded_spec.homes nodes.now)
+        (R.told reader.old) (R.told reader.new) }
+    ensures grows { Grows (R.told reader.old) (R.told reader.new) }
+{
+    let mut docs = Vec::new(alloc);
+    let mut homes = Vec::new(alloc);
+    let mut known: BTreeMap<Name, Option<usize>> = BTreeMap::new(alloc);
+    for node in nodes {
+        let home = home_of(alloc, reader, &mut known, &mut docs, node)?;
+        homes.push(home)?;
+    }
+    Ok(Homes { docs, homes })
+}
+
+// The home of a node, whose document is asked for if it was not before.
+fn home_of<R: Reader>(
+    alloc: Global,
+    reader: &mut R,
+    known: &mut BTreeMap<Name, Option<usize>>,
+    docs: &mut Vec<NamedDoc>,
+    node: &PlanNode,
+) -> Result<Option<Home>, NoMemory>
+    ensures known { (world : World) → Agrees world (R.told reader.new)
+        → home_docs_spec.AreKnown world docs.old.items known.old.entries
+        → IfOk result (λ home. home_docs_spec.IsHomeOf world docs.old.items docs.new.items
+        known.new.entries node.now home) }
+    ensures stand { R.stand reader.new ≡ R.stand reader.old }
+    ensures founded { StaysFounded (node.now.doc ∷ []) (R.told reader.old) (R.told reader.new) }
+    ensures asks { AsksOnly documents_spec.nothing (node.now.doc ∷ []) (R.told reader.old)
+        (R.told reader.new) }
+    ensures grows { Grows (R.told reader.old) (R.told reader.new) }
+{
+    if !has_element(node.kind) {
+        return Ok(None);
+    }
+    let doc = doc_of(alloc, reader, known, docs, &node.doc)?;
+    Ok(home_in(doc, node.place))
 }
 
 // Which of the documents stands under a name, if one does.
@@ -66,25 +157,73 @@ fn doc_of<R: Reader>(
     alloc: Global,
     reader: &mut R,
     known: &mut BTreeMap<Name, Option<usize>>,
-    docs: &mut Vec<Arc<Doc>>,
+    docs: &mut Vec<NamedDoc>,
     name: &Name,
-) -> Result<Option<usize>, NoMemory> {
+) -> Result<Option<usize>, NoMemory>
+    ensures known { (world : World) → Agrees world (R.told reader.new)
+        → home_docs_spec.AreKnown world docs.old.items known.old.entries
+        → IfOk result (λ place. home_docs_spec.IsDocOf world docs.old.items docs.new.items
+        known.new.entries name.now place) }
+    ensures stand { R.stand reader.new ≡ R.stand reader.old }
+    ensures founded { StaysFounded (name.now ∷ []) (R.told reader.old) (R.told reader.new) }
+    ensures asks { AsksOnly documents_spec.nothing (name.now ∷ []) (R.told reader.old)
+        (R.told reader.new) }
+    ensures grows { Grows (R.told reader.old) (R.told reader.new) }
+{
     if let Some(doc) = known.get(name) {
         return Ok(*doc);
     }
-    let doc = match reader.doc(alloc, name)? {
-        Some(doc) => {
-            let at = docs.len();
-            docs.push(doc)?;
-            Some(at)
-        }
-        None => None,
-    };
+    let found = reader.doc(alloc, name)?;
+    let doc = put_doc(docs, name, found)?;
     known.insert(name.clone()?, doc)?;
     Ok(doc)
 }
 
-fn home_at(doc: Option<usize>, place: u32) -> Option<Home> {
+// Puts a document behind the others, if one was found, and gives its place.
+fn put_doc(
+    docs: &mut Vec<NamedDoc>,
+    name: &Name,
+    found: Option<Arc<Doc>>,
+) -> Result<Option<usize>, NoMemory>
+    ensures longer { IfOk result (λ place. home_docs_spec.Longer docs.old.items docs.new.items) }
+    ensures known { (world : World) → world name.now ≡ told_spec.tree_found found
+        → IfOk result (λ place. home_docs_spec.IsKnown world docs.new.items name.now place) }
+{
+    let Some(doc) = found else {
+        return Ok(None);
+    };
+    let at = docs.len();
+    let name = name.clone()?;
+    docs.push(NamedDoc { name, doc })?;
+    Ok(Some(at))
+}
+
+// Whether a node of this kind has an element.
+fn has_element(kind: PlanKind) -> bool
+    ensures { result ≡ judged_spec.has_element kind }
+{
+    !matches!(kind, PlanKind::Group)
+}
+
+fn home_in(doc: Option<usize>, place: u32) -> Option<Home>
+    ensures { result ≡ option_map (λ (at : ℕ). record { doc = at; place = place }) doc }
+{
     let doc = doc?;
     Some(Home { doc, place })
+}
+
+// The home of the node at this place, if it has one.
+fn home_at(homes: &[Option<Home>], at: usize) -> Option<Home>
+    ensures { result ≡ home_docs_spec.home_at homes.now at }
+{
+    *homes.get(at)?
+}
+
+// The element at a home, and what it holds, if one is there.
+fn whole_of(docs: &[NamedDoc], home: Home) -> Option<(&Node, Siblings<'_>)>
+    ensures { walk_spec.found_in (home_docs_spec.name_of docs.now home.doc) result
+        ≡ home_docs_spec.whole_of docs.now (Some home) }
+{
+    let named = docs.get(home.doc)?;
+    Siblings::element_at(&named.doc, home.place)
 }

@@ -1,0 +1,220 @@
+-- The documents in which nodes stand, one put behind the other, and the homes of nodes in them.
+use Rattle.std.specs.Prelude.{◌≡◌, ◌+◌, ◌<◌, ◌≤◌, ℕ, zero, suc, Bool, true, false, List, [], ◌∷◌, ◌++◌, Option, Some, None, IfSome, MatchOption, cond, length, map, option_map, slice_get, take}
+use Rattle.std.specs.Arc.{arc_value}
+use Rattle.std.specs.BTreeMap.{insert_entry, is_at}
+use Rattle.std.specs.Cmp.Lexicographic.{slice_cmp}
+use Rattle.std.specs.Map.{lookup}
+use Rattle.std.specs.Option.{option_and_then}
+use Rattle.std.specs.Ordering.{is_eq, match_ordering, nat_cmp}
+use Rattle.std.proofs.Common.{Ordering, Less, Equal, Greater, refl, sym, ap, subst, ◌∙◌, arith, append-nil, get_or, length-append}
+use Rattle.std.proofs.lemmas.List.{map-append, take_more}
+use Rattle.dita_doc.proofs.NameOrder.{same_from_equal}
+use Rattle.dita_doc.specs.Siblings as siblings
+use Rattle.dita_doc.specs.Siblings.{IsElementAt}
+use Rattle.dita_doc.specs.Tree.{tree_of}
+use Rattle.dita_doc.specs.declared.doc.Doc.{Doc}
+use Rattle.doc_elements.specs.Walk.{Found, found_in}
+use Rattle.dita_doc.specs.declared.plan.PlanNode.{PlanNode}
+use Rattle.map_spec.specs.Cascade.{whole_at}
+use Rattle.map_spec.specs.Judged.{has_element}
+use Rattle.map_spec.specs.Written.{Whole, Written, document, element_at, element_in, written_in}
+use Rattle.reader_spec.specs.World.{World}
+use Rattle.plan_nodes.specs.HomeDocs.{AreHomesOf, AreKnown, AreWithin, IsDocOf, IsHomeOf, IsKnown, IsWithin, Known, Longer, doc_of, document_at, name_of, whole_in, whole_of, written_of}
+use Rattle.plan_nodes.specs.declared.homes.Home.{Home}
+use Rattle.plan_nodes.specs.declared.homes.NamedDoc.{NamedDoc}
+use Rattle.plan_nodes.proofs.ElementLaws.{element_found}
+
+get-more : {X : Type 0} (xs more : List X) (k : ℕ) → k < length xs → slice_get (xs ++ more) k ≡ slice_get xs k
+get-more [] more k within = absurd (omega arith)
+get-more (x ∷ xs) more zero within = refl
+get-more (x ∷ xs) more (suc k) within = get-more xs more k (omega arith)
+
+document_more : (docs more : List NamedDoc) (place : Option ℕ) → IsWithin (length docs) place
+    → document_at (docs ++ more) place ≡ document_at docs place
+document_more docs more None within = refl
+document_more docs more (Some at) within = ap (option_map written_of) (get-more docs more at within)
+
+whole_more : (docs more : List NamedDoc) (home : Option Home) → IsWithin (length docs) (doc_of home)
+    → whole_of (docs ++ more) home ≡ whole_of docs home
+whole_more docs more None within = refl
+whole_more docs more (Some home) within =
+    ap (λ nodes. whole_in nodes home.place) (document_more docs more (Some home.doc) within)
+
+within_more : (count larger : ℕ) (place : Option ℕ) → count ≤ larger → IsWithin count place → IsWithin larger place
+within_more count larger None grows within = tt
+within_more count larger (Some at) grows within = omega (arith, within)
+
+within_longer : (docs more : List NamedDoc) (place : Option ℕ) → IsWithin (length docs) place
+    → IsWithin (length (docs ++ more)) place
+within_longer docs more place within =
+    within_more (length docs) (length (docs ++ more)) place (omega (arith, length-append docs more)) within
+
+-- what was known before is still known
+known_more : (world : World) (docs more : List NamedDoc) (entries : List Known) → AreKnown world docs entries
+    → AreKnown world (docs ++ more) entries
+known_more world docs more [] known = tt
+known_more world docs more (entry ∷ entries) known = (
+  record {
+    within = within_longer docs more entry.1 known.0.within;
+    is = document_more docs more entry.1 known.0.within ∙ known.0.is;
+  },
+  known_more world docs more entries known.1,
+)
+
+pub known_longer : (world : World) (old new : List NamedDoc) (entries : List Known) → Longer old new
+    → AreKnown world old entries → AreKnown world new entries
+known_longer world old new entries longer known =
+    subst (λ docs. AreKnown world docs entries) (sym longer.1) (known_more world old longer.0 entries known)
+
+-- A table of places
+
+equal_test : (o : Ordering) → is_eq o ≡ true → o ≡ Equal
+equal_test Equal same = refl
+equal_test Less same = cc
+equal_test Greater same = cc
+
+abbrev Holds : World → List NamedDoc → Known → Type 0
+Holds world docs entry = IsKnown world docs entry.0 entry.1
+
+known_found : (world : World) (docs : List NamedDoc) (name : List ℕ) (entries : List Known)
+    → AreKnown world docs entries
+    → IfSome (lookup (is_at (slice_cmp nat_cmp name)) entries) (IsKnown world docs name)
+known_found world docs name [] known = tt
+known_found world docs name (entry ∷ more) known =
+    by_test (known_found world docs name more known.1) (is_at (slice_cmp nat_cmp name) entry.0) refl
+  where
+    by_test : IfSome (lookup (is_at (slice_cmp nat_cmp name)) more) (IsKnown world docs name) → (test : Bool)
+        → is_at (slice_cmp nat_cmp name) entry.0 ≡ test
+        → IfSome (cond test (Some entry.1) (lookup (is_at (slice_cmp nat_cmp name)) more)) (IsKnown world docs name)
+    by_test behind true same =
+        subst (λ n. IsKnown world docs n entry.1)
+        (sym (same_from_equal name entry.0 (equal_test (slice_cmp nat_cmp name entry.0) same))) known.0
+    by_test behind false same = behind
+
+pub place_found : (world : World) (docs : List NamedDoc) (name : List ℕ) (entries : List Known) (place : Option ℕ)
+    → Some place ≡ lookup (is_at (slice_cmp nat_cmp name)) entries → AreKnown world docs entries
+    → IsDocOf world docs docs entries name place
+place_found world docs name entries place is known = record {
+  longer = ([], sym (append-nil docs));
+  known = known;
+  here = subst (λ found. IfSome found (IsKnown world docs name)) (sym is) (known_found world docs name entries known);
+}
+
+known_put : (world : World) (docs : List NamedDoc) (name : List ℕ) (place : Option ℕ) (entries : List Known)
+    → AreKnown world docs entries → IsKnown world docs name place
+    → AreKnown world docs (insert_entry (slice_cmp nat_cmp) entries name place)
+known_put world docs name place [] known is = (is, tt)
+known_put world docs name place (entry ∷ more) known is =
+    by_order (known_put world docs name place more known.1 is) (slice_cmp nat_cmp name entry.0) refl
+  where
+    by_order : AreKnown world docs (insert_entry (slice_cmp nat_cmp) more name place) → (o : Ordering)
+        → slice_cmp nat_cmp name entry.0 ≡ o
+        → AreKnown world docs (match_ordering o ((name, place) ∷ entry ∷ more) ((entry.0, place) ∷ more)
+        (entry ∷ insert_entry (slice_cmp nat_cmp) more name place))
+    by_order behind Less same = (is, known)
+    by_order behind Equal same =
+        (subst (λ n. IsKnown world docs n place) (same_from_equal name entry.0 same) is, known.1)
+    by_order behind Greater same = (known.0, behind)
+
+-- a document was put behind the others, and its place into the table
+pub place_put : (world : World) (old new : List NamedDoc) (name key : List ℕ) (place : Option ℕ)
+    (entries later : List Known) → Longer old new → key ≡ name
+    → later ≡ insert_entry (slice_cmp nat_cmp) entries key place → AreKnown world old entries
+    → IsKnown world new name place → IsDocOf world old new later name place
+place_put world old new name key place entries later longer same is known here = record {
+  longer = longer;
+  known = subst (AreKnown world new) (sym is)
+      (known_put world new key place entries (known_longer world old new entries longer known)
+      (subst (λ n. IsKnown world new n place) (sym same) here));
+  here = here;
+}
+
+-- Homes
+
+pub whole_found : (docs : List NamedDoc) (home : Home) (named : NamedDoc) (doc : Doc) (found : Option Found)
+    → Some named ≡ slice_get docs home.doc → doc ≡ arc_value named.doc
+    → MatchOption found (siblings.element_at (tree_of doc.nodes) home.place ≡ None)
+    (λ (f : Found). IsElementAt doc home.place f.0.now f.1)
+    → found_in (name_of docs home.doc) found ≡ whole_of docs (Some home)
+whole_found docs home named doc found is same there =
+    rw (← is) (
+    element_found named.name doc home.place found there
+    ∙ ap (λ (d : Doc). element_at (written_in named.name (tree_of d.nodes)) home.place) same
+    )
+
+abbrev home_with : ℕ → Option ℕ → Option Home
+home_with place doc = option_map (λ (at : ℕ). record { doc = at; place = place }) doc
+
+home_within : (count place : ℕ) (doc : Option ℕ) → IsWithin count doc → IsWithin count (doc_of (home_with place doc))
+home_within count place None within = tt
+home_within count place (Some at) within = within
+
+home_whole : (docs : List NamedDoc) (place : ℕ) (doc : Option ℕ)
+    → whole_of docs (home_with place doc) ≡ whole_in (document_at docs doc) place
+home_whole docs place None = refl
+home_whole docs place (Some at) = refl
+
+whole_by : (world : World) (node : PlanNode) (has : Bool) → has ≡ has_element node.kind → has ≡ true
+    → whole_in (document world node.doc) node.place ≡ whole_at world node
+whole_by world node true is has = rw (← is) refl
+whole_by world node false is has = cc
+
+pub home_found : (world : World) (old new : List NamedDoc) (entries : List Known) (node : PlanNode) (has : Bool)
+    (doc : Option ℕ) (home : Option Home) → has ≡ has_element node.kind → has ≡ true
+    → home ≡ home_with node.place doc → IsDocOf world old new entries node.doc doc
+    → IsHomeOf world old new entries node home
+home_found world old new entries node has doc home is has_one made found = record {
+  longer = found.longer;
+  known = found.known;
+  within = rw made (home_within (length new) node.place doc found.here.within);
+  is = rw made (
+      home_whole new node.place doc ∙ ap (λ nodes. whole_in nodes node.place) found.here.is
+      ∙ whole_by world node has is has_one
+      );
+}
+
+-- all homes so far, and one more
+
+homes_within : (docs more : List NamedDoc) (homes : List (Option Home)) → AreWithin (length docs) homes
+    → AreWithin (length (docs ++ more)) homes
+homes_within docs more [] within = tt
+homes_within docs more (home ∷ homes) within =
+    (within_longer docs more (doc_of home) within.0, homes_within docs more homes within.1)
+
+homes_more : (docs more : List NamedDoc) (homes : List (Option Home)) → AreWithin (length docs) homes
+    → map (whole_of (docs ++ more)) homes ≡ map (whole_of docs) homes
+homes_more docs more [] within = refl
+homes_more docs more (home ∷ homes) within =
+    ap (λ whole. whole ∷ map (whole_of (docs ++ more)) homes) (whole_more docs more home within.0)
+    ∙ ap (λ wholes. whole_of docs home ∷ wholes) (homes_more docs more homes within.1)
+
+within_push : (count : ℕ) (homes : List (Option Home)) (home : Option Home) → AreWithin count homes
+    → IsWithin count (doc_of home) → AreWithin count (homes ++ home ∷ [])
+within_push count [] home within here = (here, tt)
+within_push count (first ∷ homes) home within here = (within.0, within_push count homes home within.1 here)
+
+pub push_of : {X : Type 0} (xs : List X) (at : ℕ) (x : X) → at < length xs → x ≡ get_or xs at x
+    → take (at + 1) xs ≡ take at xs ++ x ∷ []
+push_of xs at x within is = take_more xs at x within ∙ ap (λ y. take at xs ++ y ∷ []) (sym is)
+
+pub homes_push : (world : World) (old new : List NamedDoc) (before entries : List Known) (some more : List PlanNode)
+    (node : PlanNode) (homes all : List (Option Home)) (home : Option Home) → more ≡ some ++ node ∷ []
+    → all ≡ homes ++ home ∷ [] → AreHomesOf world old before some homes → IsHomeOf world old new entries node home
+    → AreHomesOf world new entries more all
+homes_push world old new before entries some more node homes all home nodes_are homes_are so_far next =
+    let docs = old ++ next.longer.0 in
+    let kept : map (whole_of new) homes ≡ map (whole_at world) some =
+    ap (λ ds. map (whole_of ds) homes) next.longer.1 ∙ homes_more old next.longer.0 homes so_far.within ∙ so_far.are in
+    record {
+      known = next.known;
+      within = rw homes_are (within_push (length new) homes home
+          (subst (λ ds. AreWithin (length ds) homes) (sym next.longer.1)
+          (homes_within old next.longer.0 homes so_far.within)) next.within);
+      are =
+          ap (map (whole_of new)) homes_are
+          ∙ map-append (whole_of new) homes (home ∷ [])
+          ∙ ap (λ wholes. wholes ++ whole_of new home ∷ []) kept
+          ∙ ap (λ whole. map (whole_at world) some ++ whole ∷ []) next.is
+          ∙ sym (map-append (whole_at world) some (node ∷ []))
+          ∙ sym (ap (map (whole_at world)) nodes_are);
+    }

@@ -1,0 +1,5 @@
+pub mod Ends
+pub mod Home
+pub mod HomeDocs
+pub mod Preorder
+pub mod WholeCode
