@@ -56,7 +56,7 @@ any_before test place around before (Node element inside rest) =
     ∙ sym (found_first test (at None) others (test around element) refl)
 
 -- the place of one of two
-place_or : (one other : Option Standing)
+pub place_or : (one other : Option Standing)
     → option_map place_of (option_or one other) ≡ option_or (option_map place_of one) (option_map place_of other)
 place_or None other = refl
 place_or (Some one) other = refl

@@ -62,7 +62,7 @@ fn walk_to_element<'a>(
 }
 
 // The nearest topic around what an element at this place holds.
-fn topic_inside<'a>(
+pub(crate) fn topic_inside<'a>(
     place: u32,
     element: &'a Node,
     around: Option<TopicAround<'a>>,
