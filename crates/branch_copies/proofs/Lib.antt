@@ -1,1 +1,3 @@
+pub mod HomeLaws
 pub mod LeftLaws
+pub mod SieveLaws

@@ -1,1 +1,3 @@
+pub mod Filtered
 pub mod Left
+pub mod Sieve

@@ -1,9 +1,23 @@
 //! The nodes of a map that rules leave.
 
-use crate::groups::append_group_faults;
-use dita_doc::{Expanded, List, NoMemory, Node, PlanNode, Rule};
+ghost use Rattle.std.specs.Prelude.{◌≡◌, map, IfOk};
+ghost use Rattle.branch_copies.specs.Filtered as filtered_spec;
+ghost use Rattle.branch_copies.specs.Sieve as sieve_spec;
+ghost use Rattle.map_spec.specs.Cascade as cascade_spec;
+ghost use Rattle.map_spec.specs.MapTree as map_tree_spec;
+ghost use Rattle.map_spec.specs.MapTree.{MapTree};
+ghost use Rattle.plan_nodes.specs.Preorder as preorder_spec;
+ghost use Rattle.readers.specs.Documents as documents_spec;
+ghost use Rattle.readers.specs.Documents.{AsksOnly};
+ghost use Rattle.readers.specs.Founded as founded_spec;
+ghost use Rattle.readers.specs.Founded.{Grows, StaysFounded};
+ghost use Rattle.readers.specs.Told.{Agrees};
+ghost use Rattle.reader_spec.specs.World.{World};
+
+use crate::sieve::Sieve;
+use dita_doc::{Expanded, List, NoMemory, PlanNode, Rule};
 use ditaval_rules::RuleTable;
-use plan_nodes::{Homes, copy_node, place_of, set_ends};
+use plan_nodes::{Homes, set_ends};
 use readers::Reader;
 use std::alloc::Global;
 
@@ -14,39 +28,51 @@ pub fn filter_nodes<R: Reader>(
     reader: &mut R,
     nodes: &List<PlanNode>,
     rules: &List<Rule>,
-) -> Result<Expanded, NoMemory> {
+) -> Result<Expanded, NoMemory>
+    ensures known { (world : World) → Agrees world (R.told reader.new)
+        → IfOk result (λ made. filtered_spec.IsFiltered world rules.now nodes.now made) }
+    ensures value { IfOk result (λ made. filtered_spec.IsFiltered (R.stand reader.old).world
+        rules.now nodes.now made) }
+    ensures stand { R.stand reader.new ≡ R.stand reader.old }
+    ensures founded { StaysFounded (founded_spec.homes nodes.now) (R.told reader.old)
+        (R.told reader.new) }
+    ensures asks { AsksOnly documents_spec.nothing (founded_spec.homes nodes.now)
+        (R.told reader.old) (R.told reader.new) }
+    ensures grows { Grows (R.told reader.old) (R.told reader.new) }
+{
     let homes = Homes::of(alloc, reader, nodes.as_slice())?;
     let table = RuleTable::new(alloc, rules)?;
-    let mut faults = List::new(alloc);
-    let mut kept = Vec::new(alloc);
-    let mut places = Vec::new(alloc);
-    let mut next: usize = 0;
-    for (at, node) in nodes.as_slice().iter().enumerate() {
-        places.push(place_of(kept.len())?)?;
-        if at < next {
-            continue;
-        }
-        if let Some(element) = homes.element(at) {
-            append_group_faults(alloc, &mut faults, &node.doc, element)?;
-        }
-        if at > 0 && is_excluded(&table, homes.element(at)) {
-            next = node.end as usize;
-            continue;
-        }
-        kept.push(moved(alloc, node, &places)?)?;
-    }
-    set_ends(&mut kept)?;
-    let nodes = List::from_vec(kept);
+    let Sieve { kept, faults, .. } = sieved(alloc, &homes, nodes.as_slice(), &table)?;
+    let nodes = with_ends(kept)?;
     Ok(Expanded { nodes, faults })
 }
 
-fn is_excluded(table: &RuleTable<'_>, element: Option<&Node>) -> bool {
-    element.is_some_and(|element| table.verdict(&element.attributes))
+// What all nodes leave.
+fn sieved(
+    alloc: Global,
+    homes: &Homes,
+    nodes: &[PlanNode],
+    table: &RuleTable<'_>,
+) -> Result<Sieve, NoMemory>
+    ensures { (world : World) → homes.now ≡ map (cascade_spec.whole_at world) nodes.now
+        → IfOk result (λ sieve. sieve ≡ sieve_spec.all_passed (sieve_spec.element_at world)
+        table.now nodes.now sieve_spec.empty) }
+{
+    let mut sieve = Sieve::new(alloc);
+    for (at, node) in nodes.iter().enumerate() {
+        sieve.pass(alloc, table, node, homes.element(at))?;
+    }
+    Ok(sieve)
 }
 
-// A copy of a node whose parent stands at its new place.
-fn moved(alloc: Global, node: &PlanNode, places: &[u32]) -> Result<PlanNode, NoMemory> {
-    let mut copy = copy_node(alloc, node)?;
-    copy.parent = places.get(node.parent as usize).copied().unwrap_or(0);
-    Ok(copy)
+// The same nodes with the ends that are theirs.
+fn with_ends(nodes: List<PlanNode>) -> Result<List<PlanNode>, NoMemory>
+    ensures { (tree : MapTree) → preorder_spec.HasOneRoot tree
+        → map preorder_spec.without_end nodes
+        ≡ map preorder_spec.without_end (map_tree_spec.plan_nodes tree)
+        → IfOk result (λ ended. ended ≡ map_tree_spec.plan_nodes tree) }
+{
+    let mut nodes = nodes.into_vec();
+    set_ends(&mut nodes)?;
+    Ok(List::from_vec(nodes))
 }

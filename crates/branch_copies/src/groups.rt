@@ -1,5 +1,10 @@
 //! Conditional attributes whose values are groups.
 
+ghost use Rattle.std.specs.Prelude.{◌≡◌, ◌++◌, OnOk};
+ghost use Rattle.ditaval_rules.specs.Verdict as verdict_spec;
+ghost use Rattle.doc_elements.specs.Walk as walk_spec;
+ghost use Rattle.map_spec.specs.Judged as judged_spec;
+
 use dita_doc::{Attribute, Fault, FaultCode, List, Name, NoMemory, Node};
 use doc_elements::fault_at;
 use std::alloc::Global;
@@ -11,7 +16,10 @@ pub(crate) fn append_group_faults(
     faults: &mut List<Fault>,
     name: &Name,
     element: &Node,
-) -> Result<(), NoMemory> {
+) -> Result<(), NoMemory>
+    ensures { OnOk result (faults.new ≡ faults.old
+        ++ judged_spec.group_faults (walk_spec.element_of name.now element.now)) }
+{
     for attribute in element.attributes.as_slice() {
         if is_group(attribute) {
             let detail = attribute.name.as_str();
@@ -21,11 +29,15 @@ pub(crate) fn append_group_faults(
     Ok(())
 }
 
-fn is_group(attribute: &Attribute) -> bool {
+fn is_group(attribute: &Attribute) -> bool
+    ensures { result ≡ judged_spec.is_group attribute.now }
+{
     is_conditional(attribute.name.as_str()) && attribute.value.as_bytes().contains(&b'(')
 }
 
-fn is_conditional(name: &str) -> bool {
+fn is_conditional(name: &str) -> bool
+    ensures { result ≡ verdict_spec.is_conditional name.now }
+{
     matches!(
         name,
         "audience" | "platform" | "product" | "otherprops" | "props" | "deliveryTarget"

@@ -1,7 +1,7 @@
 //! The nodes of a map filtered by rules, and the copies of its branches.
 //!
-//! What is used above it: `filter_nodes` and `copy_branches` return, and their nodes and faults
-//! stand in document order.
+//! What is used above it: the contract of `filter_nodes`, the definition of what it answers;
+//! `copy_branches` returns.
 #![tactic(auto)]
 
 mod branch;
@@ -13,6 +13,7 @@ mod filter;
 mod groups;
 mod names;
 mod node;
+mod sieve;
 mod work;
 
 pub use copies::copy_branches;
