@@ -1,5 +1,12 @@
 //! The attributes of which the nearest value on the walk to the root counts.
 
+ghost use Rattle.std.specs.Prelude.{◌≡◌, ◌||◌, codes, bytes_eq, length, map, Some, IfOk};
+ghost use Rattle.std.specs.Option.{option_copied, option_or};
+ghost use Rattle.attr_cascade.specs.Nearest as spec;
+ghost use Rattle.map_spec.specs.Cascade as cascade_spec;
+ghost use Rattle.plan_nodes.specs.Preorder as preorder_spec;
+ghost use Rattle.reader_spec.specs.World.{World};
+
 use dita_doc::{PlanKind, PlanNode};
 use plan_nodes::Homes;
 use std::alloc::{AllocError, Global};
@@ -21,7 +28,11 @@ impl<'a> Nearest<'a> {
         alloc: Global,
         homes: &'a Homes,
         nodes: &[PlanNode],
-    ) -> Result<Nearest<'a>, AllocError> {
+    ) -> Result<Nearest<'a>, AllocError>
+        ensures { (world : World) → homes.now ≡ map (cascade_spec.whole_at world) nodes.now
+            → preorder_spec.HasParentsBefore nodes.now
+            → IfOk result (λ nearest. spec.AreNearest world nodes.now nearest) }
+    {
         Ok(Nearest {
             linking: nearest_values(alloc, homes, nodes, "linking")?,
             toc: nearest_values(alloc, homes, nodes, "toc")?,
@@ -34,7 +45,9 @@ impl<'a> Nearest<'a> {
 }
 
 /// The value of the node at this place, if there is one.
-pub(crate) fn nearest_at<'a>(values: &[Option<&'a str>], at: usize) -> Option<&'a str> {
+pub(crate) fn nearest_at<'a>(values: &[Option<&'a str>], at: usize) -> Option<&'a str>
+    ensures { option_copied result ≡ spec.value_at (spec.seen values.now) at }
+{
     *values.get(at)?
 }
 
@@ -44,24 +57,47 @@ fn nearest_values<'a>(
     homes: &'a Homes,
     nodes: &[PlanNode],
     name: &str,
-) -> Result<Vec<Option<&'a str>>, AllocError> {
+) -> Result<Vec<Option<&'a str>>, AllocError>
+    ensures { (world : World) → homes.now ≡ map (cascade_spec.whole_at world) nodes.now
+        → preorder_spec.HasParentsBefore nodes.now
+        → IfOk result (λ values. spec.seen values.items
+        ≡ spec.nearest_of world name.now nodes.now) }
+{
     let mut values = Vec::new(alloc);
     for (at, node) in nodes.iter().enumerate() {
-        let value = match homes.value(at, name) {
-            Some(own) => Some(own),
-            None => passed(name, node, parent_of(nodes, at, node), &values),
-        };
+        let own = homes.value(at, name);
+        let parent = parent_of(nodes, at, node);
+        let value = own_or_passed(own, name, node, parent, &values);
         values.push(value)?;
     }
     Ok(values)
 }
 
 // The parent of the node at this place, if it stands before it.
-fn parent_of<'a>(nodes: &'a [PlanNode], at: usize, node: &PlanNode) -> Option<&'a PlanNode> {
+fn parent_of<'a>(nodes: &'a [PlanNode], at: usize, node: &PlanNode) -> Option<&'a PlanNode>
+    ensures { option_copied result ≡ spec.parent_of nodes.now at node.now }
+{
     if (node.parent as usize) < at {
         nodes.get(node.parent as usize)
     } else {
         None
+    }
+}
+
+// A node's own value, else what its parent passes on.
+fn own_or_passed<'a>(
+    own: Option<&'a str>,
+    name: &str,
+    node: &PlanNode,
+    parent: Option<&PlanNode>,
+    values: &[Option<&'a str>],
+) -> Option<&'a str>
+    ensures { option_copied result ≡ option_or (option_copied own.entry)
+        (spec.passed_on name.now node.now (option_copied parent.entry) (spec.seen values.now)) }
+{
+    match own {
+        Some(value) => Some(value),
+        None => passed(name, node, parent, values),
     }
 }
 
@@ -73,17 +109,52 @@ fn passed<'a>(
     node: &PlanNode,
     parent: Option<&PlanNode>,
     values: &[Option<&'a str>],
-) -> Option<&'a str> {
+) -> Option<&'a str>
+    ensures { option_copied result ≡ spec.passed_on name.now node.now
+        (option_copied parent.entry) (spec.seen values.now) }
+{
     let parent = parent?;
-    let is_format = name == "format";
-    let includes = node.kind == PlanKind::Map && parent.kind == PlanKind::Included;
-    if includes && (is_format || name == "scope") {
+    if stops(name, node, parent) {
         return None;
     }
     let value = nearest_at(values, node.parent as usize)?;
-    if is_format && value == "ditamap" {
+    if stays_behind(name, value) {
         None
     } else {
         Some(value)
     }
+}
+
+// Whether a parent passes its value of an attribute to its own children alone, and not to this map.
+fn stops(name: &str, node: &PlanNode, parent: &PlanNode) -> bool
+    ensures { result ≡ spec.stops name.now node.now parent.now }
+{
+    is_of_reference(name) && is_map(node.kind) && is_included(parent.kind)
+}
+
+// Whether the attribute says something of what a reference leads to.
+fn is_of_reference(name: &str) -> bool
+    ensures { result
+        ≡ (bytes_eq name.now (codes "format") || bytes_eq name.now (codes "scope")) }
+{
+    name == "format" || name == "scope"
+}
+
+fn is_map(kind: PlanKind) -> bool
+    ensures { result ≡ cascade_spec.is_map_kind kind }
+{
+    matches!(kind, PlanKind::Map)
+}
+
+fn is_included(kind: PlanKind) -> bool
+    ensures { result ≡ cascade_spec.is_included_kind kind }
+{
+    matches!(kind, PlanKind::Included)
+}
+
+// Whether a value passes to no child: the format of maps.
+fn stays_behind(name: &str, value: &str) -> bool
+    ensures { result ≡ cascade_spec.stays_behind name.now (Some value.now) }
+{
+    name == "format" && "ditamap" == value
 }

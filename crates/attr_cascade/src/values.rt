@@ -1,5 +1,20 @@
 //! The values of each node.
 
+ghost use Rattle.std.specs.Prelude.{◌≡◌, ◌++◌, ◌<◌, [], ◌∷◌, length, map, unwrap_or, codes, IfOk, OnOk, if◌then◌else◌};
+ghost use Rattle.std.specs.Option.{option_copied};
+ghost use Rattle.attr_cascade.specs.Nearest as nearest_spec;
+ghost use Rattle.attr_cascade.specs.Tokens as tokens_spec;
+ghost use Rattle.attr_cascade.specs.Values as spec;
+ghost use Rattle.ditaval_rules.specs.Verdict as verdict_spec;
+ghost use Rattle.map_spec.specs.Cascade as cascade_spec;
+ghost use Rattle.plan_nodes.specs.Preorder as preorder_spec;
+ghost use Rattle.reader_spec.specs.World.{World};
+ghost use Rattle.readers.specs.Documents as documents_spec;
+ghost use Rattle.readers.specs.Documents.{AsksOnly};
+ghost use Rattle.readers.specs.Founded as founded_spec;
+ghost use Rattle.readers.specs.Founded.{Grows, StaysFounded};
+ghost use Rattle.readers.specs.Told.{Agrees};
+
 use crate::nearest::{Nearest, nearest_at};
 use crate::tokens::TokenTable;
 use dita_doc::{Attribute, List, NoMemory, PlanNode, Text};
@@ -20,20 +35,78 @@ pub fn cascade<R: Reader>(
     alloc: Global,
     reader: &mut R,
     nodes: &List<PlanNode>,
-) -> Result<List<PlanNode>, NoMemory> {
-    let nodes = nodes.as_slice();
+) -> Result<List<PlanNode>, NoMemory>
+    ensures known { (world : World) → Agrees world (R.told reader.new)
+        → preorder_spec.HasParentsBefore nodes.now
+        → IfOk result (λ made. made ≡ cascade_spec.cascaded world nodes.now) }
+    ensures value { preorder_spec.HasParentsBefore nodes.now → IfOk result (λ made. made
+        ≡ cascade_spec.cascaded (R.stand reader.old).world nodes.now) }
+    ensures stand { R.stand reader.new ≡ R.stand reader.old }
+    ensures founded { StaysFounded (founded_spec.homes nodes.now) (R.told reader.old)
+        (R.told reader.new) }
+    ensures asks { AsksOnly documents_spec.nothing (founded_spec.homes nodes.now)
+        (R.told reader.old) (R.told reader.new) }
+    ensures grows { Grows (R.told reader.old) (R.told reader.new) }
+{
+    cascaded(alloc, reader, nodes.as_slice())
+}
+
+// What `cascade` says, but of the reader's own world.
+#[tactic(auto, using(crate::proofs::Walking::walking))]
+fn cascaded<R: Reader>(
+    alloc: Global,
+    reader: &mut R,
+    nodes: &[PlanNode],
+) -> Result<List<PlanNode>, NoMemory>
+    ensures known { (world : World) → Agrees world (R.told reader.new)
+        → preorder_spec.HasParentsBefore nodes.now
+        → IfOk result (λ made. made ≡ cascade_spec.cascaded world nodes.now) }
+    ensures stand { R.stand reader.new ≡ R.stand reader.old }
+    ensures founded { StaysFounded (founded_spec.homes nodes.now) (R.told reader.old)
+        (R.told reader.new) }
+    ensures asks { AsksOnly documents_spec.nothing (founded_spec.homes nodes.now)
+        (R.told reader.old) (R.told reader.new) }
+    ensures grows { Grows (R.told reader.old) (R.told reader.new) }
+{
     let homes = Homes::of(alloc, reader, nodes)?;
+    cascade_in(alloc, &homes, nodes)
+}
+
+// The nodes with their values, where the element of each is known.
+fn cascade_in(alloc: Global, homes: &Homes, nodes: &[PlanNode]) -> Result<List<PlanNode>, NoMemory>
+    ensures { (world : World) → homes.now ≡ map (cascade_spec.whole_at world) nodes.now
+        → preorder_spec.HasParentsBefore nodes.now
+        → IfOk result (λ made. made ≡ cascade_spec.cascaded world nodes.now) }
+{
     let inside = in_tables(alloc, nodes)?;
-    let nearest = Nearest::of(alloc, &homes, nodes)?;
-    let tables = token_tables(alloc, &homes, nodes, &nearest)?;
+    let nearest = Nearest::of(alloc, homes, nodes)?;
+    let tables = token_tables(alloc, homes, nodes, &nearest)?;
     let mut made = List::new(alloc);
     for (at, node) in nodes.iter().enumerate() {
-        let mut copy = copy_node(alloc, node)?;
-        let in_table = inside.get(at).copied().unwrap_or(false);
-        copy.cascaded = values_at(alloc, &nearest, &tables, at, in_table)?;
-        made.push(copy)?;
+        let in_table = is_within(&inside, at);
+        let values = values_at(alloc, &nearest, &tables, at, in_table)?;
+        made.push(node_with(alloc, node, values)?)?;
     }
     Ok(made)
+}
+
+fn is_within(inside: &[bool], at: usize) -> bool
+    ensures { result ≡ spec.told_at inside.now at }
+{
+    inside.get(at).copied().unwrap_or(false)
+}
+
+// A copy of a node with these values.
+fn node_with(
+    alloc: Global,
+    node: &PlanNode,
+    values: List<Attribute>,
+) -> Result<PlanNode, AllocError>
+    ensures { IfOk result (λ copy. copy ≡ record node.now { cascaded = values }) }
+{
+    let mut copy = copy_node(alloc, node)?;
+    copy.cascaded = values;
+    Ok(copy)
 }
 
 // The tokens of each conditional attribute, in the order in which their values come.
@@ -42,62 +115,166 @@ fn token_tables<'a>(
     homes: &'a Homes,
     nodes: &[PlanNode],
     nearest: &Nearest<'_>,
-) -> Result<Vec<TokenTable<'a>>, NoMemory> {
-    let names = [
-        "audience",
-        "platform",
-        "product",
-        "otherprops",
-        "props",
-        "deliveryTarget",
-    ];
+) -> Result<Vec<TokenTable<'a>>, NoMemory>
+    ensures { (world : World) → homes.now ≡ map (cascade_spec.whole_at world) nodes.now
+        → preorder_spec.HasParentsBefore nodes.now
+        → nearest_spec.AreNearest world nodes.now nearest.now
+        → IfOk result (λ tables. tokens_spec.AreTables world nodes.now
+        verdict_spec.conditional_names tables.items) }
+{
     let mut tables = Vec::new(alloc);
-    for name in names {
-        tables.push(TokenTable::of(alloc, homes, nodes, &nearest.cascade, name)?)?;
-    }
+    put_table(alloc, &mut tables, homes, nodes, nearest, "audience")?;
+    put_table(alloc, &mut tables, homes, nodes, nearest, "platform")?;
+    put_table(alloc, &mut tables, homes, nodes, nearest, "product")?;
+    put_table(alloc, &mut tables, homes, nodes, nearest, "otherprops")?;
+    put_table(alloc, &mut tables, homes, nodes, nearest, "props")?;
+    put_table(alloc, &mut tables, homes, nodes, nearest, "deliveryTarget")?;
     Ok(tables)
 }
 
-// The values at a node. In a relationship table nothing stands in the contents, if nothing else is
-// said.
+// Puts the tokens of a conditional attribute behind the others.
+fn put_table<'a>(
+    alloc: Global,
+    tables: &mut Vec<TokenTable<'a>>,
+    homes: &'a Homes,
+    nodes: &[PlanNode],
+    nearest: &Nearest<'_>,
+    name: &'static str,
+) -> Result<(), NoMemory>
+    ensures { (world : World) (names : tokens_spec.Texts)
+        → homes.now ≡ map (cascade_spec.whole_at world) nodes.now
+        → preorder_spec.HasParentsBefore nodes.now
+        → nearest_spec.AreNearest world nodes.now nearest.now
+        → tokens_spec.AreTables world nodes.now names tables.old.items
+        → OnOk result (tokens_spec.AreTables world nodes.now (names ++ name.now ∷ [])
+        tables.new.items) }
+{
+    tables.push(TokenTable::of(alloc, homes, nodes, &nearest.cascade, name)?)?;
+    Ok(())
+}
+
+// The values at a node.
 fn values_at(
     alloc: Global,
     nearest: &Nearest<'_>,
     tables: &[TokenTable<'_>],
     at: usize,
     in_table: bool,
-) -> Result<List<Attribute>, AllocError> {
-    let toc = if in_table { "no" } else { "yes" };
-    let written = [
-        (
-            "linking",
-            nearest_at(&nearest.linking, at).unwrap_or("normal"),
-        ),
-        ("toc", nearest_at(&nearest.toc, at).unwrap_or(toc)),
-        ("format", nearest_at(&nearest.format, at).unwrap_or("dita")),
-        ("scope", nearest_at(&nearest.scope, at).unwrap_or("local")),
-        (
-            "processing-role",
-            nearest_at(&nearest.role, at).unwrap_or("normal"),
-        ),
-        (
-            "cascade",
-            nearest_at(&nearest.cascade, at).unwrap_or("merge"),
-        ),
-    ];
-    let mut values = List::new(alloc);
-    for (name, value) in written {
-        values.push(attribute(alloc, name, value)?)?;
-    }
+) -> Result<List<Attribute>, AllocError>
+    ensures { (world : World) (nodes : tokens_spec.Nodes) → at < length nodes
+        → nearest_spec.AreNearest world nodes nearest.now
+        → tokens_spec.AreTables world nodes verdict_spec.conditional_names tables.now
+        → in_table ≡ preorder_spec.is_in_table_at nodes at
+        → IfOk result (λ values. values
+        ≡ cascade_spec.cascaded_on world (cascade_spec.walk nodes at)) }
+{
+    let mut values = nearest_written(alloc, nearest, at, in_table)?;
     for table in tables {
-        if let Some(value) = table.value_at(at) {
-            values.push(attribute(alloc, table.name, value)?)?;
-        }
+        put_tokens(alloc, &mut values, table, at)?;
     }
     Ok(values)
 }
 
-fn attribute(alloc: Global, name: &str, value: &str) -> Result<Attribute, AllocError> {
+// The values of which the nearest counts. In a relationship table nothing stands in the contents,
+// if nothing else is said.
+fn nearest_written(
+    alloc: Global,
+    nearest: &Nearest<'_>,
+    at: usize,
+    in_table: bool,
+) -> Result<List<Attribute>, AllocError>
+    ensures { (world : World) (nodes : tokens_spec.Nodes) → at < length nodes
+        → nearest_spec.AreNearest world nodes nearest.now
+        → in_table ≡ preorder_spec.is_in_table_at nodes at
+        → IfOk result (λ values. values
+        ≡ spec.nearest_on world (cascade_spec.walk nodes at)) }
+{
+    let toc = toc_in(in_table);
+    let mut values = List::new(alloc);
+    put(
+        alloc,
+        &mut values,
+        "linking",
+        nearest_at(&nearest.linking, at),
+        "normal",
+    )?;
+    put(alloc, &mut values, "toc", nearest_at(&nearest.toc, at), toc)?;
+    put(
+        alloc,
+        &mut values,
+        "format",
+        nearest_at(&nearest.format, at),
+        "dita",
+    )?;
+    put(
+        alloc,
+        &mut values,
+        "scope",
+        nearest_at(&nearest.scope, at),
+        "local",
+    )?;
+    put(
+        alloc,
+        &mut values,
+        "processing-role",
+        nearest_at(&nearest.role, at),
+        "normal",
+    )?;
+    put(
+        alloc,
+        &mut values,
+        "cascade",
+        nearest_at(&nearest.cascade, at),
+        "merge",
+    )?;
+    Ok(values)
+}
+
+// What holds without a value of `toc`.
+fn toc_in(in_table: bool) -> &'static str
+    ensures { result.now ≡ (if in_table then codes "no" else codes "yes") }
+{
+    if in_table { "no" } else { "yes" }
+}
+
+// Puts the value of an attribute behind the others, or what holds without one.
+fn put(
+    alloc: Global,
+    values: &mut List<Attribute>,
+    name: &str,
+    value: Option<&str>,
+    default: &str,
+) -> Result<(), AllocError>
+    ensures { OnOk result (values.new ≡ values.old ++ record {
+      name = name.now;
+      value = unwrap_or (option_copied value.entry) default.now;
+    } ∷ []) }
+{
+    values.push(attribute(alloc, name, value.unwrap_or(default))?)
+}
+
+// Puts the tokens at a node behind the other values, if it has some.
+fn put_tokens(
+    alloc: Global,
+    values: &mut List<Attribute>,
+    table: &TokenTable<'_>,
+    at: usize,
+) -> Result<(), AllocError>
+    ensures { (world : World) (name : tokens_spec.Text) (nodes : tokens_spec.Nodes)
+        → at < length nodes → tokens_spec.IsTableOf world nodes name table.now
+        → OnOk result (values.new ≡ values.old
+        ++ spec.put_if (cascade_spec.named_tokens name
+        (tokens_spec.tokens_at world name nodes at))) }
+{
+    match table.value_at(at) {
+        Some(value) => values.push(attribute(alloc, table.name, value)?),
+        None => Ok(()),
+    }
+}
+
+fn attribute(alloc: Global, name: &str, value: &str) -> Result<Attribute, AllocError>
+    ensures { IfOk result (λ made. made ≡ record { name = name.now; value = value.now }) }
+{
     Ok(Attribute {
         name: Text::from_str(alloc, name)?,
         value: Text::from_str(alloc, value)?,

@@ -1,0 +1,6 @@
+pub mod PlaceLaws
+pub mod NearestLaws
+pub mod TokenLaws
+pub mod TextLaws
+pub mod ValueLaws
+pub mod Walking

@@ -1,0 +1,3 @@
+pub mod Nearest
+pub mod Tokens
+pub mod Values
