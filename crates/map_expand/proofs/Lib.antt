@@ -1,1 +1,16 @@
 pub mod LeftLaws
+pub mod MakesLaws
+pub mod MakingLaws
+pub mod MapLaws
+pub mod SiblingLaws
+pub mod RootLaws
+pub mod SeenLaws
+pub mod GoingLaws
+pub mod CallLaws
+pub mod ReadyLaws
+pub mod FindLaws
+pub mod MakeLaws
+pub mod AskedLaws
+pub mod StepLaws
+pub mod EndingLaws
+pub mod TellingLaws

@@ -1,1 +1,11 @@
+pub mod Asking
+pub mod Homes
+pub mod Known
 pub mod Left
+pub mod Makes
+pub mod Making
+pub mod Going
+pub mod Including
+pub mod Below
+pub mod Ending
+pub mod Telling

@@ -1,6 +1,6 @@
 //! The nodes of a map with all maps that it includes.
 //!
-//! What is used above it: `expand` returns, and its nodes and faults stand in document order.
+//! What is used above it is the contract of `expand`.
 #![tactic(auto)]
 
 mod element;

@@ -1,5 +1,12 @@
 //! The nodes that elements make.
 
+ghost use Rattle.std.specs.Prelude.{◌≡◌, IfOk, List, ℕ};
+ghost use Rattle.std.specs.Option.{option_copied};
+ghost use Rattle.doc_elements.specs.Walk as walk_spec;
+ghost use Rattle.map_spec.specs.Included as included_spec;
+ghost use Rattle.map_spec.specs.MapTree as tree_spec;
+ghost use Rattle.map_expand.specs.Asking as spec;
+
 use crate::work::Walk;
 use dita_doc::{List, Name, NoMemory, Node, PlanKind, PlanNode, Text};
 use std::alloc::Global;
@@ -19,7 +26,10 @@ pub(crate) fn asked_by(
     element: &Node,
     kind: PlanKind,
     in_table: bool,
-) -> Result<Option<Asked>, NoMemory> {
+) -> Result<Option<Asked>, NoMemory>
+    ensures { IfOk result (λ asked. spec.IsAsked kind in_table
+        (walk_spec.element_of name.now element.now) asked) }
+{
     let Some(href) = map_href(element, kind, in_table) else {
         return Ok(None);
     };
@@ -31,7 +41,10 @@ pub(crate) fn asked_by(
 
 // The href of a topicref by which it includes a map: it is written with the format of maps, and
 // stands outside relationship tables.
-fn map_href(element: &Node, kind: PlanKind, in_table: bool) -> Option<&str> {
+fn map_href(element: &Node, kind: PlanKind, in_table: bool) -> Option<&str>
+    ensures { (name : List ℕ) → option_copied result
+        ≡ spec.map_href kind in_table (walk_spec.element_of name element.now) }
+{
     if kind != PlanKind::Reference || in_table {
         return None;
     }
@@ -42,7 +55,9 @@ fn map_href(element: &Node, kind: PlanKind, in_table: bool) -> Option<&str> {
 }
 
 /// The kind of a node with what its element includes.
-pub(crate) fn kind_with(asked: &Option<Asked>, kind: PlanKind) -> PlanKind {
+pub(crate) fn kind_with(asked: &Option<Asked>, kind: PlanKind) -> PlanKind
+    ensures { result ≡ spec.kind_with asked.now kind }
+{
     match asked {
         Some(_) => PlanKind::Included,
         None => kind,
@@ -57,7 +72,10 @@ pub(crate) fn made_node(
     element: &Node,
     walk: Walk,
     kind: PlanKind,
-) -> Result<PlanNode, NoMemory> {
+) -> Result<PlanNode, NoMemory>
+    ensures { IfOk result (λ node. node ≡ tree_spec.node_of (included_spec.new_head kind
+        (walk_spec.element_of name.now element.now) walk.level walk.place) walk.parent 0) }
+{
     Ok(PlanNode {
         kind,
         doc: name.clone()?,

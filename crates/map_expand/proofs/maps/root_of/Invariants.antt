@@ -1,6 +1,15 @@
-use Rattle.dita_doc.specs.Siblings.{content}
-use Rattle.dita_doc.specs.Tree.{size_of}
+use Rattle.std.proofs.Common.{◌≡◌, ◌-◌, ℕ, List, length}
+use Rattle.map_expand.specs.Homes.{AreSiblings, content_between}
+use Rattle.map_expand.specs.Known.{root_wanted}
+use Rattle.map_spec.specs.Written.{first_sibling}
 use Rattle.map_expand.proofs.maps.root_of.Given as goal
 
-abbrev pub decreases-loop-rest : goal.decreases-loop-rest
-decreases-loop-rest l = size_of (content l.left)
+abbrev pub invariant-loop-place : goal.invariant-loop-place
+invariant-loop-place l = record {
+  siblings : (name : List ℕ) → AreSiblings (record { name = name; nodes = l.doc.nodes; root = 0 }) l.place (length l.doc.nodes);
+  same : (name : List ℕ) → root_wanted name l.doc.nodes
+      ≡ first_sibling (content_between (record { name = name; nodes = l.doc.nodes; root = 0 }) l.place (length l.doc.nodes));
+}
+
+abbrev pub decreases-loop-place : goal.decreases-loop-place
+decreases-loop-place l = length l.doc.nodes - l.place

@@ -1,0 +1,142 @@
+use Rattle.std.proofs.Common.{◌≡◌, ◌∷◌, ◌++◌, [], arith, length, subst, ap, ◌∙◌, None, Some}
+use Rattle.std.proofs.lemmas.List.{length_push}
+use Rattle.dita_doc.specs.declared.plan.PlanKind.TheVariants as kinds
+use Rattle.doc_elements.specs.Walk.{element_of}
+use Rattle.map_spec.specs.Included.{ignored_references, new_head}
+use Rattle.map_spec.specs.MapTree.{node_of}
+use Rattle.map_spec.specs.Written.{Element}
+use Rattle.map_expand.specs.Asking.{IsAsked, kind_with}
+use Rattle.map_expand.specs.Below.{below}
+use Rattle.map_expand.specs.Going.{Goes, homes_of}
+use Rattle.map_expand.specs.Homes.{home_at, name_at}
+use Rattle.map_expand.specs.Making.{node_grown, path_of}
+use Rattle.map_expand.specs.declared.work.Work.TheVariants as works
+use Rattle.map_expand.proofs.AskedLaws.{made_less, may_find, made_with, made_without, on_ok_more, same_element, some_made}
+use Rattle.map_expand.proofs.GoingLaws.{full_over}
+use Rattle.map_expand.proofs.MakeLaws.{ready_pushed}
+use Rattle.map_expand.proofs.expansion.Expansion.make.Goals as goal
+
+pub returns-in-Err-clause-made : goal.returns-in-Err-clause-made
+returns-in-Err-clause-made g c = λ world agrees node here.
+    let homes = homes_of c.args.maps.now in
+    let left = c.args.self.now.left.items in
+    let walk = c.args.walk in
+    let grown = node_grown world (path_of homes left) (home_at homes walk.map) walk c.args.kind
+    (element_of (name_at homes walk.map) node) c.args.end in
+    full_over world homes left c.in-Err.stop walk.parent grown c.args.self.now.nodes c.args.self.now.faults
+    c.in-Err.ensures.full
+    (some_made world (path_of homes left) (home_at homes walk.map) walk c.args.kind
+    (element_of (name_at homes walk.map) node) c.args.end)
+
+pub include-requires-clause-ready : goal.include-requires-clause-ready
+include-requires-clause-ready g c =
+    let walk = c.args.walk in
+    let under = below walk c.args.end c.in-Ok.place c.kind_with-kind.result in
+    let many = ap (λ l. length l) c.in-Ok.ensures.nodes ∙ length_push c.args.self.now.nodes _ in
+    let left = c.in_ok-push.ensures.items ∙ ap (λ v. v.items ++ works.Walk c.below.result ∷ []) c.in-Ok.ensures.left
+    ∙ ap (λ w. c.args.self.now.left.items ++ works.Walk w ∷ []) c.below.ensures in
+    ready_pushed _ c.args.maps.now c.args.self.now
+    (record { nodes = c.put.new.self.nodes; faults = c.put.new.self.faults; left = c.push.new.self }) under c.requires.ready
+    (omega (arith, many)) left
+    (record {
+      on = record { map = c.requires.fits.on.map; siblings = c.requires.inside };
+      level = omega (arith, many, c.requires.fits.level);
+    })
+
+pub include-requires-clause-may : goal.include-requires-clause-may
+include-requires-clause-may g c =
+    let walk = c.args.walk in
+    may_find (g.R.Reader.told c.args.reader.now) (home_at (homes_of c.args.maps.now) walk.map) walk walk.end c.args.kind
+    c.in-Some.name.now c.in-Some.element.now c.in-Some-asked.asked
+    (c.requires.ready.maps_fit.tells walk.map c.requires.fits.on.map) c.requires.fits.on.siblings
+    (omega (arith, c.requires.some, c.requires.ends)) c.in-Some.ensures
+    (subst (λ a. IsAsked c.args.kind walk.in_table (element_of c.in-Some.name.now c.in-Some.element.now) a)
+    c.in-Some-asked.is c.in_ok-asked.ensures)
+
+pub returns-in-Some-asked-clause-less : goal.returns-in-Some-asked-clause-less
+returns-in-Some-asked-clause-less g c =
+    let walk = c.args.walk in
+    let under = below walk c.args.end c.in-Ok.place c.kind_with-kind.result in
+    let left = c.in_ok-push.ensures.items ∙ ap (λ v. v.items ++ works.Walk c.below.result ∷ []) c.in-Ok.ensures.left
+    ∙ ap (λ w. c.args.self.now.left.items ++ works.Walk w ∷ []) c.below.ensures in
+    let less = made_less c.args.self.now.nodes c.put.new.self.nodes _ c.args.self.now.left.items c.push.new.self.items under
+    c.in-Ok.ensures.room c.in-Ok.ensures.nodes left (omega (arith, c.ranges.end)) in
+    on_ok_more c.include.result (λ more. omega (arith, more, less)) c.include.ensures.less
+
+pub returns-in-Some-asked-clause-made : goal.returns-in-Some-asked-clause-made
+returns-in-Some-asked-clause-made g c = λ world agrees node here.
+    let homes = homes_of c.args.maps.now in
+    let walk = c.args.walk in
+    let kind = c.args.kind in
+    let old = c.args.self.now in
+    let place = c.in-Ok.place in
+    let end = c.args.end in
+    let element : Element = element_of (name_at homes walk.map) node in
+    let element_is : element_of c.in-Some.name.now c.in-Some.element.now ≡ element =
+    same_element (home_at homes walk.map) walk c.in-Some.name.now c.in-Some.element.now node c.in-Some.ensures here in
+    let kind_is : c.kind_with-kind.result ≡ kinds.Included =
+    c.kind_with-kind.ensures ∙ ap (λ a. kind_with a kind) c.in-Some-asked.is in
+    let asks : IsAsked kind walk.in_table element (Some c.in-Some-asked.asked) =
+    subst (λ a. IsAsked kind walk.in_table element a) c.in-Some-asked.is
+    (subst (λ e. IsAsked kind walk.in_table e c.in_ok-asked.asked) element_is c.in_ok-asked.ensures) in
+    let left = c.in_ok-push.ensures.items ∙ ap (λ v. v.items ++ works.Walk c.below.result ∷ []) c.in-Ok.ensures.left
+    ∙ ap (λ w. old.left.items ++ works.Walk w ∷ []) c.below.ensures
+    ∙ ap (λ k. old.left.items ++ works.Walk (below walk end place k) ∷ []) kind_is in
+    let nodes = c.in-Ok.ensures.nodes
+    ∙ ap (λ e. old.nodes ++ node_of (new_head c.kind_with-kind.result e walk.level walk.place) walk.parent 0 ∷ []) element_is
+    ∙ ap (λ k. old.nodes ++ node_of (new_head k element walk.level walk.place) walk.parent 0 ∷ []) kind_is in
+    let faults = c.in-Ok.ensures.faults ∙ ap (λ e. old.faults ++ ignored_references e) element_is in
+    subst (Goes world c.include.result c.include.new.maps c.include.new.self)
+    (made_with world homes old.left.items c.push.new.self.items walk end place element old.nodes c.put.new.self.nodes old.faults
+    c.put.new.self.faults c.in-Ok.ensures.place faults kind c.in-Some-asked.asked nodes left asks)
+    (c.include.ensures.made world agrees node here)
+
+pub returns-in-None-clause-less : goal.returns-in-None-clause-less
+returns-in-None-clause-less g c =
+    let walk = c.args.walk in
+    let under = below walk c.args.end c.in-Ok.place c.kind_with-kind.result in
+    let left = c.in_ok-push.ensures.items ∙ ap (λ v. v.items ++ works.Walk c.below.result ∷ []) c.in-Ok.ensures.left
+    ∙ ap (λ w. c.args.self.now.left.items ++ works.Walk w ∷ []) c.below.ensures in
+    made_less c.args.self.now.nodes c.put.new.self.nodes _ c.args.self.now.left.items c.push.new.self.items under
+    c.in-Ok.ensures.room c.in-Ok.ensures.nodes left (omega (arith, c.ranges.end))
+
+pub returns-in-None-clause-ready : goal.returns-in-None-clause-ready
+returns-in-None-clause-ready g c =
+    let walk = c.args.walk in
+    let under = below walk c.args.end c.in-Ok.place c.kind_with-kind.result in
+    let many = ap (λ l. length l) c.in-Ok.ensures.nodes ∙ length_push c.args.self.now.nodes _ in
+    let left = c.in_ok-push.ensures.items ∙ ap (λ v. v.items ++ works.Walk c.below.result ∷ []) c.in-Ok.ensures.left
+    ∙ ap (λ w. c.args.self.now.left.items ++ works.Walk w ∷ []) c.below.ensures in
+    ready_pushed _ c.args.maps.now c.args.self.now
+    (record { nodes = c.put.new.self.nodes; faults = c.put.new.self.faults; left = c.push.new.self }) under c.requires.ready
+    (omega (arith, many)) left
+    (record {
+      on = record { map = c.requires.fits.on.map; siblings = c.requires.inside };
+      level = omega (arith, many, c.requires.fits.level);
+    })
+
+pub returns-in-None-clause-made : goal.returns-in-None-clause-made
+returns-in-None-clause-made g c = λ world agrees node here.
+    let homes = homes_of c.args.maps.now in
+    let walk = c.args.walk in
+    let kind = c.args.kind in
+    let old = c.args.self.now in
+    let place = c.in-Ok.place in
+    let end = c.args.end in
+    let element : Element = element_of (name_at homes walk.map) node in
+    let element_is : element_of c.in-Some.name.now c.in-Some.element.now ≡ element =
+    same_element (home_at homes walk.map) walk c.in-Some.name.now c.in-Some.element.now node c.in-Some.ensures here in
+    let kind_is : c.kind_with-kind.result ≡ kind =
+    c.kind_with-kind.ensures ∙ ap (λ a. kind_with a kind) c.in-None.is in
+    let asks : IsAsked kind walk.in_table element (None) =
+    subst (λ a. IsAsked kind walk.in_table element a) c.in-None.is
+    (subst (λ e. IsAsked kind walk.in_table e c.in_ok-asked.asked) element_is c.in_ok-asked.ensures) in
+    let left = c.in_ok-push.ensures.items ∙ ap (λ v. v.items ++ works.Walk c.below.result ∷ []) c.in-Ok.ensures.left
+    ∙ ap (λ w. old.left.items ++ works.Walk w ∷ []) c.below.ensures
+    ∙ ap (λ k. old.left.items ++ works.Walk (below walk end place k) ∷ []) kind_is in
+    let nodes = c.in-Ok.ensures.nodes
+    ∙ ap (λ e. old.nodes ++ node_of (new_head c.kind_with-kind.result e walk.level walk.place) walk.parent 0 ∷ []) element_is
+    ∙ ap (λ k. old.nodes ++ node_of (new_head k element walk.level walk.place) walk.parent 0 ∷ []) kind_is in
+    let faults = c.in-Ok.ensures.faults ∙ ap (λ e. old.faults ++ ignored_references e) element_is in
+    made_without world homes old.left.items c.push.new.self.items walk end place element old.nodes c.put.new.self.nodes old.faults
+    c.put.new.self.faults c.in-Ok.ensures.place faults kind nodes left asks

@@ -1,0 +1,106 @@
+use Rattle.std.proofs.Common.{◌≡◌, arith, length, sym, subst, ap, ◌∙◌, ◌++◌, ◌∷◌, []}
+use Rattle.doc_elements.specs.Walk.{element_of}
+use Rattle.map_spec.specs.Elements.{class_faults}
+use Rattle.map_spec.specs.Written.{Element}
+use Rattle.map_expand.specs.Going.{homes_of, Goes, so_far}
+use Rattle.map_expand.specs.Homes.{home_at}
+use Rattle.map_expand.specs.Making.{Makes, WalkFits, behind, content, path_of}
+use Rattle.map_expand.specs.declared.work.Work.TheVariants as works
+use Rattle.map_expand.proofs.MakeLaws.{ready_pushed}
+use Rattle.map_expand.proofs.StepLaws.{node_there, stepped_content, stepped_node, stepped_nothing}
+use Rattle.map_expand.proofs.expansion.Expansion.step.Goals as goal
+
+pub make-requires-clause-ready : goal.make-requires-clause-ready
+make-requires-clause-ready g c =
+    ready_pushed _ c.args.maps.now c.args.self.now
+    (record { nodes = c.args.self.now.nodes; faults = c.args.self.now.faults; left = c.push.new.self }) c.behind.result
+    c.requires.ready (omega arith) c.in_ok-push.ensures.items
+    (subst (WalkFits (homes_of c.args.maps.now) (length c.args.self.now.nodes)) (sym c.behind.ensures)
+    (record {
+      on = record { map = c.requires.fits.on.map; siblings = c.in-Some.ensures.seen.behind };
+      level = c.requires.fits.level;
+    }))
+
+pub returns-in-Nothing-clause-ready : goal.returns-in-Nothing-clause-ready
+returns-in-Nothing-clause-ready g c =
+    ready_pushed _ c.args.maps.now c.args.self.now
+    (record { nodes = c.args.self.now.nodes; faults = c.args.self.now.faults; left = c.push.new.self }) c.behind.result
+    c.requires.ready (omega arith) c.in_ok-push.ensures.items
+    (subst (WalkFits (homes_of c.args.maps.now) (length c.args.self.now.nodes)) (sym c.behind.ensures)
+    (record {
+      on = record { map = c.requires.fits.on.map; siblings = c.in-Some.ensures.seen.behind };
+      level = c.requires.fits.level;
+    }))
+
+pub returns-in-Node-clause-made : goal.returns-in-Node-clause-made
+returns-in-Node-clause-made g c = λ world agrees.
+    let homes = homes_of c.args.maps.now in
+    let walk = c.args.walk in
+    let old = c.args.self.now in
+    let home = home_at homes walk.map in
+    let end = c.in-Some.seen.end in
+    let first = node_there home walk c.requires.fits.on.siblings
+    (omega (arith, c.in-Some.ensures.begins, c.in-Some.ensures.ends)) in
+    let element : Element = element_of home.name first.0 in
+    let left = c.in_ok-push.ensures.items ∙ ap (λ w. old.left.items ++ works.Walk w ∷ []) c.behind.ensures in
+    let both = subst (Makes world (path_of homes old.left.items) home walk end element) c.in-Node.is
+    (c.in-Some.ensures.seen.made first.0 first.1 world (path_of homes old.left.items)) in
+    subst (Goes world c.make.result c.make.new.maps c.make.new.self)
+    (stepped_node world homes old.left.items c.push.new.self.items walk end left c.in-Node.kind element (so_far old) both)
+    (c.make.ensures.made world agrees first.0 first.1)
+
+pub returns-in-Nothing-clause-made : goal.returns-in-Nothing-clause-made
+returns-in-Nothing-clause-made g c = λ world agrees.
+    let homes = homes_of c.args.maps.now in
+    let walk = c.args.walk in
+    let old = c.args.self.now in
+    let home = home_at homes walk.map in
+    let end = c.in-Some.seen.end in
+    let first = node_there home walk c.requires.fits.on.siblings
+    (omega (arith, c.in-Some.ensures.begins, c.in-Some.ensures.ends)) in
+    let element : Element = element_of home.name first.0 in
+    let left = c.in_ok-push.ensures.items ∙ ap (λ w. old.left.items ++ works.Walk w ∷ []) c.behind.ensures in
+    let both = subst (Makes world (path_of homes old.left.items) home walk end element) c.in-Nothing.is
+    (c.in-Some.ensures.seen.made first.0 first.1 world (path_of homes old.left.items)) in
+    stepped_nothing world homes old.left.items c.push.new.self.items walk end left (so_far old) both
+
+pub returns-in_ok-open-in-Content-clause-ready : goal.returns-in_ok-open-in-Content-clause-ready
+returns-in_ok-open-in-Content-clause-ready g c =
+    let homes = homes_of c.args.maps.now in
+    let walk = c.args.walk in
+    let old = c.args.self.now in
+    let end = c.in-Some.seen.end in
+    let opened = c.in_ok-open-in-Content.ensures in
+    let many : length c.open.new.self.nodes ≡ length old.nodes = ap (λ l. length l) opened.nodes in
+    ready_pushed _ c.args.maps.now (record { nodes = old.nodes; faults = old.faults; left = c.push.new.self })
+    c.open.new.self (content walk end)
+    (ready_pushed _ c.args.maps.now old (record { nodes = old.nodes; faults = old.faults; left = c.push.new.self })
+    (behind walk end) c.requires.ready (omega arith)
+    (c.in_ok-push.ensures.items ∙ ap (λ w. old.left.items ++ works.Walk w ∷ []) c.behind.ensures)
+    (record {
+      on = record { map = c.requires.fits.on.map; siblings = c.in-Some.ensures.seen.behind };
+      level = c.requires.fits.level;
+    }))
+    (omega (arith, many)) opened.left
+    (record {
+      on = record { map = c.requires.fits.on.map; siblings = c.in-Some.ensures.seen.inside };
+      level = omega (arith, many, c.requires.fits.level);
+    })
+
+pub returns-in_ok-open-in-Content-clause-made : goal.returns-in_ok-open-in-Content-clause-made
+returns-in_ok-open-in-Content-clause-made g c = λ world agrees.
+    let homes = homes_of c.args.maps.now in
+    let walk = c.args.walk in
+    let old = c.args.self.now in
+    let home = home_at homes walk.map in
+    let end = c.in-Some.seen.end in
+    let first = node_there home walk c.requires.fits.on.siblings
+    (omega (arith, c.in-Some.ensures.begins, c.in-Some.ensures.ends)) in
+    let element : Element = element_of home.name first.0 in
+    let left = c.in_ok-push.ensures.items ∙ ap (λ w. old.left.items ++ works.Walk w ∷ []) c.behind.ensures in
+    let both = subst (Makes world (path_of homes old.left.items) home walk end element) c.in-Content.is
+    (c.in-Some.ensures.seen.made first.0 first.1 world (path_of homes old.left.items)) in
+    let opened = c.in_ok-open-in-Content.ensures in
+    stepped_content world homes old.left.items c.push.new.self.items walk end left c.open.new.self.left.items old.nodes
+    c.open.new.self.nodes old.faults (class_faults element) c.open.new.self.faults opened.left opened.nodes
+    (opened.faults first.0 first.1) both
