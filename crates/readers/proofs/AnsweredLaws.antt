@@ -9,7 +9,7 @@ use Rattle.readers.specs.Noted.{answered_of, if_answered, told_asked, told_in, t
 use Rattle.readers.specs.Setting.{Setting}
 use Rattle.readers.specs.Told.{Told, Agrees}
 use Rattle.readers.specs.declared.questions.Note.{Note}
-use Rattle.readers.specs.declared.questions.Note.TheVariants.{Answer, Tried, TriedKey}
+use Rattle.readers.specs.declared.questions.Note.TheVariants.{Answer, Sought, Tried, TriedKey}
 
 module _ (setting : Setting) (ts : List Told) where
   -- what the notes with answers tell, the newest first
@@ -17,6 +17,7 @@ module _ (setting : Setting) (ts : List Told) where
   answers [] = ts
   answers (Answer asked ∷ older) = told_asked setting asked ∷ answers older
   answers (Tried name ∷ older) = answers older
+  answers (Sought name ∷ older) = answers older
   answers (TriedKey ∷ older) = answers older
 
   agrees_answers : (world : World) (notes : List Note) → Agrees world (told_onto setting ts notes)
@@ -24,6 +25,7 @@ module _ (setting : Setting) (ts : List Told) where
   agrees_answers world [] agrees = agrees
   agrees_answers world (Answer asked ∷ older) agrees = (agrees.0, agrees_answers world older agrees.1)
   agrees_answers world (Tried name ∷ older) agrees = agrees_answers world older agrees.1
+  agrees_answers world (Sought name ∷ older) agrees = agrees_answers world older agrees.1
   agrees_answers world (TriedKey ∷ older) agrees = agrees_answers world older agrees.1
 
   agrees_all : (world : World) (notes : List Note) → Agrees world (answers notes)
@@ -31,6 +33,7 @@ module _ (setting : Setting) (ts : List Told) where
   agrees_all world [] agrees = agrees
   agrees_all world (Answer asked ∷ older) agrees = (agrees.0, agrees_all world older agrees.1)
   agrees_all world (Tried name ∷ older) agrees = (tt, agrees_all world older agrees)
+  agrees_all world (Sought name ∷ older) agrees = (tt, agrees_all world older agrees)
   agrees_all world (TriedKey ∷ older) agrees = (tt, agrees_all world older agrees)
 
   allowed_alike : (roots : List (List ℕ)) (m : List ℕ) (notes : List Note)
@@ -39,6 +42,7 @@ module _ (setting : Setting) (ts : List Told) where
   allowed_alike roots m (Answer asked ∷ older) =
       ap (λ b. is_among (names_given (told_asked setting asked)) m || b) (allowed_alike roots m older)
   allowed_alike roots m (Tried name ∷ older) = allowed_alike roots m older
+  allowed_alike roots m (Sought name ∷ older) = allowed_alike roots m older
   allowed_alike roots m (TriedKey ∷ older) = allowed_alike roots m older
 
   founded_answers : (roots : List (List ℕ)) (notes : List Note) → IsFounded roots (told_onto setting ts notes)
@@ -51,6 +55,7 @@ module _ (setting : Setting) (ts : List Told) where
     founded_answers roots older founded.1,
   )
   founded_answers roots (Tried name ∷ older) founded = founded_answers roots older founded.1
+  founded_answers roots (Sought name ∷ older) founded = founded_answers roots older founded.1
   founded_answers roots (TriedKey ∷ older) founded = founded_answers roots older founded.1
 
 told-append : (setting : Setting) (ts : List Told) (xs ys : List Asked)
@@ -64,6 +69,7 @@ told_by_one : (setting : Setting) (ts : List Told) (note : Note) (older : List N
     ≡ answers setting ts (note ∷ older)
 told_by_one setting ts (Answer asked) older is = ap (λ all. told_asked setting asked ∷ all) is
 told_by_one setting ts (Tried name) older is = is
+told_by_one setting ts (Sought name) older is = is
 told_by_one setting ts TriedKey older is = is
 
 told_by_answers : (setting : Setting) (ts : List Told) (notes : List Note)

@@ -20,6 +20,12 @@ knows_more P old new grows known world agrees = known world (agrees_before world
 pub carries_same : (ts : List Told) → Carries ts ts
 carries_same ts = record { agrees = λ world a. a; allowed = λ roots m a. a; founded = λ roots f. f }
 
+-- what was told to the reader below stays founded by the questions of the one above
+pub founded_below : (names : List (List ℕ)) (start below above : List Told) → Carries below above
+    → StaysFounded names start above → StaysFounded names start below
+founded_below names start below above carried stays =
+    record { by = λ roots allowed founded. carried.founded roots (stays.by roots allowed founded) }
+
 -- the reader below was told more
 pub carries_more : (below below' above : List Told) → Carries below above → Grows below below'
     → ((roots : List (List ℕ)) → IsFounded roots above → IsFounded roots below') → Carries below' above
@@ -40,7 +46,7 @@ carries_asked names below below' above above' carried put grows stays =
           (carried.founded roots f.1);
     })
 
-allowed_with : (t : Told) (roots : List (List ℕ)) (below above : List Told) (m : List ℕ)
+pub allowed_with : (t : Told) (roots : List (List ℕ)) (below above : List Told) (m : List ℕ)
     → AreAllowed roots below (names_given t)
     → (IsTrue (is_allowed roots above m) → IsTrue (is_allowed roots below m))
     → IsTrue (is_allowed roots (t ∷ above) m) → IsTrue (is_allowed roots below m)

@@ -4,3 +4,5 @@ pub mod DocumentLaws
 pub mod LayerLaws
 pub mod TitleLaws
 pub mod AnsweredLaws
+pub mod SoughtLaws
+pub mod FetchLaws

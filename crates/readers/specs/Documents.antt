@@ -3,7 +3,7 @@
 use Rattle.std.specs.Prelude.{◌||◌, ℕ, Bool, List, [], ◌∷◌, IsTrue, map}
 use Rattle.dita_doc.specs.declared.content.Push.{Push}
 use Rattle.readers.specs.Founded.{is_among}
-use Rattle.readers.specs.Told.{Told, document, kind, title, first, key, pushes, page_of, tried}
+use Rattle.readers.specs.Told.{Told, document, kind, title, first, key, pushes, page_of, tried, sought}
 
 -- the document that a question asks for
 abbrev pub documents_asked : Told → List (List ℕ)
@@ -15,6 +15,7 @@ documents_asked (key nodes scope text answer) = []
 documents_asked (pushes documents name answer) = []
 documents_asked (page_of pages name context answer) = []
 documents_asked (tried names) = []
+documents_asked (sought name) = name ∷ []
 
 -- the documents that follow from what was told
 abbrev pub Follows : Type 0
@@ -33,6 +34,7 @@ of_pushes (key nodes scope text answer) = []
 of_pushes (pushes documents name answer) = map (λ (push : Push). push.from) answer.pushes
 of_pushes (page_of pages name context answer) = []
 of_pushes (tried names) = []
+of_pushes (sought name) = []
 
 -- a document may be asked for: it is a root, or follows from an answer
 abbrev pub may_ask : Follows → List (List ℕ) → List Told → List ℕ → Bool

@@ -12,7 +12,7 @@ use Rattle.readers.specs.declared.questions.Note.{Note}
 use Rattle.readers.specs.declared.questions.Note.TheVariants as notes
 use Rattle.readers.specs.Founded.{homes}
 use Rattle.readers.specs.Setting.{Setting, no_setting}
-use Rattle.readers.specs.Told.{Told, document, kind, title, first, key, pushes, page_of, tried, Agrees, tree_found}
+use Rattle.readers.specs.Told.{Told, document, kind, title, first, key, pushes, page_of, tried, sought, Agrees, tree_found}
 
 -- a question with an answer of another kind tells nothing
 abbrev pub told_by : Setting → Question → Answered → Told
@@ -30,6 +30,7 @@ told_by setting question answer = tried []
 abbrev pub told_of : Setting → Note → Told
 told_of setting (notes.Answer asked) = told_by setting asked.question asked.answered
 told_of setting (notes.Tried name) = tried (name ∷ [])
+told_of setting (notes.Sought name) = sought name
 told_of setting notes.TriedKey = tried (homes setting.nodes)
 
 abbrev pub told_onto : Setting → List Told → List Note → List Told

@@ -13,7 +13,7 @@ use Rattle.dita_doc.proofs.TreeLaws.{content_of_nodes}
 use Rattle.reader_spec.specs.World.{World}
 use Rattle.readers.specs.Founded.{AreAllowed, Carries, IsFounded, names_asked}
 use Rattle.readers.specs.Setting.{Stand}
-use Rattle.readers.specs.Told.{Told, document, kind, title, first, key, pushes, page_of, tried, Holds, Agrees, Knows}
+use Rattle.readers.specs.Told.{Told, document, kind, title, first, key, pushes, page_of, tried, sought, Holds, Agrees, Knows}
 
 node_code : Coded Node
 node_code = hlevel codes
@@ -44,6 +44,7 @@ Holds-prop world (key nodes scope text answer) = Coded-set key_code _ _
 Holds-prop world (pushes documents name answer) = Coded-set push_code _ _
 Holds-prop world (page_of pages name context answer) = Coded-set (coded_option coded_ℕ) _ _
 Holds-prop world (tried names) = Unit-prop
+Holds-prop world (sought name) = Unit-prop
 
 pub Agrees-prop : (world : World) (ts : List Told) → IsProp (Agrees world ts)
 Agrees-prop world [] = Unit-prop

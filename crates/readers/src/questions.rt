@@ -5,7 +5,7 @@ ghost use Rattle.readers.specs.Noted as noted_spec;
 ghost use Rattle.readers.specs.Setting.{Setting};
 ghost use Rattle.readers.specs.Told as told_spec;
 
-use dita_doc::{Answered, Asked, Doc, DocKind, List, Name, NoMemory, Question, Text};
+use dita_doc::{Answered, Asked, Doc, DocKind, KeyAnswer, List, Name, NoMemory, Question, Text};
 use std::alloc::{AllocError, Global};
 use std::marker::Model;
 use std::sync::Arc;
@@ -17,6 +17,8 @@ pub enum Note {
     Answer(Asked),
     /// It is about this document, and has no answer yet.
     Tried(Name),
+    /// It asks for this document as a whole, and has no answer yet.
+    Sought(Name),
     /// It is about a key, for which the documents of all nodes may be asked, and has no answer yet.
     TriedKey,
 }
@@ -60,6 +62,17 @@ impl Note {
         Ok(Note::Answer(Asked {
             question: Question::First(name.clone()?),
             answered: Answered::First(id.clone()?),
+        }))
+    }
+
+    /// The question for a key in the scope of this place, with its answer.
+    pub fn key(scope: u32, key: &Text, answer: KeyAnswer) -> Result<Note, NoMemory>
+        ensures { IfOk result (λ note. (setting : Setting) → noted_spec.told_of setting note
+            ≡ told_spec.key setting.nodes scope key.now answer) }
+    {
+        Ok(Note::Answer(Asked {
+            question: Question::Key(scope, key.clone()?),
+            answered: Answered::Key(answer),
         }))
     }
 }
