@@ -1,8 +1,7 @@
 -- The element at a place of a document's tree, and at that of the content that the tree is under a name.
-use Rattle.std.specs.Prelude.{◌≡◌, ◌+◌, ◌-◌, ◌<◌, ◌≤◌, ◌==◌, ℕ, zero, suc, Bool, true, false, List, Option, Some, None, MatchOption, nat_lt, option_map, if◌then◌else◌}
-use Rattle.std.specs.Borrow.{Bor}
+use Rattle.std.specs.Prelude.{◌≡◌, ◌+◌, ◌-◌, ◌<◌, ◌≤◌, ◌==◌, ℕ, zero, suc, Bool, true, false, List, Option, Some, None, MatchOption, nat_lt, if◌then◌else◌}
 use Rattle.std.specs.Option.{option_and_then}
-use Rattle.std.proofs.Common.{refl, sym, ap, subst, ◌∙◌, arith}
+use Rattle.std.proofs.Common.{refl, sym, ap, ◌∙◌, arith}
 use Rattle.std.proofs.Math.Logic.{⊎_elim}
 use Rattle.std.proofs.lemmas.Bool.{cases_lt}
 use Rattle.std.proofs.lemmas.Bool.Decides.{nat_tests}
@@ -11,8 +10,8 @@ use Rattle.dita_doc.specs.Siblings.{IsElementAt, content_from, first_element, jo
 use Rattle.dita_doc.specs.Tree as tree
 use Rattle.dita_doc.specs.Tree.{Content, size_of, tree_of}
 use Rattle.dita_doc.specs.declared.doc.Doc.{Doc}
-use Rattle.map_spec.specs.Written.{Element, Whole, Written, element_at, size, written_in}
-use Rattle.doc_elements.specs.Walk.{Found, found_in, whole_of}
+use Rattle.map_spec.specs.Written.{Whole, element_at, size, written_in}
+use Rattle.doc_elements.specs.Walk.{Found, found_in}
 
 -- the first element, under a name
 abbrev first_in : List ℕ → Content → Option Whole

@@ -4,7 +4,6 @@ use Rattle.std.specs.Arc.{arc_value}
 use Rattle.std.specs.BTreeMap.{insert_entry, is_at}
 use Rattle.std.specs.Cmp.Lexicographic.{slice_cmp}
 use Rattle.std.specs.Map.{lookup}
-use Rattle.std.specs.Option.{option_and_then}
 use Rattle.std.specs.Ordering.{is_eq, match_ordering, nat_cmp}
 use Rattle.std.proofs.Common.{Ordering, Less, Equal, Greater, refl, sym, ap, subst, ◌∙◌, arith, append-nil, get_or, length-append}
 use Rattle.std.proofs.lemmas.List.{map-append, take_more}
@@ -17,7 +16,7 @@ use Rattle.doc_elements.specs.Walk.{Found, found_in}
 use Rattle.dita_doc.specs.declared.plan.PlanNode.{PlanNode}
 use Rattle.map_spec.specs.Cascade.{whole_at}
 use Rattle.map_spec.specs.Judged.{has_element}
-use Rattle.map_spec.specs.Written.{Whole, Written, document, element_at, element_in, written_in}
+use Rattle.map_spec.specs.Written.{document, element_at, written_in}
 use Rattle.reader_spec.specs.World.{World}
 use Rattle.plan_nodes.specs.HomeDocs.{AreHomesOf, AreKnown, AreWithin, IsDocOf, IsHomeOf, IsKnown, IsWithin, Known, Longer, doc_of, document_at, name_of, whole_in, whole_of, written_of}
 use Rattle.plan_nodes.specs.declared.homes.Home.{Home}

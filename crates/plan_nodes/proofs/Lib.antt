@@ -1,7 +1,10 @@
 pub mod ElementLaws
 pub mod EndLaws
+pub mod GivenLaws
 pub mod HomeLaws
 pub mod PreorderLaws
 pub mod TableLaws
+pub mod TargetLaws
+pub mod ToldLaws
 pub mod Walking
 pub mod WordLaws

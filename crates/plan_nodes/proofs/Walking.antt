@@ -1,5 +1,5 @@
 -- What closes most claims of a walk over nodes whose documents are asked for.
-use Rattle.std.proofs.Common.{◌≡◌, ◌<◌, ℕ, zero, suc, List, [], ◌∷◌, IsTrue, length, get_or, refl, sym, subst, arith}
+use Rattle.std.proofs.Common.{◌≡◌, ◌<◌, ℕ, zero, suc, List, [], ◌∷◌, IsTrue, length, get_or, sym, subst, arith}
 use Rattle.dita_doc.specs.declared.plan.PlanNode.{PlanNode}
 use Rattle.readers.specs.Founded.{homes, is_among}
 use Rattle.readers.proofs.DocumentLaws.{asking}

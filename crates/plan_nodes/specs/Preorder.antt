@@ -2,7 +2,7 @@
 use Rattle.std.specs.Prelude.{◌≡◌, ◌<◌, ℕ, Bool, List, Some, map, slice_get}
 use Rattle.dita_doc.specs.declared.plan.PlanNode.{PlanNode}
 use Rattle.map_spec.specs.Cascade.{is_in_table, walk}
-use Rattle.map_spec.specs.MapTree.{MapTree, MapNode, NoNodes}
+use Rattle.map_spec.specs.MapTree.{MapTree, MapNode, NoNodes, plan_nodes}
 use Rattle.map_spec.specs.Scopes.{places}
 
 abbrev pub HasParentsBefore : List PlanNode → Type 0
@@ -24,3 +24,13 @@ without_end node = record node { end = 0 }
 abbrev pub HasOneRoot : MapTree → Type 0
 HasOneRoot NoNodes = Unit {0}
 HasOneRoot (MapNode head below more) = more ≡ NoNodes
+
+-- where a node stands, whatever it says
+abbrev pub shape : PlanNode → ℕ × ℕ
+shape node = (node.parent, node.end)
+
+-- nodes that stand as those of a tree with one root do
+pub record IsTree (nodes : List PlanNode) : Type 0 where
+  pub tree : MapTree
+  pub one : HasOneRoot tree
+  pub is : map shape nodes ≡ map shape (plan_nodes tree)

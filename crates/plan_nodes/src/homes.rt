@@ -1,13 +1,16 @@
 //! The elements that nodes stand for.
 
-ghost use Rattle.std.specs.Prelude.{◌≡◌, [], ◌∷◌, List, ℕ, IfOk, Some, map, option_map};
+ghost use Rattle.std.specs.Prelude.{◌≡◌, [], ◌∷◌, List, ℕ, IfOk, OnOk, Some, map, option_map};
 ghost use Rattle.std.specs.Option.{option_copied};
 ghost use Rattle.doc_elements.specs.Walk as walk_spec;
 ghost use Rattle.map_spec.specs.Cascade as cascade_spec;
 ghost use Rattle.map_spec.specs.Judged as judged_spec;
 ghost use Rattle.map_spec.specs.Written as written_spec;
+ghost use Rattle.map_spec.specs.Written.{Element, Whole};
+ghost use Rattle.plan_nodes.specs.Given as given_spec;
 ghost use Rattle.plan_nodes.specs.Home as home_spec;
 ghost use Rattle.plan_nodes.specs.HomeDocs as home_docs_spec;
+ghost use Rattle.plan_nodes.specs.ToldDocs as told_docs_spec;
 ghost use Rattle.reader_spec.specs.World.{World};
 ghost use Rattle.readers.specs.Documents as documents_spec;
 ghost use Rattle.readers.specs.Documents.{AsksOnly};
@@ -69,6 +72,7 @@ impl Homes {
             → IfOk result (λ homes. homes ≡ map (cascade_spec.whole_at world) nodes.now) }
         ensures value { IfOk result (λ homes. homes
             ≡ map (cascade_spec.whole_at (R.stand reader.old).world) nodes.now) }
+        ensures given { IfOk result (λ homes. given_spec.AreTold (R.told reader.new) homes) }
         ensures stand { R.stand reader.new ≡ R.stand reader.old }
         ensures founded { StaysFounded (founded_spec.homes nodes.now) (R.told reader.old)
             (R.told reader.new) }
@@ -97,6 +101,15 @@ impl Homes {
         whole_of(&self.docs, home)
     }
 
+    /// The name of the document in which the node's element was written, if it has one.
+    pub fn doc(&self, at: usize) -> Option<&Name>
+        ensures { option_copied result
+            ≡ option_map (λ (element : Element). element.doc) (home_spec.element_at self.now at) }
+    {
+        let home = home_at(&self.homes, at)?;
+        name_of(&self.docs, home)
+    }
+
     /// The value of an attribute of the node's element, if it has it.
     pub fn value(&self, at: usize, name: &str) -> Option<&str>
         ensures { option_copied result ≡ home_spec.value_at self.now at name.now }
@@ -110,6 +123,7 @@ impl Homes {
 fn homes_of<R: Reader>(alloc: Global, reader: &mut R, nodes: &[PlanNode]) -> Result<Homes, NoMemory>
     ensures known { (world : World) → Agrees world (R.told reader.new)
         → IfOk result (λ homes. homes ≡ map (cascade_spec.whole_at world) nodes.now) }
+    ensures given { IfOk result (λ homes. given_spec.AreTold (R.told reader.new) homes) }
     ensures stand { R.stand reader.new ≡ R.stand reader.old }
     ensures founded { StaysFounded (founded_spec.homes nodes.now) (R.told reader.old)
         (R.told reader.new) }
@@ -139,6 +153,8 @@ fn home_of<R: Reader>(
         → home_docs_spec.AreKnown world docs.old.items known.old.entries
         → IfOk result (λ home. home_docs_spec.IsHomeOf world docs.old.items docs.new.items
         known.new.entries node.now home) }
+    ensures given { told_docs_spec.AreToldDocs (R.told reader.old) docs.old.items
+        → OnOk result (told_docs_spec.AreToldDocs (R.told reader.new) docs.new.items) }
     ensures stand { R.stand reader.new ≡ R.stand reader.old }
     ensures founded { StaysFounded (node.now.doc ∷ []) (R.told reader.old) (R.told reader.new) }
     ensures asks { AsksOnly documents_spec.nothing (node.now.doc ∷ []) (R.told reader.old)
@@ -164,6 +180,8 @@ fn doc_of<R: Reader>(
         → home_docs_spec.AreKnown world docs.old.items known.old.entries
         → IfOk result (λ place. home_docs_spec.IsDocOf world docs.old.items docs.new.items
         known.new.entries name.now place) }
+    ensures given { told_docs_spec.AreToldDocs (R.told reader.old) docs.old.items
+        → OnOk result (told_docs_spec.AreToldDocs (R.told reader.new) docs.new.items) }
     ensures stand { R.stand reader.new ≡ R.stand reader.old }
     ensures founded { StaysFounded (name.now ∷ []) (R.told reader.old) (R.told reader.new) }
     ensures asks { AsksOnly documents_spec.nothing (name.now ∷ []) (R.told reader.old)
@@ -186,6 +204,8 @@ fn put_doc(
     found: Option<Arc<Doc>>,
 ) -> Result<Option<usize>, NoMemory>
     ensures longer { IfOk result (λ place. home_docs_spec.Longer docs.old.items docs.new.items) }
+    ensures put { OnOk result (docs.new.items
+        ≡ told_docs_spec.with_found docs.old.items name.now found) }
     ensures known { (world : World) → world name.now ≡ told_spec.tree_found found
         → IfOk result (λ place. home_docs_spec.IsKnown world docs.new.items name.now place) }
 {
@@ -226,4 +246,14 @@ fn whole_of(docs: &[NamedDoc], home: Home) -> Option<(&Node, Siblings<'_>)>
 {
     let named = docs.get(home.doc)?;
     Siblings::element_at(&named.doc, home.place)
+}
+
+// The name of the document at a home, if an element stands there.
+fn name_of(docs: &[NamedDoc], home: Home) -> Option<&Name>
+    ensures { option_copied result ≡ option_map (λ (whole : Whole). whole.0.doc)
+        (home_docs_spec.whole_of docs.now (Some home)) }
+{
+    whole_of(docs, home)?;
+    let named = docs.get(home.doc)?;
+    Some(&named.name)
 }

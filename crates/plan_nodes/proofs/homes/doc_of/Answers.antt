@@ -1,5 +1,6 @@
 use Rattle.readers.proofs.GrowthLaws.{told_answer}
 use Rattle.plan_nodes.proofs.HomeLaws.{place_found, place_put}
+use Rattle.plan_nodes.proofs.ToldLaws.{docs_told}
 use Rattle.plan_nodes.proofs.homes.doc_of.Goals as goal
 
 pub returns-in-Some-clause-known : goal.returns-in-Some-clause-known
@@ -13,3 +14,8 @@ returns-clause-known g c = λ world agrees known.
     c.in_ok-doc.doc c.args.known.now.entries c.insert.new.self.entries c.in_ok-doc.ensures.longer
     c.in_ok-clone.ensures.cases c.in_ok-insert.ensures.entries known
     (c.in_ok-doc.ensures.known world (told_answer world _ _ _ c.in_ok-found.ensures.told agrees))
+
+pub returns-clause-given : goal.returns-clause-given
+returns-clause-given g c = λ told.
+    docs_told _ _ c.args.docs.now.items c.put_doc.new.docs.items c.args.name.now c.in_ok-found.found
+    c.in_ok-found.ensures.told c.in_ok-doc.ensures.put told
