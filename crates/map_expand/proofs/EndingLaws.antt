@@ -29,6 +29,7 @@ use Rattle.map_expand.specs.Making.{AllFit, Made, after, made_of, path_of, put, 
 use Rattle.map_expand.specs.declared.expansion.Expansion.{Expansion}
 use Rattle.map_expand.specs.declared.maps.Maps.{Maps}
 use Rattle.map_expand.specs.declared.work.Work.{Work}
+use Rattle.map_expand.proofs.AskedForLaws.{none_asked}
 use Rattle.map_expand.proofs.MakingLaws.{length_below, length_without}
 
 -- Begins
@@ -53,12 +54,14 @@ maps_new told maps empty none =
     none_some a same = cc
 
 pub ready_new : (told : List Told) (maps : Maps) (x : Expansion) → MapsFit told maps
-    → ((at : ℕ) → flag_at maps.maps.items at ≡ false) → x.left.items ≡ [] → Ready told maps x
-ready_new told maps x fits free none = record {
+    → ((at : ℕ) → flag_at maps.maps.items at ≡ false) → x.left.items ≡ [] → x.nodes ≡ []
+    → Ready told maps x
+ready_new told maps x fits free none empty = record {
   maps_fit = fits;
   work = subst (AllFit (homes_of maps) (length x.nodes)) (sym none) tt;
   around = λ at within. rw none (free at);
   apart = subst (λ l. AreApart (path_of (homes_of maps) l)) (sym none) tt;
+  asked = none_asked told x.nodes empty;
 }
 
 pub begun : (world : World) (homes : List Home) (left : List Work) (nodes : List PlanNode) (faults : List Fault) (name : List ℕ)

@@ -1,3 +1,5 @@
+pub mod AmongLaws
+pub mod AskedForLaws
 pub mod LeftLaws
 pub mod MakesLaws
 pub mod MakingLaws

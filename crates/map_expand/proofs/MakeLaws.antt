@@ -10,7 +10,9 @@ use Rattle.map_spec.specs.Included.{Around, ignored_references, includes_map, ne
 use Rattle.map_spec.specs.MapTree.{Grown, Head, beneath, beside, node_of, with_faults}
 use Rattle.map_spec.specs.Written.{Element}
 use Rattle.reader_spec.specs.World.{World}
+use Rattle.readers.specs.Founded as founded
 use Rattle.readers.specs.Told.{Told}
+use Rattle.map_expand.specs.AskedFor.{AreAsked}
 use Rattle.map_expand.specs.Going.{AreApart, Ready, homes_of}
 use Rattle.map_expand.specs.Homes.{Home, home_at, name_at}
 use Rattle.map_expand.specs.Making.{AllFit, Made, WalkFits, after, grown_of, made_of, path_of, put, put_faults, without_ends}
@@ -25,8 +27,8 @@ use Rattle.map_expand.proofs.ReadyLaws.{fits_later}
 -- more work is left on the same maps
 pub ready_pushed : (told : List Told) (maps : Maps) (x y : Expansion) (walk : Walk) → Ready told maps x
     → length x.nodes ≤ length y.nodes → y.left.items ≡ x.left.items ++ works.Walk walk ∷ []
-    → WalkFits (homes_of maps) (length y.nodes) walk → Ready told maps y
-ready_pushed told maps x y walk ready more left fits =
+    → WalkFits (homes_of maps) (length y.nodes) walk → AreAsked told (founded.homes y.nodes) → Ready told maps y
+ready_pushed told maps x y walk ready more left fits asked =
     let homes = homes_of maps in
     let same : path_of homes y.left.items ≡ path_of homes x.left.items =
     ap (path_of homes) left ∙ path_both homes [] x.left.items (works.Walk walk ∷ []) in
@@ -38,6 +40,7 @@ ready_pushed told maps x y walk ready more left fits =
       around = λ at within. ready.around at within
           ∙ ap (list_any (bytes_eq (name_at homes at))) (sym same);
       apart = subst AreApart (sym same) ready.apart;
+      asked = asked;
     }
 
 -- a walk is left on top of other work

@@ -9,7 +9,10 @@ use Rattle.std.proofs.Math.Logic.{⊎_elim}
 use Rattle.std.proofs.lemmas.Bool.{cases_lt, false≢true}
 use Rattle.std.proofs.lemmas.List.Folds.{list_any-append}
 use Rattle.std.proofs.lemmas.Slice.Eq.{bytes_eq-Decides}
+use Rattle.readers.specs.Founded as founded
+use Rattle.readers.specs.Founded.{Grows}
 use Rattle.readers.specs.Told.{Told}
+use Rattle.map_expand.specs.AskedFor.{AreAsked}
 use Rattle.map_expand.specs.Going.{AreApart, Ready, homes_of}
 use Rattle.map_expand.specs.Homes.{Extends, Home, flag_at, flags, home_at, homes, name_at}
 use Rattle.map_expand.specs.Known.{MapsFit}
@@ -21,6 +24,7 @@ use Rattle.map_expand.specs.declared.work.Walk.{Walk}
 use Rattle.map_expand.specs.declared.work.Work.{Work}
 use Rattle.map_expand.specs.declared.work.Work.TheVariants as works
 use Rattle.map_expand.proofs.MakingLaws.{fits_both, fits_more, home_still, path_after_still}
+use Rattle.map_expand.proofs.AskedForLaws.{asked_later}
 use Rattle.map_expand.proofs.GoingLaws.{path_entered}
 
 -- Names
@@ -139,8 +143,8 @@ pub ready_entered : (told : List Told) (maps new : Maps) (x y : Expansion) (at :
     → homes_of new ≡ homes_of maps → flags new.maps.items ≡ set (flags maps.maps.items) at true
     → length x.nodes ≤ length y.nodes
     → y.left.items ≡ (x.left.items ++ works.Leave at ∷ []) ++ works.Walk walk ∷ []
-    → WalkFits (homes_of maps) (length y.nodes) walk → Ready told new y
-ready_entered told maps new x y at walk ready there free known same flagged more left fits =
+    → WalkFits (homes_of maps) (length y.nodes) walk → AreAsked told (founded.homes y.nodes) → Ready told new y
+ready_entered told maps new x y at walk ready there free known same flagged more left fits asked =
     let path = path_of (homes_of maps) x.left.items in
     let path_is : path_of (homes_of new) y.left.items ≡ path ++ name_at (homes_of maps) at ∷ [] =
     ap (λ h. path_of h y.left.items) same ∙ path_entered (homes_of maps) x.left.items y.left.items at walk left in
@@ -160,6 +164,7 @@ ready_entered told maps new x y at walk ready there free known same flagged more
           ∙ ap (list_any (bytes_eq (name_at (homes_of new) k))) (sym path_is);
       apart = subst AreApart (sym path_is) (apart_more path (name_at (homes_of maps) at) ready.apart
           (sym (ready.around at there) ∙ free));
+      asked = asked;
     }
 
 -- More maps are known
@@ -183,10 +188,11 @@ absent homes n name other path (works.Leave at ∷ all) fits none =
     neither : (a b : Bool) → a ≡ false → b ≡ false → (a || (b || false)) ≡ false
     neither a b e f = rw (e, f) refl
 
-pub ready_found : (told later : List Told) (maps new : Maps) (x : Expansion) → Ready told maps x → MapsFit later new
+pub ready_found : (told later : List Told) (maps new : Maps) (x : Expansion) → Ready told maps x → Grows told later
+    → MapsFit later new
     → Extends (homes_of maps) (homes_of new)
     → ((at : ℕ) → flag_at new.maps.items at ≡ flag_at maps.maps.items at) → Ready later new x
-ready_found told later maps new x ready fits extends flagged =
+ready_found told later maps new x ready grows fits extends flagged =
     let more = extends.more in
     let is = extends.is in
     let homes = homes_of maps in
@@ -208,6 +214,7 @@ ready_found told later maps new x ready fits extends flagged =
           (bytes_eq (name_at (homes_of new) k) (name_at homes at)) refl) [] x.left.items ready.work refl))
           (cases_lt k (length homes));
       apart = subst AreApart (sym path_is) ready.apart;
+      asked = asked_later told later (founded.homes x.nodes) grows ready.asked;
     }
   where
     by_test : (k at : ℕ) → k < length (homes_of new) → at < length (homes_of maps) → length (homes_of maps) ≤ k

@@ -12,7 +12,9 @@ use Rattle.dita_doc.specs.declared.plan.PlanNode.{PlanNode}
 use Rattle.map_spec.specs.MapTree.{Grown, beside, with_faults}
 use Rattle.map_spec.specs.Written.{Element}
 use Rattle.reader_spec.specs.World.{World}
+use Rattle.readers.specs.Founded as founded
 use Rattle.readers.specs.Told.{Told}
+use Rattle.map_expand.specs.AskedFor.{AreAsked}
 use Rattle.map_expand.specs.Going.{AreApart, Ready, homes_of, path_at, rest, so_far}
 use Rattle.map_expand.specs.Homes.{AreSiblings, Home, IsNodeOf, flags, home_at, name_at}
 use Rattle.map_expand.specs.Making.{AllFit, Made, WalkFits, after, behind, content, grown_of, made_of, node_grown, path_of, put, put_faults}
@@ -21,9 +23,11 @@ use Rattle.map_expand.specs.declared.maps.Maps.{Maps}
 use Rattle.map_expand.specs.declared.work.Walk.{Walk}
 use Rattle.map_expand.specs.declared.work.Work.{Work}
 use Rattle.map_expand.specs.declared.work.Work.TheVariants as works
+use Rattle.map_expand.proofs.LeftLaws.{steps_left_push}
 use Rattle.map_expand.proofs.MakingLaws.{after_both, fits_front, fits_last, path_both, put_beside, put_with_faults}
 use Rattle.map_expand.proofs.MakeLaws.{walk_left}
 use Rattle.map_expand.proofs.ReadyLaws.{flag_else, flag_put, length_flags, maps_same, one_of_name, same_name}
+use Rattle.map_expand.proofs.TellingLaws.{telling}
 
 some_at : (nodes : List doc.Node) (at : ℕ) → at < length nodes → (node : doc.Node) × (slice_get nodes at ≡ Some node)
 some_at [] at within = absurd (omega arith)
@@ -93,12 +97,12 @@ module _ (world : World) (homes : List Home) (left now : List Work) (walk : Walk
 -- Work is taken
 
 pub walk_taken : (told : List Told) (maps : Maps) (x y : Expansion) (walk : Walk) → Ready told maps x
-    → length x.nodes ≡ length y.nodes → x.left.items ≡ y.left.items ++ works.Walk walk ∷ []
+    → x.nodes ≡ y.nodes → x.left.items ≡ y.left.items ++ works.Walk walk ∷ []
     → Ready told maps y × WalkFits (homes_of maps) (length y.nodes) walk
-walk_taken told maps x y walk ready many is =
+walk_taken told maps x y walk ready nodes is =
     let homes = homes_of maps in
     let all = subst (AllFit homes (length y.nodes)) is
-    (subst (λ n. AllFit homes n x.left.items) many ready.work) in
+    (subst (λ n. AllFit homes (length n) x.left.items) nodes ready.work) in
     let same : path_of homes x.left.items ≡ path_of homes y.left.items =
     ap (path_of homes) is ∙ path_both homes [] y.left.items (works.Walk walk ∷ []) in (
       record {
@@ -106,6 +110,7 @@ walk_taken told maps x y walk ready many is =
         work = fits_front homes (length y.nodes) y.left.items (works.Walk walk ∷ []) all;
         around = λ at within. ready.around at within ∙ ap (list_any (bytes_eq (name_at homes at))) same;
         apart = subst AreApart same ready.apart;
+        asked = subst (λ n. AreAsked told (founded.homes n)) nodes ready.asked;
       },
       fits_last homes (length y.nodes) y.left.items (works.Walk walk) all,
     )
@@ -146,14 +151,14 @@ neither true = refl
 neither false = refl
 
 pub map_left : (told : List Told) (maps new : Maps) (x y : Expansion) (at : ℕ) → Ready told maps x
-    → length x.nodes ≡ length y.nodes → x.left.items ≡ y.left.items ++ works.Leave at ∷ [] → new.known ≡ maps.known
+    → x.nodes ≡ y.nodes → x.left.items ≡ y.left.items ++ works.Leave at ∷ [] → new.known ≡ maps.known
     → homes_of new ≡ homes_of maps → flags new.maps.items ≡ set (flags maps.maps.items) at false
     → Ready told new y
-map_left told maps new x y at ready many is known same flagged =
+map_left told maps new x y at ready nodes is known same flagged =
     let homes = homes_of maps in
     let path = path_of homes y.left.items in
     let all = subst (AllFit homes (length y.nodes)) is
-    (subst (λ n. AllFit homes n x.left.items) many ready.work) in
+    (subst (λ n. AllFit homes (length n) x.left.items) nodes ready.work) in
     let there : at < length homes = fits_last homes (length y.nodes) y.left.items (works.Leave at) all in
     let path_is : path_of homes x.left.items ≡ path ++ name_at homes at ∷ [] =
     ap (path_of homes) is ∙ path_both homes [] y.left.items (works.Leave at ∷ []) in
@@ -170,6 +175,7 @@ map_left told maps new x y at ready many is known same flagged =
           ∙ ap (λ h. list_any (bytes_eq (name_at h k)) path) (sym same)
           ∙ ap (list_any (bytes_eq (name_at (homes_of new) k))) (sym path_new);
       apart = subst AreApart (sym path_new) apart.0;
+      asked = subst (λ n. AreAsked told (founded.homes n)) nodes ready.asked;
     }
   where
     by_name : (k : ℕ) → k < length (homes_of maps) → at < length (homes_of maps)
@@ -217,3 +223,6 @@ module _ (world : World) (maps : Maps) (x y : Expansion) (work : Work) (is : x.l
       ∙ ap (after world (homes_of maps) [] y.left.items) (sym same)
       ∙ sym (left_after world (homes_of maps) y.left.items x.left.items at (so_far x)
       (is ∙ ap (λ w. y.left.items ++ w ∷ []) what))
+
+-- what closes most claims of a step
+pub ruleset stepping = (steps_left_push, telling)

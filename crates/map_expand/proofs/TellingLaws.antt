@@ -1,9 +1,9 @@
 -- What a map names may be asked about.
-use Rattle.std.specs.Prelude.{◌≡◌, ◌+◌, ◌-◌, ◌<◌, ◌≤◌, ◌||◌, ℕ, zero, suc, Bool, true, false, List, [], ◌∷◌, ◌++◌, Option, Some, None, IfSome, IsTrue, bytes_eq, codes, length, take, drop, slice_get, unwrap_or, if◌then◌else◌}
+use Rattle.std.specs.Prelude.{◌≡◌, ◌+◌, ◌-◌, ◌<◌, ◌≤◌, ◌||◌, ℕ, zero, suc, Bool, true, false, List, [], ◌∷◌, ◌++◌, Option, Some, None, IfSome, IsTrue, codes, length, take, drop, slice_get, unwrap_or, if◌then◌else◌}
 use Rattle.std.specs.Option.{option_and_then}
 use Rattle.std.proofs.Common.{refl, sym, ap, ◌∙◌, arith, subst}
 use Rattle.std.proofs.Math.Logic.{⊎_elim}
-use Rattle.std.proofs.lemmas.Bool.{cases_lt, false≢true, or_cases, or_left, or_right}
+use Rattle.std.proofs.lemmas.Bool.{cases_lt}
 use Rattle.std.proofs.lemmas.List.{length-drop, length-take}
 use Rattle.dita_doc.specs.Tree as tree
 use Rattle.dita_doc.specs.Tree.{ArePreorder, chars_node, content_of, content_within, is_element, nodes_of}
@@ -23,38 +23,41 @@ use Rattle.readers.specs.Told.{Told}
 use Rattle.readers.proofs.DocumentLaws.{asks_one, asks_same, asks_then, follows_may, may_ask_before, none_may, one_may}
 use Rattle.readers.proofs.FoundedLaws.{among_first, given_allowed, none_allowed, one_allowed, stays_same, stays_then}
 use Rattle.readers.proofs.GrowthLaws.{allowed_before}
-use Rattle.map_expand.specs.Homes.{AreSiblings, Home, nodes_between}
+use Rattle.map_expand.specs.AskedFor.{asked_for}
+use Rattle.map_expand.specs.Homes.{AreSiblings, Home, IsFirst, nodes_between}
+use Rattle.map_expand.proofs.AmongLaws.{among_back, among_front}
+use Rattle.map_expand.proofs.AskedForLaws.{asked_before}
 use Rattle.map_expand.proofs.SiblingLaws.{begin}
+use Rattle.map_expand.specs.declared.work.Walk.{Walk}
 use Rattle.map_expand.specs.Telling.{IsTold, MayName, element_targets, map_targets, targets_in, told_of}
 
 -- A document is told
 
 pub is_told : (old new : List Told) (home : Home) → new ≡ told_of home ∷ old → IsTold new home
 is_told old new home is = record {
+  asked = subst (λ ts. IsTrue (is_among (asked_for ts) home.name)) (sym is) (among_first home.name (asked_for old));
   allowed = λ roots m among. (given_allowed roots (told_of home) old new is).each m among;
   may = λ rule roots covers m among. (follows_may rule map_targets roots (told_of home) old new covers is).each m among;
 }
 
 pub told_later : (old new : List Told) (home : Home) → Grows old new → IsTold old home → IsTold new home
 told_later old new home grows told = record {
+  asked = asked_before old new home.name grows told.asked;
   allowed = λ roots m among. allowed_before roots old new m grows (told.allowed roots m among);
   may = λ rule roots covers m among. may_ask_before rule roots old new m grows (told.may rule roots covers m among);
 }
+
+-- the name of a node of a map is that of a document that was asked for
+pub asked_first : (told : List Told) (home : Home) (walk : Walk) (name : List ℕ) (node : doc.Node) → IsTold told home
+    → IsFirst home walk name node → IsTrue (is_among (asked_for told) name)
+asked_first told home walk name node is first =
+    subst (λ n. IsTrue (is_among (asked_for told) n)) (sym first.named) is.asked
 
 pub if_some : {X : Type 0} (found : Option X) (P : X → Type 0) → IfSome found P → (x : X) → found ≡ Some x → P x
 if_some None P is x same = cc
 if_some (Some y) P is x same = let one : y ≡ x = cc in subst P one is
 
 -- An element of a document
-
-among_front : (a b : List (List ℕ)) (m : List ℕ) → IsTrue (is_among a m) → IsTrue (is_among (a ++ b) m)
-among_front [] b m among = absurd (false≢true among)
-among_front (name ∷ a) b m among = ⊎_elim (λ here. or_left (bytes_eq name m) _ here)
-    (λ there. or_right (bytes_eq name m) _ (among_front a b m there)) (or_cases (bytes_eq name m) _ among)
-
-among_back : (a b : List (List ℕ)) (m : List ℕ) → IsTrue (is_among b m) → IsTrue (is_among (a ++ b) m)
-among_back [] b m among = among
-among_back (name ∷ a) b m among = or_right (bytes_eq name m) _ (among_back a b m among)
 
 get_take : (n : ℕ) (nodes : List doc.Node) (k : ℕ) → k < n → slice_get (take n nodes) k ≡ slice_get nodes k
 get_take zero nodes k inside = absurd (omega arith)

@@ -7,7 +7,9 @@ use Rattle.dita_doc.specs.declared.stop.Stop.{Stop}
 use Rattle.dita_doc.specs.declared.stop.Stop.TheVariants.{Fault, NoMemory}
 use Rattle.map_spec.specs.Included.{node_limit}
 use Rattle.reader_spec.specs.World.{World}
+use Rattle.readers.specs.Founded as founded
 use Rattle.readers.specs.Told.{Told}
+use Rattle.map_expand.specs.AskedFor.{AreAsked}
 use Rattle.map_expand.specs.Homes.{Home, flag_at, homes, name_at}
 use Rattle.map_expand.specs.Known.{MapsFit}
 use Rattle.map_expand.specs.Making.{AllFit, Made, after, made_of, path_of}
@@ -22,13 +24,15 @@ AreApart (name ∷ names) = (list_any (bytes_eq name) names ≡ false) × AreApa
 abbrev pub homes_of : Maps → List Home
 homes_of maps = homes maps.maps.items
 
--- The work that is left can be done, and the maps that stand around it are marked
+-- The work that is left can be done, the maps that stand around it are marked, and the documents of the nodes were
+-- asked for
 pub record Ready (told : List Told) (maps : Maps) (x : Expansion) : Type 0 where
   pub maps_fit : MapsFit told maps
   pub work : AllFit (homes_of maps) (length x.nodes) x.left.items
   pub around : (at : ℕ) → at < length (homes_of maps) → flag_at maps.maps.items at
       ≡ list_any (bytes_eq (name_at (homes_of maps) at)) (path_of (homes_of maps) x.left.items)
   pub apart : AreApart (path_of (homes_of maps) x.left.items)
+  pub asked : AreAsked told (founded.homes x.nodes)
 
 abbrev pub path_at : Maps → Expansion → List (List ℕ)
 path_at maps x = path_of (homes_of maps) x.left.items

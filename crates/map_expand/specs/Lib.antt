@@ -1,3 +1,4 @@
+pub mod AskedFor
 pub mod Asking
 pub mod Homes
 pub mod Known

@@ -8,6 +8,7 @@ use Rattle.map_spec.specs.Written.{Element, Written, End, Chars, written_in}
 use Rattle.readers.specs.Documents.{Covers, Follows, may_ask}
 use Rattle.readers.specs.Founded.{is_allowed, is_among, names_given}
 use Rattle.readers.specs.Told.{Told, document}
+use Rattle.map_expand.specs.AskedFor.{asked_for}
 use Rattle.map_expand.specs.Homes.{Home}
 
 abbrev pub documents_of : Named → List (List ℕ)
@@ -42,8 +43,9 @@ map_targets _ = []
 abbrev pub told_of : Home → Told
 told_of home = document home.name (Some (tree_of home.nodes))
 
--- what a map names may be asked about
+-- a map was asked for, and what it names may be asked about
 pub record IsTold (told : List Told) (home : Home) : Type 0 where
+  pub asked : IsTrue (is_among (asked_for told) home.name)
   pub allowed : (roots : List (List ℕ)) (m : List ℕ) → IsTrue (is_among (names_given (told_of home)) m)
       → IsTrue (is_allowed roots told m)
   pub may : (rule : Follows) (roots : List (List ℕ)) → Covers rule map_targets → (m : List ℕ)

@@ -6,6 +6,7 @@ ghost use Rattle.std.proofs.Common.{set};
 ghost use Rattle.dita_doc.specs.declared.doc.Node as doc;
 ghost use Rattle.reader_spec.specs.World.{World};
 ghost use Rattle.readers.specs.Documents.{AsksOnly};
+ghost use Rattle.readers.specs.Founded as founded_spec;
 ghost use Rattle.readers.specs.Founded.{Grows, StaysFounded};
 ghost use Rattle.readers.specs.Told.{Told, Agrees};
 ghost use Rattle.doc_elements.specs.Walk as walk_spec;
@@ -15,6 +16,7 @@ ghost use Rattle.map_spec.specs.MapTree as tree_spec;
 ghost use Rattle.map_spec.specs.Written.{Whole};
 ghost use Rattle.plan_nodes.specs.Preorder as preorder_spec;
 ghost use Rattle.targets.specs.Named as named_spec;
+ghost use Rattle.map_expand.specs.AskedFor as asked_for_spec;
 ghost use Rattle.map_expand.specs.Going as spec;
 ghost use Rattle.map_expand.specs.Homes as homes_spec;
 ghost use Rattle.map_expand.specs.Including as including_spec;
@@ -127,6 +129,8 @@ impl Expansion {
         requires few { length self.old.nodes ≤ included_spec.node_limit }
         ensures few { OnOk result (length self.new.nodes ≤ included_spec.node_limit) }
         ensures left { OnOk result (self.new.left.items ≡ []) }
+        ensures asked { OnOk result (asked_for_spec.AreAsked (R.told reader.new)
+            (founded_spec.homes self.new.nodes)) }
         ensures stand { R.stand reader.new ≡ R.stand reader.old }
         ensures grows { Grows (R.told reader.old) (R.told reader.new) }
         ensures founded { StaysFounded [] (R.told reader.old) (R.told reader.new) }
@@ -149,7 +153,7 @@ impl Expansion {
     }
 
     // Goes over the first node of a walk, and leaves what stands in it and behind it.
-    #[tactic(auto, using(crate::proofs::LeftLaws::steps_left_push, crate::proofs::TellingLaws::telling))]
+    #[tactic(auto, using(crate::proofs::StepLaws::stepping))]
     fn step<R: Reader>(
         &mut self,
         alloc: Global,
@@ -206,7 +210,7 @@ impl Expansion {
     }
 
     // Makes the node of an element, and leaves the map that it includes and its content.
-    #[tactic(auto, using(crate::proofs::LeftLaws::steps_left_push, crate::proofs::TellingLaws::telling))]
+    #[tactic(auto, using(crate::proofs::StepLaws::stepping))]
     fn make<R: Reader>(
         &mut self,
         alloc: Global,
@@ -422,6 +426,8 @@ impl Expansion {
             ≡ making_spec.without_ends (tree_spec.plan_nodes tree) →
             IfOk result (λ made. made.nodes ≡ tree_spec.plan_nodes tree) }
         ensures faults { IfOk result (λ made. made.faults ≡ self.faults) }
+        ensures homes { IfOk result (λ made.
+            founded_spec.homes made.nodes ≡ founded_spec.homes self.nodes) }
     {
         let Expansion { nodes, faults, .. } = self;
         let mut nodes = nodes.into_vec();

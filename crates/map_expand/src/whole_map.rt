@@ -7,8 +7,10 @@ ghost use Rattle.map_spec.specs.Included as included_spec;
 ghost use Rattle.map_spec.specs.Written.{Whole};
 ghost use Rattle.reader_spec.specs.World.{World};
 ghost use Rattle.readers.specs.Documents.{AsksOnly};
+ghost use Rattle.readers.specs.Founded as founded_spec;
 ghost use Rattle.readers.specs.Founded.{Grows, StaysFounded};
 ghost use Rattle.readers.specs.Told.{Agrees};
+ghost use Rattle.map_expand.specs.AskedFor as asked_for_spec;
 ghost use Rattle.map_expand.specs.Ending as ending_spec;
 ghost use Rattle.map_expand.specs.Going as going_spec;
 ghost use Rattle.map_expand.specs.Homes as homes_spec;
@@ -45,6 +47,8 @@ pub fn expand<R: Reader>(
     ensures founded { StaysFounded (map.now ∷ []) (R.told reader.old) (R.told reader.new) }
     ensures asks { AsksOnly telling_spec.map_targets (map.now ∷ [])
         (R.told reader.old) (R.told reader.new) }
+    ensures asked { IfOk result (λ made. asked_for_spec.AreAsked (R.told reader.new)
+        (founded_spec.homes made.nodes)) }
 {
     let mut maps = Maps::new(alloc);
     let Some(root) = maps.find(alloc, reader, map)? else {
@@ -74,6 +78,8 @@ fn expand_root<R: Reader>(
     ensures founded { StaysFounded [] (R.told reader.old) (R.told reader.new) }
     ensures asks { AsksOnly telling_spec.map_targets []
         (R.told reader.old) (R.told reader.new) }
+    ensures asked { IfOk result (λ made. asked_for_spec.AreAsked (R.told reader.new)
+        (founded_spec.homes made.nodes)) }
 {
     let mut expansion = Expansion::new(alloc);
     match expansion.enter(alloc, maps, root, 0, 0) {

@@ -1,5 +1,6 @@
-use Rattle.std.proofs.Common.{◌≡◌, ◌∷◌, [], ◌∙◌, arith}
+use Rattle.std.proofs.Common.{◌≡◌, ◌∷◌, [], ◌∙◌, arith, subst, sym}
 use Rattle.map_spec.specs.MapTree.{Grown}
+use Rattle.map_expand.specs.AskedFor.{AreAsked}
 use Rattle.map_expand.specs.Going.{homes_of}
 use Rattle.map_expand.specs.Homes.{name_at}
 use Rattle.map_expand.specs.Making.{made_of, put, whole_map}
@@ -46,3 +47,7 @@ returns-clause-known g c = λ world agrees whole here.
     finished grown c.in_ok-finish.field-0
     (c.in_ok-finish.ensures.nodes grown.tree (one_root world (name ∷ []) 0 whole (omega arith)) ends.0)
     (c.in_ok-finish.ensures.faults ∙ ends.1) (omega (arith, ends.2, c.in-Ok-walk.ensures.few))
+
+pub returns-clause-asked : goal.returns-clause-asked
+returns-clause-asked g c = subst (AreAsked (g.R.Reader.told c.walk.new.reader)) (sym c.in_ok-finish.ensures.homes)
+    c.in-Ok-walk.ensures.asked

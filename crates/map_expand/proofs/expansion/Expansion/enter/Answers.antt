@@ -5,8 +5,11 @@ use Rattle.map_expand.specs.Homes.{AreSiblings, home_at, name_at}
 use Rattle.map_expand.specs.Making.{after, content, made_of, path_of, whole_map}
 use Rattle.map_expand.specs.declared.work.Walk.{Walk}
 use Rattle.map_expand.specs.declared.work.Work.TheVariants as works
+use Rattle.map_expand.specs.Telling.{IsTold}
+use Rattle.map_expand.proofs.AskedForLaws.{asked_node}
 use Rattle.map_expand.proofs.GoingLaws.{enter_all, entered_less, full_over, path_entered, some_map}
 use Rattle.map_expand.proofs.ReadyLaws.{ready_entered}
+use Rattle.map_expand.proofs.TellingLaws.{asked_first}
 use Rattle.map_expand.proofs.expansion.Expansion.enter.Goals as goal
 
 pub returns-in-Err-clause-made : goal.returns-in-Err-clause-made
@@ -75,3 +78,7 @@ returns-clause-ready c = λ told ready free few.
       };
       level = omega (arith, many, level_is, few);
     })
+    (asked_node told c.args.self.now.nodes c.put.new.self.nodes _ c.in-Ok.ensures.nodes ready.asked
+    (asked_first told (home_at homes c.in-Some.walk.map) c.in-Some.walk c.in-Some-first.name.now c.in-Some-first.root.now
+    (subst (λ m. IsTold told (home_at homes m)) (sym root.map) (ready.maps_fit.tells c.args.map c.requires.within))
+    c.in-Some-first.ensures))

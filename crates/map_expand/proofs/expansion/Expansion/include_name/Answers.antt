@@ -14,7 +14,8 @@ use Rattle.map_expand.proofs.expansion.Expansion.include_name.Goals as goal
 pub include_map-requires : goal.include_map-requires
 include_map-requires g c =
     let named = rw c.in-Some.is at c.in_ok-map.ensures.within in
-    let ready = ready_found _ _ c.args.maps.now c.find.new.self c.args.self.now c.requires.ready c.in_ok-map.ensures.fits
+    let ready = ready_found _ _ c.args.maps.now c.find.new.self c.args.self.now c.requires.ready
+    c.in_ok-map.ensures.grows c.in_ok-map.ensures.fits
     c.find.ensures.homes c.find.ensures.flags in
     record {
       within = omega (
@@ -34,7 +35,8 @@ include_map-requires g c =
 
 pub returns-in-Some-clause-ready : goal.returns-in-Some-clause-ready
 returns-in-Some-clause-ready g c = c.include_map.ensures.ready (g.R.Reader.told c.find.new.reader)
-    (ready_found _ _ c.args.maps.now c.find.new.self c.args.self.now c.requires.ready c.in_ok-map.ensures.fits
+    (ready_found _ _ c.args.maps.now c.find.new.self c.args.self.now c.requires.ready
+    c.in_ok-map.ensures.grows c.in_ok-map.ensures.fits
     c.find.ensures.homes c.find.ensures.flags)
 
 pub returns-in-Some-clause-made : goal.returns-in-Some-clause-made
@@ -54,9 +56,16 @@ returns-in-Some-clause-made g c = λ world agrees node here.
 
 pub returns-in_ok-append_fault-in-None-clause-ready : goal.returns-in_ok-append_fault-in-None-clause-ready
 returns-in_ok-append_fault-in-None-clause-ready g c =
-    let ready = ready_found _ _ c.args.maps.now c.find.new.self c.args.self.now c.requires.ready c.in_ok-map.ensures.fits
+    let ready = ready_found _ _ c.args.maps.now c.find.new.self c.args.self.now c.requires.ready
+    c.in_ok-map.ensures.grows c.in_ok-map.ensures.fits
     c.find.ensures.homes c.find.ensures.flags in
-    record { maps_fit = ready.maps_fit; work = ready.work; around = ready.around; apart = ready.apart }
+    record {
+      maps_fit = ready.maps_fit;
+      work = ready.work;
+      around = ready.around;
+      apart = ready.apart;
+      asked = ready.asked;
+    }
 
 pub returns-in_ok-append_fault-in-None-clause-made : goal.returns-in_ok-append_fault-in-None-clause-made
 returns-in_ok-append_fault-in-None-clause-made g c = λ world agrees node here.

@@ -12,8 +12,10 @@ use Rattle.map_expand.specs.Homes.{home_at, name_at}
 use Rattle.map_expand.specs.Making.{node_grown, path_of}
 use Rattle.map_expand.specs.declared.work.Work.TheVariants as works
 use Rattle.map_expand.proofs.AskedLaws.{made_less, may_find, made_with, made_without, on_ok_more, same_element, some_made}
+use Rattle.map_expand.proofs.AskedForLaws.{asked_node}
 use Rattle.map_expand.proofs.GoingLaws.{full_over}
 use Rattle.map_expand.proofs.MakeLaws.{ready_pushed}
+use Rattle.map_expand.proofs.TellingLaws.{asked_first}
 use Rattle.map_expand.proofs.expansion.Expansion.make.Goals as goal
 
 pub returns-in-Err-clause-made : goal.returns-in-Err-clause-made
@@ -42,6 +44,10 @@ include-requires-clause-ready g c =
       on = record { map = c.requires.fits.on.map; siblings = c.requires.inside };
       level = omega (arith, many, c.requires.fits.level);
     })
+    (asked_node (g.R.Reader.told c.args.reader.now) c.args.self.now.nodes c.put.new.self.nodes _ c.in-Ok.ensures.nodes
+    c.requires.ready.asked
+    (asked_first _ (home_at (homes_of c.args.maps.now) walk.map) walk c.in-Some.name.now c.in-Some.element.now
+    (c.requires.ready.maps_fit.tells walk.map c.requires.fits.on.map) c.in-Some.ensures))
 
 pub include-requires-clause-may : goal.include-requires-clause-may
 include-requires-clause-may g c =
@@ -114,6 +120,10 @@ returns-in-None-clause-ready g c =
       on = record { map = c.requires.fits.on.map; siblings = c.requires.inside };
       level = omega (arith, many, c.requires.fits.level);
     })
+    (asked_node (g.R.Reader.told c.args.reader.now) c.args.self.now.nodes c.put.new.self.nodes _ c.in-Ok.ensures.nodes
+    c.requires.ready.asked
+    (asked_first _ (home_at (homes_of c.args.maps.now) walk.map) walk c.in-Some.name.now c.in-Some.element.now
+    (c.requires.ready.maps_fit.tells walk.map c.requires.fits.on.map) c.in-Some.ensures))
 
 pub returns-in-None-clause-made : goal.returns-in-None-clause-made
 returns-in-None-clause-made g c = λ world agrees node here.

@@ -2,6 +2,8 @@ use Rattle.std.proofs.Common.{◌≡◌, arith, length, sym, subst, ap, ◌∙�
 use Rattle.doc_elements.specs.Walk.{element_of}
 use Rattle.map_spec.specs.Elements.{class_faults}
 use Rattle.map_spec.specs.Written.{Element}
+use Rattle.readers.specs.Founded as founded
+use Rattle.map_expand.specs.AskedFor.{AreAsked}
 use Rattle.map_expand.specs.Going.{homes_of, Goes, so_far}
 use Rattle.map_expand.specs.Homes.{home_at}
 use Rattle.map_expand.specs.Making.{Makes, WalkFits, behind, content, path_of}
@@ -19,7 +21,7 @@ make-requires-clause-ready g c =
     (record {
       on = record { map = c.requires.fits.on.map; siblings = c.in-Some.ensures.seen.behind };
       level = c.requires.fits.level;
-    }))
+    })) c.requires.ready.asked
 
 pub returns-in-Nothing-clause-ready : goal.returns-in-Nothing-clause-ready
 returns-in-Nothing-clause-ready g c =
@@ -30,7 +32,7 @@ returns-in-Nothing-clause-ready g c =
     (record {
       on = record { map = c.requires.fits.on.map; siblings = c.in-Some.ensures.seen.behind };
       level = c.requires.fits.level;
-    }))
+    })) c.requires.ready.asked
 
 pub returns-in-Node-clause-made : goal.returns-in-Node-clause-made
 returns-in-Node-clause-made g c = λ world agrees.
@@ -80,12 +82,13 @@ returns-in_ok-open-in-Content-clause-ready g c =
     (record {
       on = record { map = c.requires.fits.on.map; siblings = c.in-Some.ensures.seen.behind };
       level = c.requires.fits.level;
-    }))
+    }) c.requires.ready.asked)
     (omega (arith, many)) opened.left
     (record {
       on = record { map = c.requires.fits.on.map; siblings = c.in-Some.ensures.seen.inside };
       level = omega (arith, many, c.requires.fits.level);
     })
+    (subst (λ n. AreAsked (g.R.Reader.told c.args.reader.now) (founded.homes n)) (sym opened.nodes) c.requires.ready.asked)
 
 pub returns-in_ok-open-in-Content-clause-made : goal.returns-in_ok-open-in-Content-clause-made
 returns-in_ok-open-in-Content-clause-made g c = λ world agrees.
