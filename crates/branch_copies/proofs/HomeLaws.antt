@@ -8,6 +8,7 @@ use Rattle.dita_doc.specs.Tree as tree
 use Rattle.dita_doc.specs.Tree.{Content}
 use Rattle.dita_doc.specs.declared.doc.Node as doc
 use Rattle.dita_doc.specs.declared.plan.PlanNode.{PlanNode}
+use Rattle.doc_elements.specs.Walk.{Found, found_in}
 use Rattle.map_spec.specs.Cascade.{whole_at}
 use Rattle.map_spec.specs.Judged.{has_element}
 use Rattle.map_spec.specs.Written as written_spec
@@ -79,3 +80,22 @@ home_found world homes nodes at node found all here e =
 pub node_there : (nodes : List PlanNode) (at : ℕ) (node : PlanNode) → at < length nodes → node ≡ get_or nodes at node
     → slice_get nodes at ≡ Some node
 node_there nodes at node less is = slice_get-get_or nodes at node less ∙ ap (λ (n : PlanNode). Some n) (sym is)
+
+-- the same with what it holds
+whole_by : (name : List ℕ) (found : Option Found) (whole : Option Whole) → IsIn name whole
+    → found_in (option_map_or (λ (w : Whole). w.0.doc) whole []) found ≡ whole → found_in name found ≡ whole
+whole_by name None None is e = refl
+whole_by name (Some found) None is e = cc
+whole_by name found (Some whole) is e = subst (λ (n : List ℕ). found_in n found ≡ Some whole) (is whole refl) e
+
+pub whole_found : (world : World) (homes : List (Option Whole)) (nodes : List PlanNode) (at : ℕ) (node : PlanNode)
+    (found : Option Found) → homes ≡ map (whole_at world) nodes → slice_get nodes at ≡ Some node
+    → found_in (home_spec.doc_of homes at) found ≡ home_spec.whole_at homes at
+    → found_in node.doc found ≡ whole_at world node
+whole_found world homes nodes at node found all here e =
+    let entry : home_spec.whole_at homes at ≡ whole_at world node =
+    ap (λ (hs : List (Option Whole)). option_and_then (λ (w : Option Whole). w) (slice_get hs at)) all
+    ∙ ap (option_and_then (λ (w : Option Whole). w)) (slice_get-map (whole_at world) nodes at
+    ∙ ap (option_map (whole_at world)) here) in
+    let P : Option Whole → Type 0 = λ o. found_in (option_map_or (λ (w : Whole). w.0.doc) o []) found ≡ o in
+    whole_by node.doc found (whole_at world node) (doc_at world node) (subst P entry e)

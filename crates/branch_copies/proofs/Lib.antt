@@ -1,3 +1,24 @@
+mod AppendedLaws
+mod BranchLaws
+mod DitavalLaws
+mod EndLaws
+mod FirstLaws
+mod LeavesLaws
+mod MarkLaws
+mod OwnLaws
+mod PlacedLaws
+mod ReadLaws
+mod ReadingLaws
+mod RefLaws
+mod SeenLaws
+mod SightLaws
+mod StandLaws
+mod StepLaws
+mod ThroughLaws
+mod TopLaws
+mod TreeLaws
+pub mod DitavalrefLaws
+pub mod Growing
 pub mod HomeLaws
 pub mod LeftLaws
 pub mod SieveLaws

@@ -1,5 +1,15 @@
 //! The DITAVALs that were asked for.
 
+ghost use Rattle.std.specs.Prelude.{◌≡◌, ◌++◌, [], ◌∷◌, Some, IfOk, OnOk, length, map};
+ghost use Rattle.branch_copies.specs.Ditavals as ditavals_spec;
+ghost use Rattle.ditaval_rules.specs.declared.rules.RulesRead.{RulesRead};
+ghost use Rattle.map_spec.specs.Branches as branches_spec;
+ghost use Rattle.reader_spec.specs.World.{World};
+ghost use Rattle.readers.specs.Documents as documents_spec;
+ghost use Rattle.readers.specs.Documents.{AsksOnly};
+ghost use Rattle.readers.specs.Founded.{Grows, StaysFounded};
+ghost use Rattle.readers.specs.Told.{Agrees};
+
 use dita_doc::{Fault, List, Name, NoMemory, Stop};
 use ditaval_rules::{RuleTable, RulesRead, read_rules};
 use readers::Reader;
@@ -14,7 +24,10 @@ pub(crate) struct Ditavals {
 }
 
 impl Ditavals {
-    pub fn new(alloc: Global) -> Ditavals {
+    pub fn new(alloc: Global) -> Ditavals
+        ensures known { result.known.entries ≡ [] }
+        ensures read { result.read.items ≡ [] }
+    {
         Ditavals {
             known: BTreeMap::new(alloc),
             read: Vec::new(alloc),
@@ -22,41 +35,66 @@ impl Ditavals {
     }
 
     /// The DITAVAL of a name, if there is one. No document is asked for or read twice.
+    #[tactic(auto, using(crate::proofs::Growing::telling))]
     pub fn find<R: Reader>(
         &mut self,
         alloc: Global,
         reader: &mut R,
         name: &Name,
-    ) -> Result<Option<usize>, NoMemory> {
+    ) -> Result<Option<usize>, NoMemory>
+        ensures known { (world : World) → Agrees world (R.told reader.new)
+            → ditavals_spec.AreKnown world self.old.read.items self.old.known.entries
+            → IfOk result (λ place. ditavals_spec.IsDitavalOf world self.old.read.items
+            self.new.read.items self.new.known.entries name.now place) }
+        ensures stand { R.stand reader.new ≡ R.stand reader.old }
+        ensures founded { StaysFounded (name.now ∷ []) (R.told reader.old) (R.told reader.new) }
+        ensures asks { AsksOnly documents_spec.nothing (name.now ∷ []) (R.told reader.old)
+            (R.told reader.new) }
+        ensures grows { Grows (R.told reader.old) (R.told reader.new) }
+    {
         if let Some(ditaval) = self.known.get(name) {
             return Ok(*ditaval);
         }
-        let ditaval = match read_under(alloc, reader, name)? {
-            Some(read) => Some(self.put(read)?),
-            None => None,
-        };
+        let read = read_under(alloc, reader, name)?;
+        let ditaval = self.put(read)?;
         self.known.insert(name.clone()?, ditaval)?;
         Ok(ditaval)
     }
 
-    fn put(&mut self, read: RulesRead) -> Result<usize, NoMemory> {
+    // Puts a DITAVAL behind the others, if there is one, and gives its place.
+    fn put(&mut self, read: Option<RulesRead>) -> Result<Option<usize>, NoMemory>
+        ensures longer { OnOk result (ditavals_spec.Longer self.old.read.items
+            self.new.read.items) }
+        ensures within { IfOk result (λ place. ditavals_spec.IsWithin
+            (length self.new.read.items) place) }
+        ensures is { IfOk result (λ place.
+            ditavals_spec.ditaval_at self.new.read.items place ≡ read) }
+        ensures known { self.new.known ≡ self.old.known }
+    {
+        let Some(read) = read else {
+            return Ok(None);
+        };
         let place = self.read.len();
         self.read.push(read)?;
-        Ok(place)
+        Ok(Some(place))
     }
 
     /// Appends what is wrong with a DITAVAL.
-    pub fn append_faults(&self, faults: &mut List<Fault>, ditaval: usize) -> Result<(), NoMemory> {
+    pub fn append_faults(&self, faults: &mut List<Fault>, ditaval: usize) -> Result<(), NoMemory>
+        ensures { OnOk result (faults.new
+            ≡ faults.old ++ ditavals_spec.faults_at self.now.read.items ditaval) }
+    {
         if let Some(read) = self.read.get(ditaval) {
-            for fault in read.faults.as_slice() {
-                faults.push(copy_fault(fault)?)?;
-            }
+            append_copies(faults, read.faults.as_slice())?;
         }
         Ok(())
     }
 
     /// A table of the rules of each DITAVAL.
-    pub fn tables(&self, alloc: Global) -> Result<Vec<RuleTable<'_>>, NoMemory> {
+    pub fn tables(&self, alloc: Global) -> Result<Vec<RuleTable<'_>>, NoMemory>
+        ensures { IfOk result (λ tables. tables.items
+            ≡ map (λ (read : RulesRead). read.rules) self.now.read.items) }
+    {
         let mut tables = Vec::new(alloc);
         for read in &self.read {
             tables.push(RuleTable::new(alloc, &read.rules)?)?;
@@ -66,11 +104,20 @@ impl Ditavals {
 }
 
 // What is read of the DITAVAL that stands under a name.
+#[tactic(auto, using(crate::proofs::Growing::telling))]
 fn read_under<R: Reader>(
     alloc: Global,
     reader: &mut R,
     name: &Name,
-) -> Result<Option<RulesRead>, NoMemory> {
+) -> Result<Option<RulesRead>, NoMemory>
+    ensures known { (world : World) → Agrees world (R.told reader.new)
+        → IfOk result (λ read. read ≡ branches_spec.ditaval_in world name.now) }
+    ensures stand { R.stand reader.new ≡ R.stand reader.old }
+    ensures founded { StaysFounded (name.now ∷ []) (R.told reader.old) (R.told reader.new) }
+    ensures asks { AsksOnly documents_spec.nothing (name.now ∷ []) (R.told reader.old)
+        (R.told reader.new) }
+    ensures grows { Grows (R.told reader.old) (R.told reader.new) }
+{
     let Some(doc) = reader.doc(alloc, name)? else {
         return Ok(None);
     };
@@ -81,7 +128,19 @@ fn read_under<R: Reader>(
     }
 }
 
-fn copy_fault(fault: &Fault) -> Result<Fault, NoMemory> {
+// Appends copies of faults.
+fn append_copies(out: &mut List<Fault>, faults: &[Fault]) -> Result<(), NoMemory>
+    ensures { OnOk result (out.new ≡ out.old ++ faults.now) }
+{
+    for fault in faults {
+        out.push(copy_fault(fault)?)?;
+    }
+    Ok(())
+}
+
+fn copy_fault(fault: &Fault) -> Result<Fault, NoMemory>
+    ensures { IfOk result (λ copy. copy ≡ fault.now) }
+{
     Ok(Fault {
         name: fault.name.clone()?,
         line: fault.line,

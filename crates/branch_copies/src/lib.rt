@@ -1,13 +1,14 @@
 //! The nodes of a map filtered by rules, and the copies of its branches.
 //!
-//! What is used above it: the contract of `filter_nodes`, the definition of what it answers;
-//! `copy_branches` returns.
+//! What is used above it: the contracts of `filter_nodes` and `copy_branches`, which give what
+//! their definitions give.
 #![tactic(auto)]
 
 mod branch;
 mod branches;
 mod chains;
 mod copies;
+mod copying;
 mod ditavals;
 mod filter;
 mod groups;
