@@ -1,7 +1,7 @@
 //! Key scopes, and the search for the definition of a key.
 //!
 //! What is used above it: `scopes` makes the table once for a map, and `find` looks up keys in it
-//! without memory. It is proved safe and to return.
+//! without memory; each exactly.
 #![tactic(auto)]
 
 mod children;

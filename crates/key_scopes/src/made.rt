@@ -1,11 +1,25 @@
 //! The making of the table.
 
+ghost use Rattle.std.specs.Prelude.{◌≡◌, map, IfOk};
+ghost use Rattle.key_scopes.specs.Defined as defined_spec;
+ghost use Rattle.key_scopes.specs.Made as made_spec;
+ghost use Rattle.key_scopes.specs.Numbered as numbered_spec;
+ghost use Rattle.map_spec.specs.Cascade as cascade_spec;
+ghost use Rattle.map_spec.specs.Scopes as scopes_spec;
+ghost use Rattle.plan_nodes.specs.Preorder as preorder_spec;
+ghost use Rattle.reader_spec.specs.World.{World};
+ghost use Rattle.readers.specs.Documents as documents_spec;
+ghost use Rattle.readers.specs.Documents.{AsksOnly};
+ghost use Rattle.readers.specs.Founded as founded_spec;
+ghost use Rattle.readers.specs.Founded.{Grows, StaysFounded};
+ghost use Rattle.readers.specs.Told.{Agrees};
+
 use crate::children::ChildNames;
-use crate::definitions::Definitions;
-use crate::numbering::Numbering;
+use crate::definitions::{Definitions, Written};
+use crate::numbering::{Numbering, place_in};
 use crate::spans::Spans;
 use crate::table::ScopeTable;
-use dita_doc::{Fault, List, NoMemory, PlanNode};
+use dita_doc::{Fault, List, NoMemory, PlanNode, Scope};
 use plan_nodes::{Homes, copy_node};
 use readers::Reader;
 use std::alloc::{AllocError, Global};
@@ -28,37 +42,103 @@ pub fn scopes<R: Reader>(
     alloc: Global,
     reader: &mut R,
     nodes: &List<PlanNode>,
-) -> Result<ScopesMade, NoMemory> {
-    let nodes = nodes.as_slice();
+) -> Result<ScopesMade, NoMemory>
+    ensures known { (world : World) → Agrees world (R.told reader.new)
+        → preorder_spec.IsTree nodes.now
+        → IfOk result (λ made. made_spec.AreScopes world nodes.now made) }
+    ensures value { preorder_spec.IsTree nodes.now → IfOk result (λ made.
+        made_spec.AreScopes (R.stand reader.old).world nodes.now made) }
+    ensures stand { R.stand reader.new ≡ R.stand reader.old }
+    ensures founded { StaysFounded (founded_spec.homes nodes.now) (R.told reader.old)
+        (R.told reader.new) }
+    ensures asks { AsksOnly documents_spec.nothing (founded_spec.homes nodes.now)
+        (R.told reader.old) (R.told reader.new) }
+    ensures grows { Grows (R.told reader.old) (R.told reader.new) }
+{
+    scopes_of(alloc, reader, nodes.as_slice())
+}
+
+// What `scopes` says, but of the reader's own world.
+#[tactic(auto, using(crate::proofs::Walking::walking))]
+fn scopes_of<R: Reader>(
+    alloc: Global,
+    reader: &mut R,
+    nodes: &[PlanNode],
+) -> Result<ScopesMade, NoMemory>
+    ensures known { (world : World) → Agrees world (R.told reader.new)
+        → preorder_spec.IsTree nodes.now
+        → IfOk result (λ made. made_spec.AreScopes world nodes.now made) }
+    ensures stand { R.stand reader.new ≡ R.stand reader.old }
+    ensures founded { StaysFounded (founded_spec.homes nodes.now) (R.told reader.old)
+        (R.told reader.new) }
+    ensures asks { AsksOnly documents_spec.nothing (founded_spec.homes nodes.now)
+        (R.told reader.old) (R.told reader.new) }
+    ensures grows { Grows (R.told reader.old) (R.told reader.new) }
+{
     let homes = Homes::of(alloc, reader, nodes)?;
+    scopes_in(alloc, &homes, nodes)
+}
+
+// The scopes of nodes of which the elements are known.
+fn scopes_in(alloc: Global, homes: &Homes, nodes: &[PlanNode]) -> Result<ScopesMade, NoMemory>
+    ensures { (world : World) → homes.now ≡ map (cascade_spec.whole_at world) nodes.now
+        → preorder_spec.IsTree nodes.now
+        → IfOk result (λ made. made_spec.AreScopes world nodes.now made) }
+{
+    let numbering = Numbering::of(alloc, homes, nodes)?;
+    let copies = scoped(alloc, nodes, &numbering.places)?;
     let Numbering {
         scopes,
-        places,
         written,
         faults,
-    } = Numbering::of(alloc, &homes, nodes)?;
-    let spans = Spans::of(alloc, scopes.as_slice())?;
-    let definitions = Definitions::of(alloc, written, &spans)?;
-    let children = ChildNames::of(alloc, scopes.as_slice())?;
+        ..
+    } = numbering;
+    let table = table_of(alloc, scopes, written, nodes.len())?;
     Ok(ScopesMade {
-        table: ScopeTable {
-            scopes,
-            spans,
-            definitions,
-            children,
-        },
-        nodes: scoped(alloc, nodes, &places)?,
+        table,
+        nodes: copies,
         faults,
     })
 }
 
+// The table of scopes, with the keys that so many nodes define in them.
+fn table_of(
+    alloc: Global,
+    scopes: List<Scope>,
+    written: Vec<Written<'_>>,
+    count: usize,
+) -> Result<ScopeTable, NoMemory>
+    ensures { IfOk result (λ table. defined_spec.IsTableBy count scopes
+        (numbered_spec.entries written.entry.items) table) }
+{
+    let spans = Spans::of(alloc, scopes.as_slice())?;
+    let definitions = Definitions::of(alloc, written, count, &spans)?;
+    let children = ChildNames::of(alloc, scopes.as_slice())?;
+    Ok(ScopeTable {
+        scopes,
+        spans,
+        definitions,
+        children,
+    })
+}
+
 // Copies of the nodes with their scopes.
-fn scoped(alloc: Global, nodes: &[PlanNode], places: &[u32]) -> Result<List<PlanNode>, AllocError> {
+fn scoped(alloc: Global, nodes: &[PlanNode], places: &[u32]) -> Result<List<PlanNode>, AllocError>
+    ensures { places.now ≡ map (scopes_spec.scope_at nodes.now) (scopes_spec.places nodes.now)
+        → IfOk result (λ copies. copies ≡ scopes_spec.scoped nodes.now) }
+{
     let mut copies = List::new(alloc);
-    for (node, scope) in nodes.iter().zip(places) {
-        let mut copy = copy_node(alloc, node)?;
-        copy.scope = *scope;
-        copies.push(copy)?;
+    for (at, node) in nodes.iter().enumerate() {
+        copies.push(node_in(alloc, node, place_in(places, at))?)?;
     }
     Ok(copies)
+}
+
+// A copy of a node in this scope.
+fn node_in(alloc: Global, node: &PlanNode, scope: u32) -> Result<PlanNode, AllocError>
+    ensures { IfOk result (λ copy. copy ≡ record node.now { scope = scope }) }
+{
+    let mut copy = copy_node(alloc, node)?;
+    copy.scope = scope;
+    Ok(copy)
 }

@@ -1,6 +1,11 @@
 //! Names of keys and of scopes.
 
-use dita_doc::Text;
+ghost use Rattle.std.specs.Prelude.{◌≡◌, ◌++◌, [], ◌∷◌, IfOk, OnOk};
+ghost use Rattle.dita_doc.specs.ClassValue as class_value_spec;
+ghost use Rattle.key_scopes.specs.Named as spec;
+ghost use Rattle.map_spec.specs.Scopes as scopes_spec;
+
+use dita_doc::{Text, split_word};
 use std::alloc::{AllocError, Global};
 use std::collections::BTreeSet;
 
@@ -14,7 +19,9 @@ pub(crate) struct Names<'a> {
 
 impl<'a> Names<'a> {
     /// The names among texts.
-    pub(crate) fn among(alloc: Global, texts: &'a [Text]) -> Result<Names<'a>, AllocError> {
+    pub(crate) fn among(alloc: Global, texts: &'a [Text]) -> Result<Names<'a>, AllocError>
+        ensures { IfOk result (λ names. spec.AreNames texts.now names) }
+    {
         let mut names = Names::new(alloc);
         for text in texts {
             names.push(text.as_str())?;
@@ -23,17 +30,22 @@ impl<'a> Names<'a> {
     }
 
     /// The words of a value.
-    pub(crate) fn within(alloc: Global, value: &'a str) -> Result<Names<'a>, AllocError> {
+    pub(crate) fn within(alloc: Global, value: &'a str) -> Result<Names<'a>, AllocError>
+        ensures { IfOk result (λ names.
+            spec.AreNames (class_value_spec.words_of value.now) names) }
+    {
         let mut names = Names::new(alloc);
-        for word in value.split(|c: char| c == ' ' || c == '\t' || c == '\n') {
-            if !word.is_empty() {
-                names.push(word)?;
-            }
+        let mut rest = value.as_bytes();
+        while let Some((word, more)) = split_word(rest) {
+            names.push(unsafe { str::from_utf8_unchecked(word) })?;
+            rest = more;
         }
         Ok(names)
     }
 
-    fn new(alloc: Global) -> Names<'a> {
+    fn new(alloc: Global) -> Names<'a>
+        ensures { spec.AreNames [] result }
+    {
         Names {
             good: Vec::new(alloc),
             bad: Vec::new(alloc),
@@ -41,7 +53,10 @@ impl<'a> Names<'a> {
         }
     }
 
-    fn push(&mut self, name: &'a str) -> Result<(), AllocError> {
+    fn push(&mut self, name: &'a str) -> Result<(), AllocError>
+        ensures { (written : spec.Texts) → spec.AreNames written self.old
+            → OnOk result (spec.AreNames (written ++ name.now ∷ []) self.new) }
+    {
         if !self.known.insert(name)? {
             return Ok(());
         }
@@ -54,7 +69,15 @@ impl<'a> Names<'a> {
     }
 }
 
-// Whether none of the bytes `{`, `}`, `[`, `]`, `/`, `#` and `?` stands in a name.
-fn is_good_name(name: &[u8]) -> bool {
-    !name.iter().any(|byte| { matches!(*byte, b'{' | b'}' | b'[' | b']' | b'/' | b'#' | b'?') })
+fn is_good_name(name: &[u8]) -> bool
+    ensures { result ≡ scopes_spec.is_good_name name.now }
+{
+    !name.iter().any(|byte| is_bad_byte(*byte))
+}
+
+// Whether it is `{`, `}`, `[`, `]`, `/`, `#` or `?`.
+fn is_bad_byte(byte: u8) -> bool
+    ensures { result ≡ scopes_spec.is_bad_byte byte }
+{
+    matches!(byte, b'{' | b'}' | b'[' | b']' | b'/' | b'#' | b'?')
 }

@@ -1,9 +1,19 @@
 //! The search for a key.
 
-ghost use Rattle.std.specs.Prelude.{◌≡◌, ◌<◌, true, length, IfSome};
+ghost use Rattle.std.specs.Prelude.{◌≡◌, ◌&&◌, ◌<◌, ℕ, List, Option, true, find, length, nat_lt, option_map, IfSome};
+ghost use Rattle.std.specs.Option.{option_copied, option_or};
+ghost use Rattle.dita_doc.specs.declared.plan.PlanNode.{PlanNode};
+ghost use Rattle.dita_doc.specs.declared.plan.Scope as scope_spec;
+ghost use Rattle.key_scopes.specs.Children as children_spec;
+ghost use Rattle.key_scopes.specs.Made as made_spec;
+ghost use Rattle.key_scopes.specs.Rising as rising_spec;
 ghost use Rattle.key_scopes.specs.Steps as spec;
+ghost use Rattle.key_scopes.specs.Ways as ways_spec;
+ghost use Rattle.map_spec.specs.Scopes as scopes_spec;
+ghost use Rattle.reader_spec.specs.World.{World};
 
 use crate::children::ChildName;
+use crate::definitions::Definition;
 use crate::table::ScopeTable;
 
 // The way into a scope by one of its names, with which a key begins: the scope, where the name
@@ -18,7 +28,8 @@ struct Step<'k> {
 impl Step<'_> {
     // Whether it counts before the way by another name.
     fn is_before(&self, name: &ChildName) -> bool
-        ensures { result ≡ true → spec.step_order self.now < spec.name_order name.now }
+        ensures order { result ≡ true → spec.step_order self.now < spec.name_order name.now }
+        ensures value { result ≡ ways_spec.is_later self.now.child self.now.rank name.now }
     {
         self.child < name.child || (self.child == name.child && self.rank < name.rank)
     }
@@ -27,28 +38,70 @@ impl Step<'_> {
 /// The node that defines a key, searched from the root scope down to this one: at each scope its own
 /// definition, then that of a scope in it, whose name and a dot stand before the key. A scope that
 /// is not in the table counts as the root scope. It takes no memory.
-pub fn find(table: &ScopeTable, scope: u32, key: &[u8]) -> Option<u32> {
-    let scope = if (scope as usize) < table.scopes.len() {
+pub fn find(table: &ScopeTable, scope: u32, key: &[u8]) -> Option<u32>
+    ensures { (world : World) (nodes : List PlanNode) → made_spec.IsTableOf world nodes table.now
+        → result ≡ scopes_spec.found world nodes scope key.now }
+{
+    let scope = scope_within(table, scope);
+    let own = table.definitions.outermost(&table.spans, scope, key);
+    let from = from_of(table, scope, own);
+    outer_or_own(by_dots(table, from, key), own)
+}
+
+// The scope, or the root scope if it is not in the table.
+fn scope_within(table: &ScopeTable, scope: u32) -> u32
+    ensures { result ≡ rising_spec.scope_within table.now.scopes scope }
+{
+    if (scope as usize) < table.scopes.len() {
         scope
     } else {
         0
-    };
-    let own = table.definitions.outermost(&table.spans, scope, key);
-    if key.contains(&b'.') {
-        let from = match own {
-            Some(own) => table.around(own.scope),
-            None => Some(scope),
-        };
-        if let Some(node) = outermost_qualified(table, from, key) {
-            return Some(node);
-        }
     }
-    Some(own?.node)
+}
+
+// The innermost scope whose qualified keys count before the outermost own definition.
+fn from_of(table: &ScopeTable, scope: u32, own: Option<&Definition>) -> Option<u32>
+    ensures { result ≡ rising_spec.from_of table.now.scopes scope (option_copied own.entry) }
+{
+    match own {
+        Some(own) => table.around(own.scope),
+        None => Some(scope),
+    }
+}
+
+// The node that was found further out, or else that of the own definition.
+fn outer_or_own(outer: Option<u32>, own: Option<&Definition>) -> Option<u32>
+    ensures { result ≡ option_or outer
+        (rising_spec.node_of (option_copied own.entry)) }
+{
+    match outer {
+        Some(node) => Some(node),
+        None => Some(own?.node),
+    }
+}
+
+// As `outermost_qualified` does; a key without a dot has none.
+fn by_dots(table: &ScopeTable, from: Option<u32>, key: &[u8]) -> Option<u32>
+    ensures { (world : World) (nodes : List PlanNode) → made_spec.IsTableOf world nodes table.now
+        → IfSome from (λ scope. scope < length table.now.scopes)
+        → result ≡ rising_spec.outermost_from (rising_spec.by_names world nodes key.now)
+        table.now.scopes from }
+{
+    if key.contains(&b'.') {
+        outermost_qualified(table, from, key)
+    } else {
+        None
+    }
 }
 
 // The definition by a qualified key at the outermost scope that has one, of this scope and those
 // around it.
-fn outermost_qualified(table: &ScopeTable, from: Option<u32>, key: &[u8]) -> Option<u32> {
+fn outermost_qualified(table: &ScopeTable, from: Option<u32>, key: &[u8]) -> Option<u32>
+    ensures { (world : World) (nodes : List PlanNode) → made_spec.IsTableOf world nodes table.now
+        → IfSome from (λ scope. scope < length table.now.scopes)
+        → result ≡ rising_spec.outermost_from (rising_spec.by_names world nodes key.now)
+        table.now.scopes from }
+{
     let mut found = None;
     let mut here = from;
     while let Some(scope) = here {
@@ -63,7 +116,10 @@ fn outermost_qualified(table: &ScopeTable, from: Option<u32>, key: &[u8]) -> Opt
 // The definition of a key that begins with a name of a scope in this one and a dot: that scope's own
 // for the rest of the key, or again one of a scope in it. Of several the first scope's counts, and
 // of its names the first. Into the last scope that fits the search goes on without a call.
-fn qualified(table: &ScopeTable, scope: u32, key: &[u8]) -> Option<u32> {
+fn qualified(table: &ScopeTable, scope: u32, key: &[u8]) -> Option<u32>
+    ensures { (world : World) (nodes : List PlanNode) → made_spec.IsTableOf world nodes table.now
+        → result ≡ rising_spec.by_names world nodes key.now scope }
+{
     let mut around = scope;
     let mut left = key;
     let mut step = next_step(table, around, left, None)?;
@@ -97,6 +153,9 @@ fn next_step<'k>(
 ) -> Option<Step<'k>>
     ensures rest { IfSome result (λ step. length step.rest.now < length key.now) }
     ensures behind { IfSome result (λ step. spec.last_order after.entry < spec.step_order step) }
+    ensures value { children_spec.AreChildNames table.now.scopes table.now.names table.now.longest
+        → option_map ways_spec.way_of result ≡ ways_spec.next_way table.now.scopes scope key.now
+        (option_map ways_spec.way_of after.entry) }
 {
     let mut first: Option<Step<'k>> = None;
     for (dot, byte) in key.iter().enumerate() {
@@ -107,7 +166,7 @@ fn next_step<'k>(
             continue;
         }
         if let Some(name) = name_behind(table.children.named(scope, &key[..dot]), after) {
-            if first.is_none_or(|first| !first.is_before(name)) {
+            if is_earlier(name, first) {
                 first = Some(Step {
                     child: name.child,
                     rank: name.rank,
@@ -119,9 +178,23 @@ fn next_step<'k>(
     first
 }
 
+// Whether no way stands before that by a name.
+fn is_earlier(name: &ChildName, first: Option<Step<'_>>) -> bool
+    ensures { result
+        ≡ ways_spec.is_earlier (option_map ways_spec.way_of first.entry) name.now }
+{
+    match first {
+        Some(first) => !first.is_before(name),
+        None => true,
+    }
+}
+
 // The first of some names in order that stands behind a way.
 fn name_behind<'a>(names: &'a [ChildName], after: Option<Step<'_>>) -> Option<&'a ChildName>
-    ensures { IfSome result (λ name. spec.last_order after.entry < spec.name_order name.now) }
+    ensures behind { IfSome result (λ name.
+        spec.last_order after.entry < spec.name_order name.now) }
+    ensures value { ways_spec.AreInTurn names.now → option_copied result ≡ find
+        (ways_spec.is_behind (option_map ways_spec.way_of after.entry)) names.now }
 {
     let Some(after) = after else {
         return names.first();

@@ -1,0 +1,363 @@
+-- The definitions by qualified keys, way by way.
+use Rattle.std.specs.Prelude.{◌≡◌, ◌+◌, ◌<◌, ◌≤◌, ◌==◌, ◌&&◌, ℕ, zero, suc, Bool, true, false, List, [], ◌∷◌, ◌++◌, Option, Some, None, filter, find, length, map, option_map, slice_get}
+use Rattle.std.specs.List.{All, filter_map, flat_map}
+use Rattle.std.specs.Option.{option_and_then, option_or}
+use Rattle.std.proofs.Common.{refl, sym, ap, subst, ◌∙◌, arith}
+use Rattle.std.proofs.lemmas.Bool.Decides.{nat_tests}
+use Rattle.std.proofs.lemmas.List.{length-drop, map-append}
+use Rattle.std.proofs.lemmas.List.Elements.{All-cons, All-head, All-nil, All-tail, All-weaker}
+use Rattle.dita_doc.specs.declared.plan.PlanNode.{PlanNode}
+use Rattle.dita_doc.specs.declared.plan.Scope.{Scope}
+use Rattle.key_scopes.specs.declared.children.ChildName.{ChildName}
+use Rattle.key_scopes.specs.Children.{all_names, names_of, ranked}
+use Rattle.key_scopes.specs.Rising.{by_names}
+use Rattle.key_scopes.specs.Ways.{AreInTurn, Way, is_behind, is_later, leads, next_way, way_in}
+use Rattle.key_scopes.proofs.DotLaws.{behind_dot, cut, leads_short}
+use Rattle.key_scopes.proofs.FirstLaws.{find_is}
+use Rattle.key_scopes.proofs.TestLaws.{and_right, same_number}
+use Rattle.key_scopes.proofs.TurnLaws.{all_in_turn, later_trans, not_itself, not_later}
+use Rattle.map_spec.specs.Scopes.{begins, behind, first_found, is_child_of, numbered, own, places, qualified, scope_begun, scopes}
+use Rattle.reader_spec.specs.World.{World}
+
+-- Lists of answers
+
+first_cons : (x : Option ℕ) (xs : List (Option ℕ)) → first_found (x ∷ xs) ≡ option_or x (first_found xs)
+first_cons None xs = refl
+first_cons (Some x) xs = refl
+
+or_assoc : (a b c : Option ℕ) → option_or (option_or a b) c ≡ option_or a (option_or b c)
+or_assoc None b c = refl
+or_assoc (Some a) b c = refl
+
+first_append : (xs ys : List (Option ℕ)) → first_found (xs ++ ys) ≡ option_or (first_found xs) (first_found ys)
+first_append [] ys = refl
+first_append (x ∷ xs) ys =
+    first_cons x (xs ++ ys) ∙ ap (option_or x) (first_append xs ys)
+    ∙ sym (or_assoc x (first_found xs) (first_found ys))
+    ∙ ap (λ one. option_or one (first_found ys)) (sym (first_cons x xs))
+
+filter_append : (p : ChildName → Bool) (xs ys : List ChildName) → filter p (xs ++ ys) ≡ filter p xs ++ filter p ys
+filter_append p [] ys = refl
+filter_append p (x ∷ xs) ys = by_one (filter_append p xs ys) (p x) refl
+  where
+    by_one : filter p (xs ++ ys) ≡ filter p xs ++ filter p ys → (a : Bool) → p x ≡ a
+        → filter p ((x ∷ xs) ++ ys) ≡ filter p (x ∷ xs) ++ filter p ys
+    by_one behind true e = rw e (ap (λ some. x ∷ some) behind)
+    by_one behind false e = rw e behind
+
+-- the first answer of the ways by some names
+abbrev pub answers : (Way → Option ℕ) → List ℕ → List ChildName → Option ℕ
+answers try key names = first_found (map (λ name. try (way_in key name)) names)
+
+answers_append : (try : Way → Option ℕ) (key : List ℕ) (xs ys : List ChildName)
+    → answers try key (xs ++ ys) ≡ option_or (answers try key xs) (answers try key ys)
+answers_append try key xs ys =
+    ap first_found (map-append (λ name. try (way_in key name)) xs ys)
+    ∙ first_append (map (λ name. try (way_in key name)) xs) (map (λ name. try (way_in key name)) ys)
+
+-- The names of the scopes in a scope
+
+module _ (try : Way → Option ℕ) (attempt : ℕ → List ℕ → Option ℕ) (scope : ℕ) (key : List ℕ)
+    (same : (child rank : ℕ) (rest : List ℕ)
+    → try (record { child = child; rank = rank; rest = rest }) ≡ attempt child rest) where
+  abbrev attempted : ℕ → List ℕ → Option ℕ
+  attempted child name = option_and_then (λ rest. attempt child rest) (behind_dot name key)
+
+  one_scope : (child rank : ℕ) (names : List (List ℕ))
+      → first_found (map (attempted child) names)
+      ≡ answers try key (filter (leads scope key) (ranked scope child rank names))
+  one_scope child rank [] = refl
+  one_scope child rank (name ∷ names) =
+      first_cons (attempted child name) (map (attempted child) names)
+      ∙ ap (option_or (attempted child name)) (one_scope child (rank + 1) names)
+      ∙ by_found (behind_dot name key) refl
+    where
+      here : (scope == scope) ≡ true
+      here = grind (arith, nat_tests)
+
+      by_found : (found : Option (List ℕ)) → behind_dot name key ≡ found
+          → option_or (option_and_then (λ rest. attempt child rest) (behind_dot name key))
+          (answers try key (filter (leads scope key) (ranked scope child (rank + 1) names)))
+          ≡ answers try key (filter (leads scope key) (ranked scope child rank (name ∷ names)))
+      by_found None e = rw (here, e) refl
+      by_found (Some rest) e =
+          let there = (cut name key rest e).rest in
+          rw (here, e) (ap (λ one. option_or one (answers try key (filter (leads scope key)
+          (ranked scope child (rank + 1) names)))) (sym (same child rank rest)
+          ∙ ap (λ left. try (record { child = child; rank = rank; rest = left })) there)
+          ∙ sym (first_cons (try (way_in key (record { parent = scope; name = name; child = child; rank = rank })))
+          (map (λ name. try (way_in key name)) (filter (leads scope key) (ranked scope child (rank + 1) names)))))
+
+  other_scope : (parent child rank : ℕ) (names : List (List ℕ)) → (parent == scope) ≡ false
+      → filter (leads scope key) (ranked parent child rank names) ≡ []
+  other_scope parent child rank [] e = refl
+  other_scope parent child rank (name ∷ names) e = rw e (other_scope parent child (rank + 1) names e)
+
+  abbrev attempts : Scope × ℕ → List (Option ℕ)
+  attempts child = map (attempted child.1) child.0.names
+
+  all_scopes : (at : ℕ) (some : List Scope) → 0 < at
+      → first_found (flat_map attempts (filter (is_child_of scope) (numbered at some)))
+      ≡ answers try key (filter (leads scope key) (flat_map names_of (numbered at some)))
+  all_scopes at [] above = refl
+  all_scopes at (one ∷ some) above =
+      by_test (all_scopes (at + 1) some (omega arith)) (one.parent == scope) refl
+    where
+      not_root : (at == 0) ≡ false
+      not_root = grind (arith, nat_tests)
+
+      later : List ChildName
+      later = flat_map names_of (numbered (at + 1) some)
+
+      by_test : first_found (flat_map attempts (filter (is_child_of scope) (numbered (at + 1) some)))
+          ≡ answers try key (filter (leads scope key) (flat_map names_of (numbered (at + 1) some)))
+          → (a : Bool) → (one.parent == scope) ≡ a
+          → first_found (flat_map attempts (filter (is_child_of scope) (numbered at (one ∷ some))))
+          ≡ answers try key (filter (leads scope key) (flat_map names_of (numbered at (one ∷ some))))
+      by_test behind true e =
+          let is : one.parent ≡ scope = same_number one.parent scope e in
+          let right : answers try key (filter (leads scope key) (flat_map names_of (numbered at (one ∷ some))))
+          ≡ option_or (answers try key (filter (leads scope key) (ranked scope at 0 one.names)))
+          (answers try key (filter (leads scope key) (flat_map names_of (numbered (at + 1) some)))) =
+          ap (answers try key) (filter_append (leads scope key) (names_of (one, at))
+          (flat_map names_of (numbered (at + 1) some)))
+          ∙ answers_append try key (filter (leads scope key) (names_of (one, at)))
+          (filter (leads scope key) (flat_map names_of (numbered (at + 1) some)))
+          ∙ ap (λ p. option_or (answers try key (filter (leads scope key) (ranked p at 0 one.names)))
+          (answers try key (filter (leads scope key) (flat_map names_of (numbered (at + 1) some))))) is in
+          let left : first_found (flat_map attempts (filter (is_child_of scope) (numbered at (one ∷ some))))
+          ≡ option_or (first_found (map (attempted at) one.names))
+          (first_found (flat_map attempts (filter (is_child_of scope) (numbered (at + 1) some)))) =
+          rw (not_root, e) (first_append (map (attempted at) one.names)
+          (flat_map attempts (filter (is_child_of scope) (numbered (at + 1) some)))) in
+          left
+          ∙ ap (option_or (first_found (map (attempted at) one.names))) behind
+          ∙ ap (λ x. option_or x (answers try key (filter (leads scope key)
+          (flat_map names_of (numbered (at + 1) some))))) (one_scope at 0 one.names)
+          ∙ sym right
+      by_test behind false e =
+          let left : first_found (flat_map attempts (filter (is_child_of scope) (numbered at (one ∷ some))))
+          ≡ first_found (flat_map attempts (filter (is_child_of scope) (numbered (at + 1) some))) =
+          rw (not_root, e) refl in
+          left ∙ behind
+          ∙ sym (ap (answers try key) (filter_append (leads scope key) (names_of (one, at))
+          (flat_map names_of (numbered (at + 1) some))
+          ∙ ap (λ x. x ++ filter (leads scope key) (flat_map names_of (numbered (at + 1) some)))
+          (other_scope one.parent at 0 one.names e)))
+
+abbrev pub tried : ℕ → World → List PlanNode → Way → Option ℕ
+tried steps world nodes way =
+    option_or (own world nodes way.child way.rest) (qualified steps world nodes way.child way.rest)
+
+abbrev begun : List PlanNode → List Scope
+begun nodes = filter_map (λ at. option_map (scope_begun nodes at) (slice_get nodes at))
+    (filter (begins nodes) (places nodes))
+
+-- a qualified key's definition, of the ways in order
+pub by_ways : (steps : ℕ) (world : World) (nodes : List PlanNode) (scope : ℕ) (key : List ℕ)
+    → qualified (suc steps) world nodes scope key
+    ≡ answers (tried steps world nodes) key (filter (leads scope key) (all_names (scopes nodes)))
+unfolding qualified
+by_ways steps world nodes scope key =
+    all_scopes (tried steps world nodes)
+    (λ child rest. option_or (own world nodes child rest) (qualified steps world nodes child rest)) scope key
+    (λ child rank rest. refl) 1 (begun nodes) (omega arith)
+
+-- Steps beyond a key's length change nothing
+
+same_answers : (f g : Way → Option ℕ) (scope : ℕ) (key : List ℕ) (names : List ChildName)
+    → ((name : ChildName) → leads scope key name ≡ true → f (way_in key name) ≡ g (way_in key name))
+    → answers f key (filter (leads scope key) names) ≡ answers g key (filter (leads scope key) names)
+same_answers f g scope key [] same = refl
+same_answers f g scope key (name ∷ names) same =
+    by_one (same_answers f g scope key names same) (leads scope key name) refl
+  where
+    by_one : answers f key (filter (leads scope key) names) ≡ answers g key (filter (leads scope key) names)
+        → (a : Bool) → leads scope key name ≡ a
+        → answers f key (filter (leads scope key) (name ∷ names)) ≡ answers g key (filter (leads scope key) (name ∷ names))
+    by_one behind true e =
+        rw e (first_cons (f (way_in key name)) (map (λ n. f (way_in key n)) (filter (leads scope key) names))
+        ∙ ap (λ x. option_or x (answers f key (filter (leads scope key) names))) (same name e)
+        ∙ ap (option_or (g (way_in key name))) behind
+        ∙ sym (first_cons (g (way_in key name)) (map (λ n. g (way_in key n)) (filter (leads scope key) names))))
+    by_one behind false e = rw e behind
+
+pub shorter : (scope : ℕ) (key : List ℕ) (name : ChildName) → leads scope key name ≡ true
+    → length (way_in key name).rest < length key
+shorter scope key name e =
+    let low = leads_short scope key name e in
+    omega (arith, low, length-drop (length name.name + 1) key)
+
+no_key : (steps : ℕ) (world : World) (nodes : List PlanNode) (scope : ℕ) → qualified steps world nodes scope [] ≡ None
+unfolding qualified
+no_key zero world nodes scope = refl
+no_key (suc steps) world nodes scope =
+    by_ways steps world nodes scope [] ∙ none (all_names (scopes nodes))
+  where
+    none : (names : List ChildName) → answers (tried steps world nodes) [] (filter (leads scope []) names) ≡ None
+    none [] = refl
+    none (name ∷ names) = by_one (leads scope [] name) refl (none names)
+      where
+        by_one : (a : Bool) → leads scope [] name ≡ a
+            → answers (tried steps world nodes) [] (filter (leads scope []) names) ≡ None
+            → answers (tried steps world nodes) [] (filter (leads scope []) (name ∷ names)) ≡ None
+        by_one true e behind = let low = leads_short scope [] name e in absurd (omega (arith, low))
+        by_one false e behind = rw e behind
+
+pub enough : (steps more : ℕ) (world : World) (nodes : List PlanNode) (scope : ℕ) (key : List ℕ) → length key ≤ steps
+    → length key ≤ more → qualified steps world nodes scope key ≡ qualified more world nodes scope key
+enough zero more world nodes scope [] low high =
+    no_key zero world nodes scope ∙ sym (no_key more world nodes scope)
+enough zero more world nodes scope (b ∷ key) low high = absurd (omega arith)
+enough (suc steps) zero world nodes scope [] low high =
+    no_key (suc steps) world nodes scope ∙ sym (no_key zero world nodes scope)
+enough (suc steps) zero world nodes scope (b ∷ key) low high = absurd (omega arith)
+enough (suc steps) (suc more) world nodes scope key low high =
+    by_ways steps world nodes scope key
+    ∙ same_answers (tried steps world nodes) (tried more world nodes) scope key (all_names (scopes nodes))
+    (λ name e. let short = shorter scope key name e in
+    ap (option_or (own world nodes name.child (way_in key name).rest))
+    (enough steps more world nodes name.child (way_in key name).rest (omega (arith, short, low))
+    (omega (arith, short, high))))
+    ∙ sym (by_ways more world nodes scope key)
+
+-- The search, way by way
+
+-- by a way the scope's own definition, or again one by a way
+abbrev pub by_way : World → List PlanNode → Way → Option ℕ
+by_way world nodes way = option_or (own world nodes way.child way.rest) (by_names world nodes way.rest way.child)
+
+-- of the ways behind the last one
+abbrev pub behind_way : World → List PlanNode → ℕ → List ℕ → Option Way → Option ℕ
+behind_way world nodes scope key last = answers (by_way world nodes) key
+    (filter (λ name. leads scope key name && is_behind last name) (all_names (scopes nodes)))
+
+filter_same : (p q : ChildName → Bool) (names : List ChildName) → All (λ n. p n ≡ q n) names
+    → filter p names ≡ filter q names
+filter_same p q [] same = refl
+filter_same p q (name ∷ names) same =
+    by_one (filter_same p q names (All-tail (λ n. p n ≡ q n) name names same)) (q name) refl
+    (All-head (λ n. p n ≡ q n) name names same)
+  where
+    by_one : filter p names ≡ filter q names → (a : Bool) → q name ≡ a → p name ≡ q name
+        → filter p (name ∷ names) ≡ filter q (name ∷ names)
+    by_one behind true e f = rw (f, e) (ap (λ some. name ∷ some) behind)
+    by_one behind false e f = rw (f, e) behind
+
+pub all_each : (P : ChildName → Type 0) (names : List ChildName) → ((n : ChildName) → P n) → All P names
+all_each P [] each = All-nil P
+all_each P (name ∷ names) each = All-cons P name names (each name) (all_each P names each)
+
+and_true : (a : Bool) → (a && true) ≡ a
+and_true true = refl
+and_true false = refl
+
+pub by_all_ways : (world : World) (nodes : List PlanNode) (scope : ℕ) (key : List ℕ)
+    → by_names world nodes key scope ≡ behind_way world nodes scope key None
+by_all_ways world nodes scope key =
+    enough (length key) (suc (length key)) world nodes scope key (omega arith) (omega arith)
+    ∙ by_ways (length key) world nodes scope key
+    ∙ same_answers (tried (length key) world nodes) (by_way world nodes) scope key (all_names (scopes nodes))
+    (λ name e. let short = shorter scope key name e in
+    ap (option_or (own world nodes name.child (way_in key name).rest))
+    (enough (length key) (length (way_in key name).rest) world nodes name.child (way_in key name).rest
+    (omega (arith, short)) (omega arith)))
+    ∙ ap (answers (by_way world nodes) key) (filter_same (leads scope key) (λ name. leads scope key name && true)
+    (all_names (scopes nodes)) (all_each (λ name. leads scope key name ≡ (leads scope key name && true))
+    (all_names (scopes nodes)) (λ name. sym (and_true (leads scope key name)))))
+
+filter_nothing : (p : ChildName → Bool) (names : List ChildName) → find p names ≡ None → filter p names ≡ []
+filter_nothing p [] none = refl
+filter_nothing p (name ∷ names) none = by_one (λ there. filter_nothing p names there) (p name) refl
+  where
+    by_one : (find p names ≡ None → filter p names ≡ []) → (a : Bool) → p name ≡ a → filter p (name ∷ names) ≡ []
+    by_one behind true e = let there = rw e at none in absurd (cc)
+    by_one behind false e = rw e (behind (rw e at none))
+
+pub no_way_behind : (world : World) (nodes : List PlanNode) (scope : ℕ) (key : List ℕ) (last : Option Way)
+    → next_way (scopes nodes) scope key last ≡ None → behind_way world nodes scope key last ≡ None
+no_way_behind world nodes scope key last none =
+    ap (answers (by_way world nodes) key)
+    (filter_nothing (λ name. leads scope key name && is_behind last name) (all_names (scopes nodes))
+    (by_found (find (λ name. leads scope key name && is_behind last name) (all_names (scopes nodes))) refl none))
+  where
+    by_found : (found : Option ChildName)
+        → find (λ name. leads scope key name && is_behind last name) (all_names (scopes nodes)) ≡ found
+        → option_map (way_in key) (find (λ name. leads scope key name && is_behind last name) (all_names (scopes nodes)))
+        ≡ None
+        → find (λ name. leads scope key name && is_behind last name) (all_names (scopes nodes)) ≡ None
+    by_found None e f = e
+    by_found (Some name) e f = let there = rw e at f in absurd (cc)
+
+behind_both : (last : Option Way) (a b : ChildName) → is_behind last a ≡ true → is_later a.child a.rank b ≡ true
+    → is_behind last b ≡ true
+behind_both None a b first second = refl
+behind_both (Some way) a b first second = later_trans way.child way.rank a b first second
+
+and_false : (a : Bool) → (a && false) ≡ false
+and_false true = refl
+and_false false = refl
+
+split_first : (scope : ℕ) (key : List ℕ) (last : Option Way) (names : List ChildName) (first : ChildName)
+    → AreInTurn names → find (λ name. leads scope key name && is_behind last name) names ≡ Some first
+    → filter (λ name. leads scope key name && is_behind last name) names
+    ≡ first ∷ filter (λ name. leads scope key name && is_later first.child first.rank name) names
+split_first scope key last [] first turn is = absurd (cc)
+split_first scope key last (name ∷ names) first turn is =
+    by_one (λ there. split_first scope key last names first turn.1 there)
+    (leads scope key name && is_behind last name) refl
+  where
+    by_one : (find (λ name. leads scope key name && is_behind last name) names ≡ Some first
+        → filter (λ name. leads scope key name && is_behind last name) names
+        ≡ first ∷ filter (λ name. leads scope key name && is_later first.child first.rank name) names)
+        → (a : Bool) → (leads scope key name && is_behind last name) ≡ a
+        → filter (λ name. leads scope key name && is_behind last name) (name ∷ names)
+        ≡ first ∷ filter (λ name. leads scope key name && is_later first.child first.rank name) (name ∷ names)
+    by_one behind true e =
+        let there = rw e at is in
+        let same : name ≡ first = cc in
+        let before = and_right (leads scope key name) (is_behind last name) e in
+        let left : filter (λ name. leads scope key name && is_behind last name) (name ∷ names)
+        ≡ name ∷ filter (λ n. leads scope key n && is_behind last n) names = rw e refl in
+        let none : (leads scope key name && is_later name.child name.rank name) ≡ false =
+        ap (λ a. leads scope key name && a) (not_itself name) ∙ and_false (leads scope key name) in
+        let right : filter (λ n. leads scope key n && is_later name.child name.rank n) (name ∷ names)
+        ≡ filter (λ n. leads scope key n && is_later name.child name.rank n) names = rw none refl in
+        subst (λ one. filter (λ n. leads scope key n && is_behind last n) (name ∷ names)
+        ≡ one ∷ filter (λ n. leads scope key n && is_later one.child one.rank n) (name ∷ names)) same
+        (left ∙ ap (λ some. name ∷ some) (filter_same (λ n. leads scope key n && is_behind last n)
+        (λ n. leads scope key n && is_later name.child name.rank n) names
+        (All-weaker (λ n. is_later name.child name.rank n ≡ true)
+        (λ n. (leads scope key n && is_behind last n) ≡ (leads scope key n && is_later name.child name.rank n))
+        (λ n later. ap (λ a. leads scope key n && a) (behind_both last name n before later ∙ sym later)) names turn.0)
+        ∙ sym right))
+    by_one behind false e =
+        let there : find (λ name. leads scope key name && is_behind last name) names ≡ Some first = rw e at is in
+        let later = (find_is (λ n. is_later name.child name.rank n ≡ true)
+        (λ name. leads scope key name && is_behind last name) names first there turn.0).0 in
+        let none : (leads scope key name && is_later first.child first.rank name) ≡ false =
+        ap (λ a. leads scope key name && a) (not_later name first later) ∙ and_false (leads scope key name) in
+        rw (e, none) (behind there)
+
+pub way_behind : (world : World) (nodes : List PlanNode) (scope : ℕ) (key : List ℕ) (last : Option Way) (way : Way)
+    → next_way (scopes nodes) scope key last ≡ Some way
+    → behind_way world nodes scope key last
+    ≡ option_or (by_way world nodes way) (behind_way world nodes scope key (Some way))
+way_behind world nodes scope key last way is =
+    by_found (find (λ name. leads scope key name && is_behind last name) (all_names (scopes nodes))) refl
+  where
+    by_found : (found : Option ChildName)
+        → find (λ name. leads scope key name && is_behind last name) (all_names (scopes nodes)) ≡ found
+        → behind_way world nodes scope key last
+        ≡ option_or (by_way world nodes way) (behind_way world nodes scope key (Some way))
+    by_found None e =
+        let none : None ≡ Some way = sym (ap (option_map (way_in key)) e) ∙ is in absurd (cc)
+    by_found (Some name) e =
+        let some : Some (way_in key name) ≡ Some way = sym (ap (option_map (way_in key)) e) ∙ is in
+        let same : way_in key name ≡ way = cc in
+        subst (λ w. behind_way world nodes scope key last
+        ≡ option_or (by_way world nodes w) (behind_way world nodes scope key (Some w))) same
+        (ap (answers (by_way world nodes) key) (split_first scope key last (all_names (scopes nodes)) name
+        (all_in_turn (scopes nodes)) e)
+        ∙ first_cons (by_way world nodes (way_in key name)) (map (λ n. by_way world nodes (way_in key n))
+        (filter (λ n. leads scope key n && is_later name.child name.rank n) (all_names (scopes nodes)))))

@@ -1,0 +1,90 @@
+-- The first definitions of keys (own): of the entries in their order the first of each key in each scope.
+use Rattle.std.specs.Prelude.{◌≡◌, ◌<◌, ◌≤◌, ◌++◌, ℕ, Bool, false, List, [], ◌∷◌, Option, Some, None, filter, length, nat_lt, slice_get, if◌then◌else◌}
+use Rattle.std.specs.Cmp.Lexicographic.{slice_cmp}
+use Rattle.std.specs.List.Sorted.{IsPermutation}
+use Rattle.std.specs.Option.{option_and_then}
+use Rattle.std.specs.Ordering.{is_eq, is_gt, is_lt, nat_cmp, ordering_then}
+use Rattle.std.proofs.Common.{Ordering, Less, get_or}
+use Rattle.dita_doc.specs.declared.plan.Scope.{Scope}
+use Rattle.key_scopes.specs.declared.definitions.Definition.{Definition}
+use Rattle.key_scopes.specs.Numbered.{Entry}
+use Rattle.key_scopes.specs.Above.{AreEndsFrom, AreInPreorder, parent_in}
+use Rattle.key_scopes.specs.Children.{AreChildNames}
+use Rattle.key_scopes.specs.Outermost.{AreTopped}
+use Rattle.key_scopes.specs.Table.{First, Table, first_of, firsts_of, is_first}
+
+abbrev pub first_by : Entry → First
+first_by entry = record { key = entry.0; scope = entry.1; node = entry.3 }
+
+-- whether the last one is of the entry's key and scope
+abbrev pub is_last_of : List First → Entry → Bool
+is_last_of [] entry = false
+is_last_of (first ∷ []) entry = is_first entry.1 entry.0 first
+is_last_of (first ∷ next ∷ firsts) entry = is_last_of (next ∷ firsts) entry
+
+abbrev pub with_first : List First → Entry → List First
+with_first firsts entry = if is_last_of firsts entry then firsts else firsts ++ first_by entry ∷ []
+
+abbrev pub firsts_by : List First → List Entry → List First
+firsts_by firsts [] = firsts
+firsts_by firsts (entry ∷ entries) = firsts_by (with_first firsts entry) entries
+
+-- The order of first definitions: by key and scope
+
+abbrev pub first_order : First → First → Ordering
+first_order a b = ordering_then (slice_cmp nat_cmp a.key b.key) (nat_cmp a.scope b.scope)
+
+abbrev pub AreStrict : List First → Type 0
+AreStrict firsts = (i j : ℕ) (d : First) → i < j → j < length firsts
+    → first_order (get_or firsts i d) (get_or firsts j d) ≡ Less
+
+-- what is searched for
+abbrev pub probe : ℕ → List ℕ → First
+probe scope key = record { key = key; scope = scope; node = 0 }
+
+abbrev pub is_below : ℕ → List ℕ → Definition → Bool
+is_below scope key definition = is_lt (first_order (first_of definition) (probe scope key))
+
+abbrev pub is_behind : ℕ → List ℕ → Definition → Bool
+is_behind scope key definition = is_gt (first_order (first_of definition) (probe scope key))
+
+-- the definition at a place, if it is of this key in this scope
+abbrev pub own_at : List Definition → ℕ → ℕ → List ℕ → Option ℕ
+own_at definitions at scope key = option_and_then (λ (definition : Definition).
+    if is_eq (first_order (first_of definition) (probe scope key)) then Some definition.node else None)
+    (slice_get definitions at)
+
+-- the order of entries: by key, scope, level and place
+abbrev pub entry_order : Entry → Entry → Ordering
+entry_order a b =
+    ordering_then (ordering_then (ordering_then (slice_cmp nat_cmp a.0 b.0) (nat_cmp a.1 b.1)) (nat_cmp a.2 b.2))
+    (nat_cmp a.3 b.3)
+
+abbrev pub is_entry_before : Entry → Entry → Bool
+is_entry_before a b = is_lt (entry_order a b)
+
+abbrev pub AreOrdered : List Entry → Type 0
+AreOrdered entries = (i j : ℕ) (d : Entry) → i ≤ j → j < length entries
+    → is_entry_before (get_or entries j d) (get_or entries i d) ≡ false
+
+-- no level is beyond the count of nodes
+abbrev pub is_level_within : ℕ → Entry → Bool
+is_level_within count entry = nat_lt entry.2 count
+
+abbrev pub with_entry : ℕ → List First → Entry → List First
+with_entry count firsts entry = if is_level_within count entry then with_first firsts entry else firsts
+
+-- the first definitions among entries in any order
+pub record AreFirsts (count : ℕ) (entries : List Entry) (firsts : List First) : Type 0 where
+  pub sorted : List Entry
+  pub permuted : IsPermutation entries sorted
+  pub ordered : AreOrdered sorted
+  pub are : firsts ≡ firsts_by [] (filter (is_level_within count) sorted)
+
+-- a table of these scopes, with the keys that so many nodes define
+pub record IsTableBy (count : ℕ) (all : List Scope) (written : List Entry) (table : Table) : Type 0 where
+  pub scopes : table.scopes ≡ all
+  pub ends : AreInPreorder (parent_in all) (length all) → AreEndsFrom (parent_in all) (length all) 0 table.ends
+  pub topped : AreTopped table.ends table.definitions
+  pub children : AreChildNames all table.names table.longest
+  pub firsts : AreFirsts count written (firsts_of table.definitions)

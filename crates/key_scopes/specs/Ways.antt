@@ -1,0 +1,47 @@
+-- The ways from a scope into those in it (own): by the names with which a key begins.
+use Rattle.std.specs.Prelude.{◌≡◌, ◌+◌, ◌==◌, ◌&&◌, ◌||◌, ℕ, Bool, true, not, List, [], ◌∷◌, ◌++◌, Option, Some, None, codes, drop, find, is_some, length, nat_lt, option_map}
+use Rattle.std.specs.List.{All}
+use Rattle.dita_doc.specs.declared.plan.Scope.{Scope}
+use Rattle.key_scopes.specs.declared.children.ChildName.{ChildName}
+use Rattle.key_scopes.specs.declared.search.Step.{Step}
+use Rattle.key_scopes.specs.Children.{all_names}
+use Rattle.map_spec.specs.Scopes.{behind}
+
+-- a scope, the place of its name, and what is left of the key
+pub record Way : Type 0 where
+  pub child : ℕ
+  pub rank : ℕ
+  pub rest : List ℕ
+
+abbrev pub way_of : Step → Way
+way_of step = record { child = step.child; rank = step.rank; rest = step.rest.now }
+
+-- whether a name of a scope stands behind another
+abbrev pub is_later : ℕ → ℕ → ChildName → Bool
+is_later child rank name = nat_lt child name.child || ((child == name.child) && nat_lt rank name.rank)
+
+-- whether a name stands behind a way, if there is one
+abbrev pub is_behind : Option Way → ChildName → Bool
+is_behind None name = true
+is_behind (Some way) name = is_later way.child way.rank name
+
+-- whether no way stands before a name
+abbrev pub is_earlier : Option Way → ChildName → Bool
+is_earlier None name = true
+is_earlier (Some way) name = not (is_later way.child way.rank name)
+
+abbrev pub leads : ℕ → List ℕ → ChildName → Bool
+leads scope key name = (name.parent == scope) && is_some (behind (name.name ++ codes ".") key)
+
+abbrev pub way_in : List ℕ → ChildName → Way
+way_in key name = record { child = name.child; rank = name.rank; rest = drop (length name.name + 1) key }
+
+-- the first way behind the last one
+abbrev pub next_way : List Scope → ℕ → List ℕ → Option Way → Option Way
+next_way scopes scope key last =
+    option_map (way_in key) (find (λ name. leads scope key name && is_behind last name) (all_names scopes))
+
+-- names by scope and rank, each once
+abbrev pub AreInTurn : List ChildName → Type 0
+AreInTurn [] = Unit
+AreInTurn (name ∷ names) = All (λ other. is_later name.child name.rank other ≡ true) names × AreInTurn names
