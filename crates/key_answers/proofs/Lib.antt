@@ -1,0 +1,5 @@
+pub mod ChainLaws
+pub mod EnoughLaws
+pub mod SeenLaws
+pub mod TargetLaws
+pub mod TextLaws
