@@ -1,0 +1,5 @@
+pub mod AnswerLaws
+pub mod BelowLaws
+pub mod PassingLaws
+pub mod ReadyLaws
+pub mod Rules

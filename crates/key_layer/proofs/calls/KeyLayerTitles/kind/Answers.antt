@@ -1,0 +1,18 @@
+use Rattle.std.proofs.Common.{refl}
+use Rattle.readers.proofs.GrowthLaws.{told_answer}
+use Rattle.readers.proofs.LayerLaws.{plain_settled}
+use Rattle.key_layer.proofs.PassingLaws.{note_passed}
+use Rattle.key_layer.specs.Ready.{made_for}
+use Rattle.key_layer.proofs.calls.KeyLayerTitles.kind.Goals as goal
+
+pub invariant_of-self-clause-carried : goal.invariant_of-self-clause-carried
+invariant_of-self-clause-carried g c = plain_settled _ _ _ _ _ _ _ _ _ c.ask_kind.new.self.carried
+    c.in_ok-kind.ensures.ok refl
+    (c.in_ok-note.ensures (made_for c.ask_kind.new.self.nodes.now g.S.Since.stand.setting)) refl c.settle.ensures
+    (λ world a. told_answer world _ _ _ c.in_ok-kind.ensures.below a)
+
+pub invariant_of-self-clause-passed : goal.invariant_of-self-clause-passed
+invariant_of-self-clause-passed g c = note_passed _ _ _ _ _ _ _ _ _ _ c.ask_kind.new.self.passed
+    c.in_ok-kind.ensures.ok refl
+    (c.in_ok-note.ensures (made_for c.ask_kind.new.self.nodes.now g.S.Since.stand.setting)) c.settle.ensures
+    c.in_ok-kind.ensures.below
