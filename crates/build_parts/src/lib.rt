@@ -10,17 +10,13 @@ mod faults;
 mod gathered;
 mod ground;
 mod hrefs;
-mod key_memo;
 mod page_table;
 mod parts;
 mod plan_asker;
-mod plan_keys;
-mod planning;
 mod push_memo;
 mod root;
 mod single_parts;
 mod whole_build;
 
-pub use planning::plan;
 pub use single_parts::{page, toc};
 pub use whole_build::clean;

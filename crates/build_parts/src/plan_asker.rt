@@ -4,10 +4,12 @@ use crate::build_tables::BuildTables;
 use crate::ground::{Ground, NodeTables};
 use askers::{Asker, Keys};
 use dita_doc::{Context, Doc, DocKind, KeyAnswer, Name, NoMemory, PushList, Text};
-use key_answers::answer_with;
+use key_answers::answer_key;
+use key_layer::KeyAt;
 use readers::{Reader, Titles};
 use std::alloc::Global;
 use std::sync::Arc;
+use targets::copy_answer;
 
 /// A plan over a reader of documents. What is asked often is answered from the tables of its build.
 #[derive(Drop)]
@@ -45,14 +47,15 @@ impl<'l, 'p, 'b, T: Titles> Titles for PlanAsker<'l, 'p, 'b, T> {
 
 impl<'l, 'p, 'b, T: Titles> Keys for PlanAsker<'l, 'p, 'b, T> {
     fn key(&mut self, alloc: Global, scope: u32, key: &Text) -> Result<KeyAnswer, NoMemory> {
-        if let Some(known) = self.known.keys.find(alloc, scope, key)? {
-            return Ok(known);
+        let at = KeyAt::new(scope, key)?;
+        if let Some(known) = self.known.keys.find(&at) {
+            return Ok(copy_answer(alloc, known)?);
         }
         let Ground { plan, nodes, .. } = self.ground;
         let NodeTables { table, homes } = nodes;
         let nodes = plan.nodes.as_slice();
-        let answer = answer_with(alloc, self.lower, homes, nodes, table, scope, key)?;
-        self.known.keys.put(alloc, scope, key, &answer)?;
+        let answer = answer_key(alloc, self.lower, homes, nodes, table, scope, key.as_str())?;
+        self.known.keys.put(at, copy_answer(alloc, &answer)?)?;
         Ok(answer)
     }
 }

@@ -2,9 +2,9 @@
 
 use crate::faults::copy_faults;
 use crate::gathered::Gathered;
-use crate::ground::Ground;
+use crate::ground::{Ground, NodeTables};
 use crate::parts::Parts;
-use crate::planning::{Planned, plan_with_nodes};
+use build_plan::{Planned, planned};
 use clean_build::Clean;
 use dita_doc::{List, Name, NoMemory, Plan, Sources, Stop, Text};
 use plan_nodes::place_of;
@@ -22,11 +22,12 @@ pub fn clean(
 ) -> Result<Clean, NoMemory> {
     let known = KnownTitles::new(alloc, sources);
     let mut reader = SourceReader::new(alloc, known);
-    let Planned { plan, nodes } = match plan_with_nodes(alloc, &mut reader, map, val) {
+    let Planned { plan, homes, table } = match planned(alloc, &mut reader, map, val) {
         Ok(planned) => planned,
         Err(Stop::Fault(stop)) => return Ok(Clean::Stopped(stop)),
         Err(Stop::NoMemory) => return Err(NoMemory),
     };
+    let nodes = NodeTables { table, homes };
     let ground = Ground {
         map,
         val,

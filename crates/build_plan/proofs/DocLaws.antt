@@ -1,0 +1,200 @@
+-- The documents in which the nodes of a tree stand: filtering and copying bring in no other.
+use Rattle.std.specs.Prelude.{◌≡◌, ◌+◌, ◌||◌, ℕ, Bool, true, false, List, [], ◌∷◌, ◌++◌, Option, Some, None, IsTrue, bytes_eq, map, option_map, if◌then◌else◌}
+use Rattle.std.specs.List.{flat_map}
+use Rattle.std.specs.Option.{option_to_list}
+use Rattle.std.proofs.Common.{refl, sym, ap, subst, ◌∙◌}
+use Rattle.std.proofs.Math.Logic.{⊎_elim}
+use Rattle.std.proofs.lemmas.Bool.{false≢true, or_cases}
+use Rattle.std.proofs.lemmas.Slice.Eq.{bytes_eq-Decides}
+use Rattle.dita_doc.specs.declared.content.Rule.{Rule}
+use Rattle.dita_doc.specs.declared.plan.PlanNode.{PlanNode}
+use Rattle.map_spec.specs.Branches.{Branch, all_beside, all_marked, branch_of, branches_of, copied, copies, copy_below, copy_for, ditavalrefs, group_for, has_branches, is_ditavalref, is_map_node, with_scope_names}
+use Rattle.map_spec.specs.Judged.{filtered, is_excluded, judged, kept, whole_of}
+use Rattle.map_spec.specs.MapTree.{Head, MapTree, MapNode, NoNodes, count, nodes_below, trees_beside}
+use Rattle.map_spec.specs.Written.{Whole}
+use Rattle.reader_spec.specs.World.{World}
+use Rattle.readers.specs.Founded.{homes, is_among}
+use Rattle.readers.proofs.FoundedLaws.{among_behind, among_first}
+
+module _ (P : List ℕ → Type 0) where
+  -- of the document of each node
+  abbrev pub AllIn : MapTree → Type 0
+  AllIn NoNodes = Unit {0}
+  AllIn (MapNode head below more) = P head.doc × AllIn below × AllIn more
+
+  abbrev pub Each : List PlanNode → Type 0
+  Each [] = Unit {0}
+  Each (node ∷ nodes) = P node.doc × Each nodes
+
+  each_both : (nodes more : List PlanNode) → Each nodes → Each more → Each (nodes ++ more)
+  each_both [] more first second = second
+  each_both (node ∷ nodes) more first second = (first.0, each_both nodes more first.1 second)
+
+  each_first : (nodes more : List PlanNode) → Each (nodes ++ more) → Each nodes
+  each_first [] more all = tt
+  each_first (node ∷ nodes) more all = (all.0, each_first nodes more all.1)
+
+  each_second : (nodes more : List PlanNode) → Each (nodes ++ more) → Each more
+  each_second [] more all = all
+  each_second (node ∷ nodes) more all = each_second nodes more all.1
+
+  pub each_of : (tree : MapTree) (parent place : ℕ) → AllIn tree → Each (nodes_below parent place tree)
+  each_of NoNodes parent place all = tt
+  each_of (MapNode head below more) parent place all = (
+    all.0,
+    each_both (nodes_below place (place + 1) below) (nodes_below parent (place + 1 + count below) more)
+        (each_of below place (place + 1) all.1) (each_of more parent (place + 1 + count below) all.2),
+  )
+
+  pub all_of : (tree : MapTree) (parent place : ℕ) → Each (nodes_below parent place tree) → AllIn tree
+  all_of NoNodes parent place all = tt
+  all_of (MapNode head below more) parent place all =
+      let inner = nodes_below place (place + 1) below in
+      let behind = nodes_below parent (place + 1 + count below) more in (
+        all.0,
+        all_of below place (place + 1) (each_first inner behind all.1),
+        all_of more parent (place + 1 + count below) (each_second inner behind all.1),
+      )
+
+  pub each_among : (nodes : List PlanNode) (m : List ℕ) → Each nodes → IsTrue (is_among (homes nodes) m) → P m
+  each_among [] m all among = absurd (false≢true among)
+  each_among (node ∷ nodes) m all among = ⊎_elim
+      (λ here. subst P ((bytes_eq-Decides node.doc m).0 here) all.0)
+      (λ there. each_among nodes m all.1 there) (or_cases (bytes_eq node.doc m) (is_among (homes nodes) m) among)
+
+  -- Filtering
+
+  all_beside_both : (first second : MapTree) → AllIn first → AllIn second → AllIn (trees_beside first second)
+  all_beside_both NoNodes second all others = others
+  all_beside_both (MapNode head below more) second all others =
+      (all.0, all.1, all_beside_both more second all.2 others)
+
+  all_judged : (world : World) (rules : List Rule) (tree : MapTree) → AllIn tree → AllIn (judged world rules tree).tree
+  all_judged world rules NoNodes all = tt
+  all_judged world rules (MapNode head below more) all =
+      by_test (is_excluded world rules head) (all_judged world rules below all.1) (all_judged world rules more all.2)
+    where
+      by_test : (out : Bool) → AllIn (judged world rules below).tree → AllIn (judged world rules more).tree
+          → AllIn (if out then judged world rules more else record {
+            tree = MapNode head (judged world rules below).tree (judged world rules more).tree;
+            faults = (judged world rules below).faults ++ (judged world rules more).faults;
+          }).tree
+      by_test true inner behind = behind
+      by_test false inner behind = (all.0, inner, behind)
+
+  pub all_filtered : (world : World) (rules : List Rule) (tree : MapTree) → AllIn tree
+      → AllIn (filtered world rules tree).tree
+  all_filtered world rules NoNodes all = tt
+  all_filtered world rules (MapNode head below more) all = (all.0, all_judged world rules below all.1, all.2)
+
+  -- Copies
+
+  all_kept : (world : World) (rules : List Rule) (tree : MapTree) → AllIn tree → AllIn (kept world rules tree)
+  all_kept world rules NoNodes all = tt
+  all_kept world rules (MapNode head below more) all =
+      by_test (is_excluded world rules head) (all_kept world rules below all.1) (all_kept world rules more all.2)
+    where
+      by_test : (out : Bool) → AllIn (kept world rules below) → AllIn (kept world rules more)
+          → AllIn (if out then kept world rules more else MapNode head (kept world rules below) (kept world rules more))
+      by_test true inner behind = behind
+      by_test false inner behind = (all.0, inner, behind)
+
+  all_with_marks : (branch : Branch) (tree : MapTree) → AllIn tree → AllIn (all_marked branch tree)
+  all_with_marks branch NoNodes all = tt
+  all_with_marks branch (MapNode head below more) all =
+      (all.0, all_with_marks branch below all.1, all_with_marks branch more all.2)
+
+  abbrev AllBranches : List Branch → Type 0
+  AllBranches [] = Unit {0}
+  AllBranches (branch ∷ branches) = P branch.head.doc × AllBranches branches
+
+  module _ (world : World) (head : Head) (below : MapTree) (here : P head.doc) (inner : AllIn below) where
+    inside_copy : (branch : Branch) → AllIn (copy_below world branch below)
+    inside_copy branch = all_with_marks branch (kept world branch.filter.rules below)
+        (all_kept world branch.filter.rules below inner)
+
+    by_copy : (out : Bool) (top : Head) (inside : MapTree) → P top.doc → AllIn inside
+        → AllIn (if out then NoNodes else MapNode top inside NoNodes)
+    by_copy true top inside is all = tt
+    by_copy false top inside is all = (is, all, tt)
+
+    one_copy : (branch : Branch) → AllIn (copy_for world head below branch)
+    one_copy branch = by_copy (is_excluded world branch.filter.rules head) _ (copy_below world branch below) here
+        (inside_copy branch)
+
+    one_group : (branch : Branch) → P branch.head.doc → AllIn (group_for world head below branch)
+    one_group branch is = (is, inside_copy branch, tt)
+
+    all_copies_for : (branches : List Branch) → AllIn (all_beside (map (copy_for world head below) branches))
+    all_copies_for [] = tt
+    all_copies_for (branch ∷ branches) =
+        all_beside_both (copy_for world head below branch) (all_beside (map (copy_for world head below) branches))
+        (one_copy branch) (all_copies_for branches)
+
+    all_groups : (branches : List Branch) → AllBranches branches → AllIn (all_beside (map (group_for world head below) branches))
+    all_groups [] all = tt
+    all_groups (branch ∷ branches) all =
+        all_beside_both (group_for world head below branch) (all_beside (map (group_for world head below) branches))
+        (one_group branch all.0) (all_groups branches all.1)
+
+    all_copies : (branches : List Branch) → AllBranches branches → AllIn (copies world head below branches)
+    all_copies [] all = (here, inner, tt)
+    all_copies (branch ∷ branches) all =
+        by_test (is_map_node head.kind) (all_groups (branch ∷ branches) all) (all_copies_for (branch ∷ branches))
+      where
+        by_test : (is_map : Bool) → AllIn (all_beside (map (group_for world head below) (branch ∷ branches)))
+            → AllIn (all_beside (map (copy_for world head below) (branch ∷ branches)))
+            → AllIn (if is_map then MapNode head (all_beside (map (group_for world head below) (branch ∷ branches))) NoNodes
+            else all_beside (map (copy_for world head below) (branch ∷ branches)))
+        by_test true groups copies_for = (here, groups, tt)
+        by_test false groups copies_for = copies_for
+
+  abbrev AllHeads : List Head → Type 0
+  AllHeads [] = Unit {0}
+  AllHeads (head ∷ heads) = P head.doc × AllHeads heads
+
+  all_refs : (tree : MapTree) → AllIn tree → AllHeads (ditavalrefs tree)
+  all_refs NoNodes all = tt
+  all_refs (MapNode head below more) all = by_test (is_ditavalref head.kind) (all_refs more all.2)
+    where
+      by_test : (is : Bool) → AllHeads (ditavalrefs more)
+          → AllHeads (if is then head ∷ ditavalrefs more else ditavalrefs more)
+      by_test true others = (all.0, others)
+      by_test false others = others
+
+  all_read : (world : World) (refs : List Head) → AllHeads refs → AllBranches
+      (flat_map (λ ref. option_to_list (option_map (branch_of world ref) (whole_of world ref))) refs)
+  all_read world [] all = tt
+  all_read world (ref ∷ refs) all = by_whole (whole_of world ref) (all_read world refs all.1)
+    where
+      by_whole : (whole : Option Whole)
+          → AllBranches (flat_map (λ ref. option_to_list (option_map (branch_of world ref) (whole_of world ref))) refs)
+          → AllBranches (option_to_list (option_map (branch_of world ref) whole)
+          ++ flat_map (λ ref. option_to_list (option_map (branch_of world ref) (whole_of world ref))) refs)
+      by_whole None others = others
+      by_whole (Some whole) others = (all.0, others)
+
+  all_branches : (world : World) (head : Head) (below : MapTree) → AllIn below
+      → AllBranches (branches_of world head below)
+  all_branches world head below all = by_test (has_branches head.kind) (all_read world (ditavalrefs below) (all_refs below all))
+    where
+      by_test : (has : Bool) → AllBranches
+          (flat_map (λ ref. option_to_list (option_map (branch_of world ref) (whole_of world ref))) (ditavalrefs below))
+          → AllBranches (if has then flat_map (λ ref. option_to_list (option_map (branch_of world ref) (whole_of world ref)))
+          (ditavalrefs below) else [])
+      by_test true some = some
+      by_test false some = tt
+
+  pub all_copied : (world : World) (tree : MapTree) → AllIn tree → AllIn (copied world tree)
+  all_copied world NoNodes all = tt
+  all_copied world (MapNode head below more) all = by_test (is_ditavalref head.kind) (all_copied world more all.2)
+      (all_copies world (with_scope_names world head below) (copied world below) all.0 (all_copied world below all.1)
+      (branches_of world head below) (all_branches world head below all.1))
+    where
+      by_test : (is : Bool) → AllIn (copied world more)
+          → AllIn (copies world (with_scope_names world head below) (copied world below) (branches_of world head below))
+          → AllIn (if is then copied world more else trees_beside
+          (copies world (with_scope_names world head below) (copied world below) (branches_of world head below))
+          (copied world more))
+      by_test true behind here = behind
+      by_test false behind here = all_beside_both _ _ here behind

@@ -1,0 +1,9 @@
+pub mod CarryLaws
+pub mod DocLaws
+pub mod FoundLaws
+pub mod HomeLaws
+pub mod PlanLaws
+pub mod Planning
+pub mod StepLaws
+pub mod TellLaws
+pub mod TreeLaws

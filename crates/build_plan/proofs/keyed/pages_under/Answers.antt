@@ -1,0 +1,37 @@
+use Rattle.std.proofs.Common.{refl, subst}
+use Rattle.key_layer.specs.Ready.{made_for}
+use Rattle.key_layer.proofs.BelowLaws.{asks_below}
+use Rattle.readers.specs.Documents.{AsksOnly, nothing}
+use Rattle.readers.specs.Founded.{StaysFounded, homes}
+use Rattle.readers.specs.Noted.{told_onto}
+use Rattle.readers.proofs.GrowthLaws.{agrees_before}
+use Rattle.build_plan.proofs.keyed.pages_under.Goals as goal
+
+pub returns-clause-known : goal.returns-clause-known
+returns-clause-known g c = λ world agrees.
+    let layer = c.pages.new.asker in
+    let start = agrees_before world _ _ layer.grown agrees in
+    c.pages.ensures.known world (layer.carried.agrees world agrees) refl c.requires.parents
+    (c.args.layer.now.ready.values world start) c.args.layer.now.ready.scopes
+
+pub returns-clause-founded : goal.returns-clause-founded
+returns-clause-founded g c =
+    let nodes = c.args.layer.now.nodes.now in
+    let setting = made_for nodes g.S.Since.stand.setting in
+    let last = c.pages.new.asker in
+    let above = told_onto (made_for last.nodes.now g.S.Since.stand.setting) g.S.Since.told last.asked.now in
+    let stays = subst (λ notes. StaysFounded (homes nodes) (told_onto setting g.S.Since.told notes) above)
+    c.requires.asked (c.pages.ensures.founded refl) in
+    record { by = λ roots allowed founded. last.carried.founded roots (stays.by roots allowed founded) }
+
+pub returns-clause-asks : goal.returns-clause-asks
+returns-clause-asks g c =
+    let nodes = c.args.layer.now.nodes.now in
+    let setting = made_for nodes g.S.Since.stand.setting in
+    let last = c.pages.new.asker in
+    let above = told_onto (made_for last.nodes.now g.S.Since.stand.setting) g.S.Since.told last.asked.now in
+    asks_below nothing (homes nodes) g.S.Since.told _ above
+    (record { keys = λ nodes scope text answer. refl; tried = λ names. refl; sought = λ name. refl })
+    last.grown last.passed
+    (subst (λ notes. AsksOnly nothing (homes nodes) (told_onto setting g.S.Since.told notes) above)
+    c.requires.asked c.pages.ensures.asks)

@@ -1,0 +1,64 @@
+use Rattle.std.proofs.Common.{◌≡◌, ◌∙◌, ap, arith, length, rules, subst, sym}
+use Rattle.readers.proofs.GrowthLaws.{agrees_before, grows_same}
+use Rattle.readers.specs.Setting.{Stand}
+use Rattle.plan_nodes.proofs.GivenLaws.{told_later}
+use Rattle.page_names.specs.Uses.{AreReady, AreUses}
+use Rattle.page_names.proofs.GivenUseLaws.{given_home, known_founded}
+use Rattle.page_names.proofs.UseLaws.{node_there, told_there}
+use Rattle.page_names.proofs.Walking.{walking}
+use Rattle.page_names.proofs.uses.Uses.of.Goals as goal
+
+pub loop-at-init : goal.loop-at-init
+loop-at-init g c = record {
+  uses = λ world agrees ready. c.new-uses.ensures world c.args.nodes.now;
+  stand = c.in_ok-homes.ensures.stand;
+  founded = λ same. c.in_ok-homes.ensures.founded;
+  asks = c.in_ok-homes.ensures.asks;
+  grows = c.in_ok-homes.ensures.grows;
+  later = grows_same _;
+}
+
+pub loop-at-preserved : goal.loop-at-preserved
+loop-at-preserved g c = record {
+  uses = λ world agrees ready.
+      (let nodes = c.args.nodes.now in
+      let at = c.loop-at.at in
+      let here = agrees_before world _ _ c.in_ok-add_node.ensures.grows agrees in
+      let there = node_there nodes at c.index-nodes-at.result c.loop-at-test.true c.index-nodes-at.is in
+      c.in_ok-add_node.ensures.known world nodes agrees
+      (subst (λ (stand : Stand). AreReady stand.setting.nodes world nodes) (sym c.loop-at.invariant.stand) ready)
+      (c.in_ok-homes.ensures.known world (agrees_before world _ _ c.loop-at.invariant.later here)) there
+      (told_there nodes at c.deref.result.now c.in_ok-inside.inside.items c.is_within-is_in_table.result
+      c.loop-at-test.true (c.in_ok-inside.ensures ready.before) c.deref.ensures.value c.is_within-is_in_table.ensures)
+      (c.loop-at.invariant.uses world here ready));
+  stand = c.in_ok-add_node.ensures.stand ∙ c.loop-at.invariant.stand;
+  founded = λ same.
+      (let there = node_there c.args.nodes.now c.loop-at.at c.index-nodes-at.result c.loop-at-test.true
+      c.index-nodes-at.is in
+      known_founded _ c.args.nodes.now _ _ _ (ap (λ (stand : Stand). stand.setting.nodes) c.loop-at.invariant.stand
+      ∙ same)
+      c.loop-at.invariant.grows (c.loop-at.invariant.founded same)
+      (c.in_ok-add_node.ensures.founded
+      (given_home _ c.in_ok-homes.homes c.loop-at.at _ c.args.nodes.now c.index-nodes-at.result
+      (told_later _ _ _ c.loop-at.invariant.later c.in_ok-homes.ensures.given) c.in_ok-homes.ensures.value there)));
+  asks = search (rules, walking);
+  grows = search (rules, walking);
+  later = search (rules, walking);
+}
+
+pub returns-clause-known : goal.returns-clause-known
+returns-clause-known g c = λ world agrees ready.
+    let all : c.loop-at.at ≡ length c.args.nodes.now = omega arith in
+    subst (λ count. AreUses world c.args.nodes.now count c.loop-at.uses) all
+    (c.loop-at.invariant.uses world agrees ready)
+
+pub returns-in_err-add_node-clause-founded : goal.returns-in_err-add_node-clause-founded
+returns-in_err-add_node-clause-founded g c = λ same.
+    let there = node_there c.args.nodes.now c.loop-at.at c.index-nodes-at.result c.loop-at-test.true
+    c.index-nodes-at.is in
+    known_founded _ c.args.nodes.now _ _ _ (ap (λ (stand : Stand). stand.setting.nodes) c.loop-at.invariant.stand
+    ∙ same)
+    c.loop-at.invariant.grows (c.loop-at.invariant.founded same)
+    (c.in_err-add_node.ensures.founded
+    (given_home _ c.in_ok-homes.homes c.loop-at.at _ c.args.nodes.now c.index-nodes-at.result
+    (told_later _ _ _ c.loop-at.invariant.later c.in_ok-homes.ensures.given) c.in_ok-homes.ensures.value there))
