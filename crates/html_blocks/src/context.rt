@@ -1,5 +1,9 @@
 //! Where an element stands.
 
+ghost use Rattle.std.specs.Prelude.{◌≡◌};
+ghost use Rattle.html_blocks.specs.Shown as shown_spec;
+ghost use Rattle.page_spec.specs.Blocks as blocks_spec;
+
 use dita_doc::Node;
 use html_tables::TableContext;
 
@@ -65,7 +69,10 @@ impl<'a> Context<'a> {
     }
 }
 
-fn around_in(token: &str, around: Around) -> Around {
+fn around_in(token: &str, around: Around) -> Around
+    ensures { shown_spec.around_shown result
+        ≡ blocks_spec.around_in token.now (shown_spec.around_shown around) }
+{
     match token {
         "topic/topic" => Around::Topic,
         "topic/section" | "topic/example" => Around::Section,

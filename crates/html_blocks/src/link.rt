@@ -1,5 +1,10 @@
 //! The links of elements, by their places.
 
+ghost use Rattle.std.specs.Prelude.{◌≡◌};
+ghost use Rattle.std.specs.Option.{option_copied};
+ghost use Rattle.html_blocks.specs.Anchors as anchors_spec;
+ghost use Rattle.page_spec.specs.Blocks as blocks_spec;
+
 use dita_doc::{Anchor, Text};
 
 /// The link of an element: what it leads to, if it leads anywhere, and the text that it shows if
@@ -11,11 +16,14 @@ pub(crate) struct Link<'a> {
 }
 
 /// The link of the element at a place. The anchors stand by their places.
-pub(crate) fn link_at(anchors: &[Anchor], place: u32) -> Link<'_> {
+pub(crate) fn link_at(anchors: &[Anchor], place: u32) -> Link<'_>
+    ensures { anchors_spec.AreByPlace anchors.now
+        → anchors_spec.IsLinkAt anchors.now place (option_copied result.href) result.label.now }
+{
     match anchor_at(anchors, place) {
         Some(anchor) => Link {
-            href: anchor.href.as_ref().map(Text::as_str),
-            label: anchor.label.as_ref().map_or("", Text::as_str),
+            href: href_of(anchor),
+            label: label_of(anchor),
         },
         None => Link {
             href: None,
@@ -24,9 +32,30 @@ pub(crate) fn link_at(anchors: &[Anchor], place: u32) -> Link<'_> {
     }
 }
 
-fn anchor_at(anchors: &[Anchor], place: u32) -> Option<&Anchor> {
-    let at = anchors
-        .binary_search_by(|anchor| anchor.place.cmp(&place))
-        .ok()?;
-    anchors.get(at)
+fn href_of(anchor: &Anchor) -> Option<&str>
+    ensures { option_copied result ≡ anchor.now.href }
+{
+    match &anchor.href {
+        Some(href) => Some(href.as_str()),
+        None => None,
+    }
+}
+
+fn label_of(anchor: &Anchor) -> &str
+    ensures { result.now ≡ anchors_spec.label_or_none anchor.now.label }
+{
+    match &anchor.label {
+        Some(label) => label.as_str(),
+        None => "",
+    }
+}
+
+fn anchor_at(anchors: &[Anchor], place: u32) -> Option<&Anchor>
+    ensures { anchors_spec.AreByPlace anchors.now
+        → option_copied result ≡ blocks_spec.anchor_at anchors.now place }
+{
+    match anchors.binary_search_by(|anchor| anchor.place.cmp(&place)) {
+        Ok(at) => anchors.get(at),
+        Err(_) => None,
+    }
 }

@@ -1,12 +1,23 @@
 //! The names of the elements of HTML.
 
+ghost use Rattle.std.specs.Prelude.{◌≡◌, ◌+◌, ◌-◌, ◌^◌, ℕ, min};
+ghost use Rattle.std.specs.Option.{option_copied};
+ghost use Rattle.html_blocks.specs.Shown as shown_spec;
+ghost use Rattle.html_forms.specs.Shown.{form_shown_of};
+ghost use Rattle.page_spec.specs.Blocks as blocks_spec;
+
 use crate::context::{Around, Context};
 use crate::link::Link;
 use html_forms::Form;
 
 /// The name of the element of HTML around the content of an element of this form. There is none if
 /// the content is not shown.
-pub(crate) fn name_of(form: Form, link: Link<'_>, context: Context<'_>) -> Option<&'static str> {
+pub(crate) fn name_of(form: Form, link: Link<'_>, context: Context<'_>) -> Option<&'static str>
+    ensures { (depth : ℕ) → context.entry.depth ≡ shown_spec.counted depth
+        → option_copied result ≡ shown_spec.tag_name (form_shown_of form)
+        (option_copied link.entry.href) (shown_spec.around_shown context.entry.around) depth
+        context.entry.tables.head context.entry.tables.simple_head }
+{
     match form {
         Form::Tag(name, _) => Some(name),
         Form::Topic => Some("article"),
@@ -21,18 +32,30 @@ pub(crate) fn name_of(form: Form, link: Link<'_>, context: Context<'_>) -> Optio
 
 // A heading by the depth of the topic, one deeper in a section, and a caption in a figure and in a
 // table.
-fn title_name(context: Context<'_>) -> &'static str {
+fn title_name(context: Context<'_>) -> &'static str
+    ensures { (depth : ℕ) → context.entry.depth ≡ shown_spec.counted depth → result.now
+        ≡ blocks_spec.title_tag (shown_spec.around_shown context.entry.around) depth }
+{
     match context.around {
         Around::Topic => heading(context.depth),
-        Around::Section => heading(context.depth.saturating_add(1)),
+        Around::Section => heading_below(context.depth),
         Around::Figure => "figcaption",
         Around::Table => "caption",
     }
 }
 
-fn heading(depth: u32) -> &'static str {
+fn heading_below(depth: u32) -> &'static str
+    ensures { result.now ≡ blocks_spec.heading (min (depth + 1) (2 ^ 32 - 1)) }
+{
+    heading(depth.saturating_add(1))
+}
+
+fn heading(depth: u32) -> &'static str
+    ensures { result.now ≡ blocks_spec.heading depth }
+{
     match depth {
-        0 | 1 => "h1",
+        0 => "h1",
+        1 => "h1",
         2 => "h2",
         3 => "h3",
         4 => "h4",
@@ -41,10 +64,14 @@ fn heading(depth: u32) -> &'static str {
     }
 }
 
-fn reference_name(link: Link<'_>) -> &'static str {
+fn reference_name(link: Link<'_>) -> &'static str
+    ensures { result.now ≡ blocks_spec.reference_tag (option_copied link.entry.href) }
+{
     if link.href.is_some() { "a" } else { "span" }
 }
 
-fn cell_name(heads: bool) -> &'static str {
+fn cell_name(heads: bool) -> &'static str
+    ensures { result.now ≡ blocks_spec.cell_tag heads }
+{
     if heads { "th" } else { "td" }
 }

@@ -1,5 +1,9 @@
 //! The start tags of elements, and elements whose content is not shown.
 
+ghost use Rattle.std.specs.Prelude.{◌≡◌, ◌++◌, OnOk, codes};
+ghost use Rattle.std.specs.Option.{option_copied};
+ghost use Rattle.page_spec.specs.Blocks as blocks_spec;
+
 use crate::context::Context;
 use crate::element::Element;
 use crate::link::Link;
@@ -109,7 +113,10 @@ fn append_note_class(out: &mut Text, note: &Node) -> Result<(), AllocError> {
     out.append("\"")
 }
 
-fn append_href(out: &mut Text, link: Link<'_>) -> Result<(), AllocError> {
+fn append_href(out: &mut Text, link: Link<'_>) -> Result<(), AllocError>
+    ensures { OnOk result (out.new ≡ out.old ++ blocks_spec.attribute_text (codes "href")
+        (option_copied link.entry.href)) }
+{
     match link.href {
         Some(href) => append_attribute(out, "href", href),
         None => Ok(()),

@@ -1,22 +1,38 @@
 //! The row of the table that counts for an element.
 
+ghost use Rattle.std.specs.Prelude.{◌≡◌, ℕ, List, map, option_map};
+ghost use Rattle.dita_doc.specs.ClassValue.{words_of};
+ghost use Rattle.doc_elements.specs.Walk as walk_spec;
+ghost use Rattle.html_forms.specs.Shown as shown_spec;
+ghost use Rattle.page_spec.specs.Blocks as blocks_spec;
+
 use crate::forms::{Form, ROWS};
 use dita_doc::{Node, split_word};
 use doc_elements::tokens_of;
 
 /// The form of the last of an element's types that the table has, if it has one.
-pub fn form_of(element: &Node) -> Option<Form> {
-    let (_, form) = row_of(element)?;
-    Some(form)
+pub fn form_of(element: &Node) -> Option<Form>
+    ensures { (name : List ℕ) → shown_spec.form_found result ≡ option_map (λ row. row.1)
+        (blocks_spec.row_for (walk_spec.element_of name element.now)) }
+{
+    match row_of(element) {
+        Some((_, form)) => Some(form),
+        None => None,
+    }
 }
 
 /// The token and the form of the last of an element's types that the table has, if it has one.
-pub fn row_of(element: &Node) -> Option<(&'static str, Form)> {
+pub fn row_of(element: &Node) -> Option<(&'static str, Form)>
+    ensures { (name : List ℕ) → shown_spec.row_found result
+        ≡ blocks_spec.row_for (walk_spec.element_of name element.now) }
+{
     row_among(tokens_of(element))
 }
 
 /// The same for the tokens of an element's types, which stand with blanks between them.
-pub fn row_among(tokens: &[u8]) -> Option<(&'static str, Form)> {
+pub fn row_among(tokens: &[u8]) -> Option<(&'static str, Form)>
+    ensures { shown_spec.row_found result ≡ shown_spec.row_among (words_of tokens.now) }
+{
     let mut rest = tokens;
     let mut last = None;
     while let Some((word, more)) = split_word(rest) {
@@ -29,9 +45,19 @@ pub fn row_among(tokens: &[u8]) -> Option<(&'static str, Form)> {
 }
 
 // The row of a token, if the table has it.
-fn row_named(token: &[u8]) -> Option<(&'static str, Form)> {
-    let at = ROWS
-        .binary_search_by(|row| row.0.as_bytes().cmp(&token))
-        .ok()?;
-    ROWS.get(at).copied()
+fn row_named(token: &[u8]) -> Option<(&'static str, Form)>
+    ensures { shown_spec.row_found result ≡ blocks_spec.row_of token.now }
+{
+    row_in(&ROWS, token)
+}
+
+// The row of a token among rows that stand by their tokens.
+fn row_in(rows: &[(&'static str, Form)], token: &[u8]) -> Option<(&'static str, Form)>
+    requires { map shown_spec.row_shown_of rows.now ≡ shown_spec.by_tokens blocks_spec.forms }
+    ensures { shown_spec.row_found result ≡ blocks_spec.row_of token.now }
+{
+    match rows.binary_search_by(|row| row.0.as_bytes().cmp(&token)) {
+        Ok(at) => Some(rows[at]),
+        Err(_) => None,
+    }
 }

@@ -1,5 +1,8 @@
 //! Where an element stands among the tables around it.
 
+ghost use Rattle.std.specs.Prelude.{◌≡◌};
+ghost use Rattle.page_spec.specs.Blocks as blocks_spec;
+
 /// Whether a cell heads its column here, and the nearest group of rows.
 #[derive(Clone, Copy, Debug)]
 pub struct TableContext {
@@ -12,8 +15,15 @@ pub struct TableContext {
 }
 
 impl TableContext {
+    ghost use Rattle.std.specs.Prelude.{◌≡◌, None};
+    ghost use Rattle.page_spec.specs.Blocks as blocks_spec;
+
     /// Where no table stands around.
-    pub fn outside() -> TableContext {
+    pub fn outside() -> TableContext
+        ensures head { result.head ≡ blocks_spec.outside.head }
+        ensures simple_head { result.simple_head ≡ blocks_spec.outside.simple_head }
+        ensures group { result.group ≡ None }
+    {
         TableContext {
             head: false,
             simple_head: false,
@@ -23,7 +33,12 @@ impl TableContext {
 
     /// Where what an element holds stands, by the token that counts for the element and the nearest
     /// group.
-    pub fn within(self, token: &str, group: Option<usize>) -> TableContext {
+    pub fn within(self, token: &str, group: Option<usize>) -> TableContext
+        ensures head { result.head ≡ blocks_spec.head_in token.now self.head }
+        ensures simple_head { result.simple_head
+            ≡ blocks_spec.simple_head_in token.now self.simple_head }
+        ensures group { result.group ≡ group }
+    {
         TableContext {
             head: head_in(token, self.head),
             simple_head: simple_head_in(token, self.simple_head),
@@ -32,7 +47,9 @@ impl TableContext {
     }
 }
 
-fn head_in(token: &str, around: bool) -> bool {
+fn head_in(token: &str, around: bool) -> bool
+    ensures { result ≡ blocks_spec.head_in token.now around }
+{
     match token {
         "topic/thead" => true,
         "topic/tbody" | "topic/table" => false,
@@ -40,7 +57,9 @@ fn head_in(token: &str, around: bool) -> bool {
     }
 }
 
-fn simple_head_in(token: &str, around: bool) -> bool {
+fn simple_head_in(token: &str, around: bool) -> bool
+    ensures { result ≡ blocks_spec.simple_head_in token.now around }
+{
     match token {
         "topic/sthead" => true,
         "topic/strow" | "topic/simpletable" => false,

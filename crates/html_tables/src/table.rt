@@ -1,12 +1,20 @@
 //! The cells of a table.
 
+ghost use Rattle.std.specs.Prelude.{◌≡◌, ◌+◌, ◌<◌, ◌++◌, ℕ, List, IfOk, OnOk, map};
+ghost use Rattle.dita_doc.specs.Siblings as siblings_spec;
+ghost use Rattle.dita_doc.specs.Tree as tree_spec;
+ghost use Rattle.doc_elements.specs.Walk as elements_walk;
+ghost use Rattle.html_tables.specs.Walk as walk_spec;
+ghost use Rattle.page_spec.specs.Blocks as blocks_spec;
+ghost use Rattle.readers.specs.Named as named_spec;
+
 use crate::context::TableContext;
 use crate::groups::Groups;
 use crate::rows::rows_spanned;
 use dita_doc::{Doc, First, List, NoMemory, Node, Siblings};
 use doc_elements::tokens_of;
 use html_forms::{Form, row_among};
-use std::alloc::Global;
+use std::alloc::{AllocError, Global};
 
 /// A cell of a table: its place in the document, whether it heads its column, and how many rows and
 /// columns it spans.
@@ -19,17 +27,50 @@ pub struct Cell {
 }
 
 /// The cells of the table at a place, in document order. There is none if no element stands there.
-pub fn cells(alloc: Global, body: &Doc, table: u32) -> Result<List<Cell>, NoMemory> {
+pub fn cells(alloc: Global, body: &Doc, table: u32) -> Result<List<Cell>, NoMemory>
+    ensures { IfOk result (λ cells. map walk_spec.shown_cell cells
+        ≡ walk_spec.cells_at (named_spec.named_tree body.now) table) }
+{
     let mut walk = Walk {
         cells: List::new(alloc),
         groups: Groups::new(alloc),
     };
-    if let Some((element, inside)) = Siblings::element_at(body, table) {
-        let within = walk.enter(alloc, table, element, inside, TableContext::outside())?;
-        append_cells(alloc, &mut walk, inside, within)?;
-    }
+    append_found(alloc, &mut walk, body, table)?;
     let Walk { cells, .. } = walk;
     Ok(cells)
+}
+
+// Appends the cells of the element at a place, if one stands there.
+fn append_found(alloc: Global, walk: &mut Walk, body: &Doc, table: u32) -> Result<(), NoMemory>
+    ensures { OnOk result (map walk_spec.shown_cell walk.new.cells
+        ≡ map walk_spec.shown_cell walk.old.cells
+        ++ walk_spec.cells_at (named_spec.named_tree body.now) table) }
+{
+    match Siblings::element_at(body, table) {
+        Some((element, inside)) => {
+            append_whole(alloc, walk, table, element, inside)?;
+            Ok(())
+        }
+        None => Ok(()),
+    }
+}
+
+// Appends the cells of an element at this place, outside of other tables.
+fn append_whole(
+    alloc: Global,
+    walk: &mut Walk,
+    place: u32,
+    element: &Node,
+    inside: Siblings<'_>,
+) -> Result<(), NoMemory>
+    requires { place + 1 + tree_spec.size_of (siblings_spec.content inside) < tree_spec.node_limit }
+    ensures { (names : List (List ℕ)) (name : List ℕ)
+        → OnOk result (walk_spec.HasCellsMore walk.old walk.new (walk_spec.cells_of place
+        (elements_walk.element_of name element.now, walk_spec.content_named names inside.entry))) }
+{
+    let within = walk.enter(alloc, place, element, inside, TableContext::outside())?;
+    append_cells(alloc, walk, inside, place + 1, within)?;
+    Ok(())
 }
 
 // The cells and the groups that were met.
@@ -40,6 +81,13 @@ struct Walk {
 }
 
 impl Walk {
+    ghost use Rattle.std.specs.Prelude.{◌≡◌, ◌++◌, ℕ, List, Some, IfOk, OnOk, map};
+    ghost use Rattle.doc_elements.specs.Walk as elements_walk;
+    ghost use Rattle.html_forms.specs.Shown.{form_shown_of};
+    ghost use Rattle.html_tables.specs.Walk as walk_spec;
+    ghost use Rattle.page_spec.specs.Blocks.{Context};
+    ghost use Rattle.page_spec.specs.Blocks as blocks_spec;
+
     // Appends an element, if it is a cell, and tells where what it holds stands.
     fn enter(
         &mut self,
@@ -48,26 +96,50 @@ impl Walk {
         element: &Node,
         inside: Siblings<'_>,
         context: TableContext,
-    ) -> Result<TableContext, NoMemory> {
+    ) -> Result<TableContext, NoMemory>
+        ensures { (names : List (List ℕ)) (name : List ℕ) (around : Context)
+            → walk_spec.IsContext self.old.groups context around → IfOk result (λ within.
+            walk_spec.HasEntered self.old self.new within place
+            (elements_walk.element_of name element.now)
+            (walk_spec.content_named names inside.entry) around) }
+    {
         let tokens = tokens_of(element);
         let group = self.groups.enter(alloc, tokens, inside, context.group)?;
         let Some((token, form)) = row_among(tokens) else {
             return Ok(TableContext { group, ..context });
         };
-        if let Some(cell) = self.cell_of(place, element, form, context) {
-            self.cells.push(cell)?;
-        }
+        self.append_cell(place, element, form, context)?;
         Ok(context.within(token, group))
     }
 
-    // The cell that an element of this form is, if it is one.
-    fn cell_of(
-        &self,
+    // Appends an element of this form, if it is a cell.
+    fn append_cell(
+        &mut self,
         place: u32,
         element: &Node,
         form: Form,
         context: TableContext,
-    ) -> Option<Cell> {
+    ) -> Result<(), AllocError>
+        ensures groups { self.new.groups ≡ self.old.groups }
+        ensures cells { (name token : List ℕ) (around : Context)
+            → walk_spec.IsContext self.old.groups context around
+            → OnOk result (map walk_spec.shown_cell self.new.cells
+            ≡ map walk_spec.shown_cell self.old.cells ++ blocks_spec.cell_by around place
+            (elements_walk.element_of name element.now) (Some (token, form_shown_of form))) }
+    {
+        match self.cell_of(place, element, form, context) {
+            Some(cell) => self.cells.push(cell),
+            None => Ok(()),
+        }
+    }
+
+    // The cell that an element of this form is, if it is one.
+    fn cell_of(&self, place: u32, element: &Node, form: Form, context: TableContext) -> Option<Cell>
+        ensures { (name token : List ℕ) (around : Context)
+            → walk_spec.IsContext self.now.groups context around
+            → walk_spec.cells_shown result ≡ blocks_spec.cell_by around place
+            (elements_walk.element_of name element.now) (Some (token, form_shown_of form)) }
+    {
         match form {
             Form::Cell => Some(Cell {
                 place,
@@ -86,26 +158,41 @@ impl Walk {
     }
 }
 
-// Appends the cells among some siblings, and those below them.
+// Appends the cells among some siblings, and those below them. It counts the places on the way,
+// from that of the first sibling, and gives the place behind them.
 fn append_cells(
     alloc: Global,
     walk: &mut Walk,
     siblings: Siblings<'_>,
+    place: u32,
     context: TableContext,
-) -> Result<(), NoMemory> {
+) -> Result<u32, NoMemory>
+    requires { place + tree_spec.size_of (siblings_spec.content siblings)
+        < tree_spec.node_limit }
+    ensures past { IfOk result (λ past.
+        past ≡ place + tree_spec.size_of (siblings_spec.content siblings.entry)) }
+    ensures cells { (names : List (List ℕ)) (around : blocks_spec.Context)
+        → walk_spec.IsContext walk.old.groups context around
+        → OnOk result (walk_spec.HasCellsMore walk.old walk.new (blocks_spec.cells_from around place
+        (walk_spec.content_named names siblings.entry))) }
+{
     let mut left = siblings;
+    let mut here = place;
     loop {
         match left.split_first() {
-            First::End => return Ok(()),
-            First::Chars { rest, .. } => left = rest,
+            First::End => return Ok(here),
+            First::Chars { rest, .. } => {
+                here += 1;
+                left = rest;
+            }
             First::Element {
-                place,
                 node,
                 inside,
                 rest,
+                ..
             } => {
-                let within = walk.enter(alloc, place, node, inside, context)?;
-                append_cells(alloc, walk, inside, within)?;
+                let within = walk.enter(alloc, here, node, inside, context)?;
+                here = append_cells(alloc, walk, inside, here + 1, within)?;
                 left = rest;
             }
         }

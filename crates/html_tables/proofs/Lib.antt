@@ -1,0 +1,5 @@
+pub mod ColumnLaws
+pub mod GroupLaws
+pub mod PlaceLaws
+pub mod SaidLaws
+pub mod WalkLaws

@@ -1,0 +1,112 @@
+-- The cells of a table; and what a walk over tables knows on its way: each node stands under the name at its origin's
+-- place, and each group that was met has its columns.
+use Rattle.std.specs.Prelude.{◌≡◌, ◌+◌, ◌++◌, ℕ, Bool, List, [], ◌∷◌, Option, Some, None, bytes_eq, codes, length, map, slice_get, if◌then◌else◌}
+use Rattle.std.specs.BTreeMap.{get_by_text}
+use Rattle.std.specs.List.{list_any}
+use Rattle.std.specs.Option.{option_map_or, option_or}
+use Rattle.dita_doc.specs.Siblings.{content}
+use Rattle.dita_doc.specs.declared.doc.Node as doc
+use Rattle.dita_doc.specs.declared.siblings.Siblings.{Siblings}
+use Rattle.doc_elements.specs.Walk as walk
+use Rattle.html_tables.specs.declared.columns.Columns.{Columns}
+use Rattle.html_tables.specs.declared.context.TableContext.{TableContext}
+use Rattle.html_tables.specs.declared.groups.Groups.{Groups}
+use Rattle.html_tables.specs.declared.table.Cell.{Cell}
+use Rattle.html_tables.specs.declared.table.Walk.{Walk}
+use Rattle.map_spec.specs.Written.{Element, Whole, Written, element_at}
+use Rattle.page_spec.specs.Blocks.{CellAt, Context, cell_by, cells_from, context_in, outside, row_for}
+use Rattle.page_spec.specs.Tables.{column_at, column_names}
+use Rattle.readers.specs.Named.{name_at, named}
+
+-- Cells
+
+abbrev pub shown_cell : Cell → CellAt
+shown_cell cell = record { place = cell.place; head = cell.head; rows = cell.rows; columns = cell.columns }
+
+-- the cells of an element at a place: itself, if it is one, and those in it
+abbrev pub cells_of : ℕ → Whole → List CellAt
+cells_of place whole = cell_by outside place whole.0 (row_for whole.0)
+    ++ cells_from (context_in whole.0 whole.1 (row_for whole.0) outside) (place + 1) whole.1
+
+-- the cells of the element at a place
+abbrev pub cells_at : Written → ℕ → List CellAt
+cells_at nodes table = option_map_or (cells_of table) (element_at nodes table) []
+
+-- What siblings are
+
+abbrev pub content_named : List (List ℕ) → Siblings → Written
+content_named names siblings = named names (content siblings)
+
+abbrev pub element_named : List (List ℕ) → doc.Node → Element
+element_named names node = walk.element_of (name_at names node.origin) node
+
+-- Columns
+
+abbrev pub Names : Type 0
+Names = List (Option (List ℕ))
+
+-- a place for a name, unless it has one
+abbrev pub or_at : Option ℕ → Bool → ℕ → Option ℕ
+or_at found is place = option_or found (if is then Some place else None)
+
+-- the columns have these names, and each name its place
+pub record AreColumns (columns : Columns) (names : Names) : Type 0 where
+  pub count : columns.count ≡ length names
+  pub places : (name : List ℕ) → get_by_text columns.places name ≡ column_at names (Some name)
+
+-- this name has the place of the next column, unless it had one
+pub record HasNameMore (old new : Columns) (name : List ℕ) : Type 0 where
+  pub count : new.count ≡ old.count
+  pub places : (other : List ℕ) → get_by_text new.places other
+      ≡ or_at (get_by_text old.places other) (bytes_eq name other) old.count
+
+-- one more column is counted
+pub record HasCountMore (old new : Columns) : Type 0 where
+  pub count : new.count ≡ old.count + 1
+  pub places : new.places ≡ old.places
+
+-- Groups
+
+-- the group of this number has columns of these names
+pub record IsGroupAt (groups : Groups) (number : ℕ) (names : Names) : Type 0 where
+  pub columns : Columns
+  pub here : slice_get groups.groups number ≡ Some columns
+  pub are : AreColumns columns names
+
+-- the nearest group has columns of these names; there are none where no group is around
+abbrev pub HasColumns : Groups → Option ℕ → Names → Type 0
+HasColumns groups None names = names ≡ []
+HasColumns groups (Some number) names = IsGroupAt groups number names
+
+-- groups that were known before are known now
+abbrev pub KeepsGroups : Groups → Groups → Type 0
+KeepsGroups old new = (group : Option ℕ) (names : Names) → HasColumns old group names → HasColumns new group names
+
+-- the columns around what an element of these tokens holds
+abbrev pub columns_within : List (List ℕ) → Written → Names → Names
+columns_within tokens inside names =
+    if list_any (bytes_eq (codes "topic/tgroup")) tokens then column_names inside else names
+
+-- where an element stands, as the definition has it
+pub record IsContext (groups : Groups) (tables : TableContext) (context : Context) : Type 0 where
+  pub head : tables.head ≡ context.head
+  pub simple_head : tables.simple_head ≡ context.simple_head
+  pub columns : HasColumns groups tables.group context.columns
+
+-- Walks
+
+-- a walk met these cells more, and keeps its groups
+pub record HasCellsMore (old new : Walk) (some : List CellAt) : Type 0 where
+  pub kept : KeepsGroups old.groups new.groups
+  pub cells : map shown_cell new.cells ≡ map shown_cell old.cells ++ some
+
+-- a walk met an element, and knows where what it holds stands
+pub record HasEntered (old new : Walk) (within : TableContext) (place : ℕ) (element : Element) (inside : Written)
+    (around : Context) : Type 0 where
+  pub more : HasCellsMore old new (cell_by around place element (row_for element))
+  pub context : IsContext new.groups within (context_in element inside (row_for element) around)
+
+-- a cell, if there is one, as it is shown
+abbrev pub cells_shown : Option Cell → List CellAt
+cells_shown None = []
+cells_shown (Some cell) = shown_cell cell ∷ []
