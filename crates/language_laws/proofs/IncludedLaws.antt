@@ -7,11 +7,11 @@ use Rattle.dita_doc.specs.declared.plan.PlanKind.{PlanKind}
 use Rattle.dita_doc.specs.declared.plan.PlanKind.TheVariants as kinds
 use Rattle.reader_spec.specs.World.{World}
 use Rattle.map_spec.specs.Elements.{attribute, class_faults, is_transparent}
-use Rattle.map_spec.specs.Included.{Around, around_below, fault_alone, includes_map, kind_of, map_in, map_included, new_head, node_made, nodes_among, nodes_by, nodes_of_element, submap_found, submap_named, submap_of}
+use Rattle.map_spec.specs.Included.{Around, around_below, fault_alone, includes_map, kind_of, map_in, map_included, new_head, node_made, nodes_among, nodes_by, nodes_of_element, root_place, submap_found, submap_named, submap_of}
 use Rattle.map_spec.specs.MapTree.{Grown, Head, beneath, beside, with_faults}
 use Rattle.map_spec.specs.Target.{Named, Document, Elsewhere, Unreadable, named_of}
 use Rattle.map_spec.specs.Written.{Element, Whole, Written, End, Chars, Node, size}
-use Rattle.language_laws.proofs.HeadLaws.{AllHeads, heads_beside, heads_by_test}
+use Rattle.map_lemmas.proofs.HeadLaws.{AllHeads, heads_beside, heads_by_test}
 
 -- as a node is made
 abbrev pub HasNoFilters : Head → Type 0
@@ -90,6 +90,6 @@ included_new (suc fuel) world path level root =
       refl,
       among_new (submap_of grow world path)
           (submap_new grow (λ name inner. included_new fuel world (path ++ name ∷ []) (level + 1) inner) world path)
-          (record { level = level; in_table = false }) 1 root.1,
+          (record { level = level; in_table = false }) (root_place world root.0.doc + 1) root.1,
       tt,
     )

@@ -14,7 +14,7 @@ use Rattle.map_spec.specs.Judged.{is_excluded, judged, kept}
 use Rattle.map_spec.specs.MapTree.{Grown, Head, MapTree, NoNodes, MapNode, beside}
 use Rattle.map_spec.specs.Target.{Named, Document, Elsewhere, Unreadable, named_of}
 use Rattle.map_spec.specs.Written.{Element}
-use Rattle.language_laws.proofs.HeadLaws.{AllHeads, heads_unless}
+use Rattle.map_lemmas.proofs.HeadLaws.{AllHeads, heads_unless}
 
 -- What rules leave
 

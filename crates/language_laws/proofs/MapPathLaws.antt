@@ -14,7 +14,7 @@ use Rattle.dita_doc.specs.declared.plan.PlanStop.TheVariants as stops
 use Rattle.reader_spec.specs.World.{World}
 use Rattle.map_spec.specs.Branches.{is_map_node}
 use Rattle.map_spec.specs.Elements.{attribute, is_a, is_transparent}
-use Rattle.map_spec.specs.Included.{Around, if_map, included, included_from, includes_map, is_map, kind_of, limited, map_in, map_included, new_head, nodes_among, nodes_by, nodes_of_element, root_in, submap_found, submap_named, submap_of}
+use Rattle.map_spec.specs.Included.{Around, if_map, included, included_from, includes_map, is_map, kind_of, limited, map_in, map_included, new_head, nodes_among, nodes_by, nodes_of_element, root_in, root_place, submap_found, submap_named, submap_of}
 use Rattle.map_spec.specs.MapTree.{Grown, Head, MapTree, NoNodes, MapNode, count, trees_beside}
 use Rattle.map_spec.specs.Target.{Named, Document, Elsewhere, Unreadable, named_of}
 use Rattle.map_spec.specs.Written.{Element, Whole, Written, End, Chars, Node, first_sibling, size, written_in}
@@ -173,7 +173,7 @@ map_fits (suc fuel) world path names level root absent covers = (
       (λ name inner same not_on. map_fits fuel world (path ++ name ∷ []) (root.0.doc ∷ names) (level + 1) inner
       (covers inner.0.doc (subst (λ doc. list_any (bytes_eq doc) path ≡ false) (sym same) not_on))
       (covers_more path (root.0.doc ∷ names) name inner.0.doc same covers)))
-      (record { level = level; in_table = false }) 1 root.1,
+      (record { level = level; in_table = false }) (root_place world root.0.doc + 1) root.1,
   tt,
 )
 

@@ -8,7 +8,7 @@ use Rattle.dita_doc.specs.declared.plan.PlanKind.{PlanKind}
 use Rattle.dita_doc.specs.declared.plan.PlanKind.TheVariants as kinds
 use Rattle.reader_spec.specs.World.{World}
 use Rattle.map_spec.specs.Elements.{attribute, class_faults, is_transparent}
-use Rattle.map_spec.specs.Included.{Around, around_below, fault_alone, ignored_references, includes_map, kind_of, limited, map_in, map_included, new_head, nodes_among, nodes_by, nodes_of_element, submap_found, submap_named, submap_of}
+use Rattle.map_spec.specs.Included.{Around, around_below, fault_alone, ignored_references, includes_map, kind_of, limited, map_in, map_included, new_head, nodes_among, nodes_by, nodes_of_element, root_place, submap_found, submap_named, submap_of}
 use Rattle.map_spec.specs.MapTree.{Grown, MapTree, NoNodes, MapNode, beneath, beside, count, trees_beside, with_faults}
 use Rattle.map_spec.specs.Target.{Named, Document, Elsewhere, Unreadable, named_of}
 use Rattle.map_spec.specs.Written.{Element, Whole, Written, End, Chars, Node, size}
@@ -115,11 +115,12 @@ map_same (suc limit) (suc n) zero world path level root first second few = absur
 map_same (suc limit) (suc n) (suc m) world path level root first second few =
     let grow = λ (name : List ℕ). map_included n world (path ++ name ∷ []) (level + 1) in
     let other = λ (name : List ℕ). map_included m world (path ++ name ∷ []) (level + 1) in
-    ap (λ nodes. with_faults (ignored_references root.0) (beneath (new_head kinds.Map root.0 level 0) nodes))
+    let place = root_place world root.0.doc in
+    ap (λ nodes. with_faults (ignored_references root.0) (beneath (new_head kinds.Map root.0 level place) nodes))
     (among_same limit (submap_of grow world path) (submap_of other world path)
     (submap_same limit world path grow other (λ name inner less.
     map_same limit n m world (path ++ name ∷ []) (level + 1) inner (omega arith) (omega arith) less))
-    (record { level = level; in_table = false }) 1 root.1 (omega arith))
+    (record { level = level; in_table = false }) (place + 1) root.1 (omega arith))
 
 -- two things are alike within a limit if each is the other where it counts no more than that
 limited_same : (limit : ℕ) (some other : Grown) (within within_too : Bool) → nat_le (count some.tree) limit ≡ within

@@ -12,7 +12,7 @@ use Rattle.map_spec.specs.MapTree.{Head, MapTree, NoNodes, MapNode, count, nodes
 use Rattle.map_spec.specs.PlanOf.{Limits, build_rules, plan_of}
 use Rattle.map_spec.specs.Scopes.{scoped, scoped_from}
 use Rattle.language_laws.specs.Kept.{AreKept, are_excluding, is_excluded_by}
-use Rattle.language_laws.proofs.HeadLaws.{AllHeads}
+use Rattle.map_lemmas.proofs.HeadLaws.{AllHeads}
 use Rattle.language_laws.proofs.KeptLaws.{IsKept}
 use Rattle.language_laws.proofs.ListLaws.{AllFrom, at_place}
 use Rattle.language_laws.proofs.TreeLaws.{node_with}

@@ -10,7 +10,7 @@ use Rattle.ditaval_rules.specs.declared.rules.RulesRead.{RulesRead}
 use Rattle.reader_spec.specs.World.{World}
 use Rattle.map_spec.specs.Branches.{branch_faults, branched, copied}
 use Rattle.map_spec.specs.Cascade.{cascaded}
-use Rattle.map_spec.specs.Included.{is_map, limited, map_included, new_head, root_in}
+use Rattle.map_spec.specs.Included.{is_map, limited, map_included, new_head, root_in, root_place}
 use Rattle.map_spec.specs.Judged.{filtered}
 use Rattle.map_spec.specs.MapTree.{Grown, MapTree, count, plan_nodes}
 use Rattle.map_spec.specs.PlanOf.{Limits, build_rules, grown_from, plan_of, plan_of_map, plan_of_root, plan_of_tree, plan_with, then_plan}
@@ -53,7 +53,7 @@ included_map : (limit : ℕ) (world : World) (path : List (List ℕ)) (level : �
     → IsMapTree HasNoFilters (map_included (suc limit) world path level root).tree
 unfolding map_included
 included_map limit world path level root = record {
-  head = new_head kinds.Map root.0 level 0;
+  head = new_head kinds.Map root.0 level (root_place world root.0.doc);
   below = _;
   is = refl;
   kind = refl;

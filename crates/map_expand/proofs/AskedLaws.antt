@@ -1,5 +1,5 @@
 -- What an element asks for is what it includes.
-use Rattle.std.specs.Prelude.{◌≡◌, ◌&&◌, ◌||◌, ◌^◌, ◌+◌, ◌<◌, ◌≤◌, ℕ, Bool, true, false, not, List, [], ◌∷◌, ◌++◌, Option, Some, None, Result, Ok, Err, OnOk, codes, is_some, length, unwrap_or, if◌then◌else◌}
+use Rattle.std.specs.Prelude.{◌≡◌, ◌&&◌, ◌||◌, ◌^◌, ◌<◌, ◌≤◌, ℕ, Bool, true, false, not, List, [], ◌∷◌, ◌++◌, Option, Some, None, Result, Ok, Err, OnOk, codes, is_some, length, unwrap_or, if◌then◌else◌}
 use Rattle.std.proofs.Common.{refl, sym, ap, ◌∙◌, arith, subst, length-append}
 use Rattle.dita_doc.specs.declared.doc.Node as doc
 use Rattle.dita_doc.specs.declared.fault.Fault.{Fault}
@@ -175,7 +175,7 @@ may_find told home walk end kind name first asked is fits some begins asks = by_
         let here : IsAsked kind walk.in_table (element_of home.name first) (Some asked) =
         subst (λ x. IsAsked kind walk.in_table x (Some asked)) named asks in
         let one = asks_one kind (around_of walk) (element_of home.name first) asked here in
-        may_name told home (home.root + walk.place) first asked.href other is begins.here
+        may_name told home walk.place first asked.href other is begins.here
         (has_kind home walk.place end fits some first begins.here asked.href one.1) one.1 one.3 (sym here.1 ∙ e)
     by_named Elsewhere e = tt
     by_named Unreadable e = tt

@@ -1,5 +1,5 @@
 -- A name is asked for, and what was found is known from then on.
-use Rattle.std.specs.Prelude.{◌≡◌, ◌-◌, ◌<◌, ◌≤◌, ℕ, Bool, true, false, List, [], ◌∷◌, ◌++◌, Option, Some, None, Result, Ok, Err, IfOk, IfSome, length, option_map}
+use Rattle.std.specs.Prelude.{◌≡◌, ◌+◌, ◌<◌, ◌≤◌, ℕ, Bool, true, false, List, [], ◌∷◌, ◌++◌, Option, Some, None, Result, Ok, Err, IfOk, IfSome, length, option_map}
 use Rattle.std.specs.BTreeMap.{get}
 use Rattle.std.specs.Cmp.Lexicographic.{slice_cmp}
 use Rattle.std.specs.Option.{option_and_then}
@@ -14,9 +14,9 @@ use Rattle.dita_doc.proofs.NameOrder.{same_from_equal}
 use Rattle.dita_doc.specs.Tree.{tree_of}
 use Rattle.dita_doc.specs.declared.doc.Node.{Node}
 use Rattle.doc_elements.specs.Walk.{element_of}
-use Rattle.map_spec.specs.Included.{if_map, map_in}
+use Rattle.map_spec.specs.Included.{if_map, map_in, place_in}
 use Rattle.map_spec.specs.Written.{Whole, first_sibling, written_in}
-use Rattle.map_expand.specs.Homes.{Extends, Home, HomeFits, content_between, home_at, name_at, root_in, whole_by}
+use Rattle.map_expand.specs.Homes.{Extends, Home, HomeFits, IsPlaced, content_between, home_at, name_at, root_in, whole_by}
 use Rattle.map_expand.specs.Known.{IsAdded, IsFound, IsKnown, IsNamed, IsPut, MapsFit, map_wanted}
 use Rattle.map_expand.specs.Going.{homes_of}
 use Rattle.map_expand.specs.declared.maps.Maps.{Maps}
@@ -39,6 +39,7 @@ module _ (homes more : List Home) where
     root = is.root;
     is = is.is;
     here = ap root_in (home_still homes more at is.named.within) ∙ is.here;
+    placed = subst (IsPlaced world) (sym (home_still homes more at is.named.within)) is.placed;
   }
 
   pub known_still : (world : World) (name : List ℕ) (known : Option (Option ℕ)) → IsKnown world homes name known
@@ -61,7 +62,7 @@ pub home_new : (old new : List Home) (home : Home) (at : ℕ) → new ≡ old ++
 home_new old new home at is last = ap (λ l. home_at l at) is ∙ ap (home_at (old ++ home ∷ [])) last ∙ home_last old home
 
 -- under a name for which this document was told
-pub map_told : (world : World) (name : List ℕ) (nodes : List Node) → world name ≡ Some (tree_of nodes)
+map_told : (world : World) (name : List ℕ) (nodes : List Node) → world name ≡ Some (tree_of nodes)
     → map_in world name ≡ map_wanted name nodes
 map_told world name nodes is =
     ap (λ t. option_and_then if_map (option_and_then first_sibling (option_map (written_in name) t))) is
@@ -71,13 +72,13 @@ none_told world name is =
     ap (λ t. option_and_then if_map (option_and_then first_sibling (option_map (written_in name) t))) is
 
 pub found_put : (world : World) (name : List ℕ) (nodes : List Node) (old new : List Home) (found : Option ℕ)
-    → map_in world name ≡ map_wanted name nodes → IsPut name nodes old new found → IsFound world new name found
-found_put world name nodes old new None told put = told ∙ put.0
-found_put world name nodes old new (Some at) told put =
+    → world name ≡ Some (tree_of nodes) → IsPut name nodes old new found → IsFound world new name found
+found_put world name nodes old new None holds put = map_told world name nodes holds ∙ put.0
+found_put world name nodes old new (Some at) holds put =
     let home : Home = record { name = name; nodes = nodes; root = put.1.0 } in
     let root = put.1.2 in
     let node = root.fits.node in
-    let whole : Whole = (element_of name node, content_between home 1 (node.end - home.root)) in
+    let whole : Whole = (element_of name node, content_between home (home.root + 1) node.end) in
     let there : root_in home ≡ Some whole = ap (whole_by home) root.fits.here in
     let here = home_new old new home at put.1.1 put.0 in
     record {
@@ -86,8 +87,10 @@ found_put world name nodes old new (Some at) told put =
         named = ap (λ (h : Home). h.name) here;
       };
       root = whole;
-      is = told ∙ sym root.here ∙ there;
+      is = map_told world name nodes holds ∙ sym root.here ∙ there;
       here = ap root_in here ∙ there;
+      placed = subst (IsPlaced world) (sym here)
+          (ap (λ t. place_in (option_map (written_in name) t)) holds ∙ root.behind);
     }
 
 -- What was found is put

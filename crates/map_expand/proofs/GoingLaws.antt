@@ -8,13 +8,13 @@ use Rattle.dita_doc.specs.declared.plan.PlanNode.{PlanNode}
 use Rattle.dita_doc.specs.declared.plan.PlanStop.{PlanStop}
 use Rattle.dita_doc.specs.declared.stop.Stop.{Stop}
 use Rattle.dita_doc.specs.declared.stop.Stop.TheVariants as stop
-use Rattle.map_spec.specs.Included.{ignored_references, map_included, new_head, node_limit, nodes_among}
+use Rattle.map_spec.specs.Included.{ignored_references, map_included, new_head, node_limit, nodes_among, root_place}
 use Rattle.map_spec.specs.MapTree.{Grown, beneath, count, node_of, nodes_below}
 use Rattle.doc_elements.specs.Walk.{element_of}
 use Rattle.map_spec.specs.Written.{Whole}
 use Rattle.reader_spec.specs.World.{World}
 use Rattle.map_expand.specs.Going.{IsFull, IsOver}
-use Rattle.map_expand.specs.Homes.{Home, IsFirst, content_between, home_at, root_in, name_at}
+use Rattle.map_expand.specs.Homes.{Home, IsFirst, IsPlaced, content_between, home_at, root_in, name_at}
 use Rattle.map_expand.specs.Making.{IsRootWalk, Made, after, content, done_by, grown_of, made_of, path_in, path_of, put, put_faults, submap_at, whole_map, without_ends}
 use Rattle.map_expand.specs.declared.work.Walk.{Walk}
 use Rattle.map_expand.specs.declared.work.Work.{Work}
@@ -90,26 +90,30 @@ path_entered homes left now at walk is =
 
 -- the root of a map was put, and what it holds is left
 map_begun : (world : World) (path : List (List ℕ)) (home : Home) (walk : Walk) (parent : ℕ) (root : Whole) (made : Made)
-    → walk.level ≤ node_limit → walk.place ≡ 1 → walk.in_table ≡ false → walk.parent ≡ length made.nodes
-    → root.1 ≡ content_between home 1 walk.end
+    → walk.level ≤ node_limit → walk.place ≡ root_place world root.0.doc + 1 → walk.in_table ≡ false
+    → walk.parent ≡ length made.nodes → root.1 ≡ content_between home (root_place world root.0.doc + 1) walk.end
     → put walk.parent (grown_of world path home walk)
-    (put_node (new_head kinds.Map root.0 walk.level 0) parent (put_faults (ignored_references root.0) made))
+    (put_node (new_head kinds.Map root.0 walk.level (root_place world root.0.doc)) parent
+    (put_faults (ignored_references root.0) made))
     ≡ put parent (whole_map world path walk.level root) made
 unfolding map_included
 map_begun world path home walk parent root made fits place table below holds =
     let fuel : node_limit + 1 - walk.level ≡ suc (node_limit - walk.level) = omega arith in
-    let inner : Grown = nodes_among (submap_at world path walk.level) (record { level = walk.level; in_table = false }) 1 root.1 in
-    let head = new_head kinds.Map root.0 walk.level 0 in
+    let at = root_place world root.0.doc in
+    let inner : Grown =
+    nodes_among (submap_at world path walk.level) (record { level = walk.level; in_table = false }) (at + 1) root.1 in
+    let head = new_head kinds.Map root.0 walk.level at in
     rw (fuel, place, table, below, ← holds) (sym (put_with_faults parent (ignored_references root.0) (beneath head inner) made
     ∙ put_beneath parent head inner (put_faults (ignored_references root.0) made)))
 
 pub map_entered : (world : World) (homes : List Home) (left now : List Work) (at : ℕ) (walk : Walk) (parent : ℕ)
     (root : Whole) (nodes more : List PlanNode) (faults others : List Fault)
     → now ≡ (left ++ works.Leave at ∷ []) ++ works.Walk walk ∷ []
-    → more ≡ nodes ++ node_of (new_head kinds.Map root.0 walk.level 0) parent 0 ∷ []
+    → more ≡ nodes ++ node_of (new_head kinds.Map root.0 walk.level (root_place world root.0.doc)) parent 0 ∷ []
     → others ≡ faults ++ ignored_references root.0
-    → walk.level ≤ node_limit → walk.map ≡ at → walk.place ≡ 1 → walk.in_table ≡ false → walk.parent ≡ length nodes
-    → root.1 ≡ content_between (home_at homes at) 1 walk.end
+    → walk.level ≤ node_limit → walk.map ≡ at → walk.place ≡ root_place world root.0.doc + 1 → walk.in_table ≡ false
+    → walk.parent ≡ length nodes
+    → root.1 ≡ content_between (home_at homes at) (root_place world root.0.doc + 1) walk.end
     → after world homes [] now (made_of more others)
     ≡ after world homes [] left (put parent (whole_map world (path_of homes left ++ name_at homes at ∷ []) walk.level root) (made_of nodes faults))
 map_entered world homes left now at walk parent root nodes more faults others is made put_too fits map place table below holds =
@@ -146,35 +150,40 @@ pub enter_all : (world : World) (homes : List Home) (left now : List Work) (at p
     (name : List ℕ) (node : doc.Node) (root : Whole) (nodes more : List PlanNode) (faults others : List Fault)
     → IsRootWalk homes at parent level first → walk ≡ record (content first first.end) { parent = length nodes }
     → IsFirst (home_at homes first.map) first name node → root_in (home_at homes at) ≡ Some root
+    → IsPlaced world (home_at homes at)
     → now ≡ (left ++ works.Leave at ∷ []) ++ works.Walk walk ∷ []
     → more ≡ nodes ++ node_of (new_head kinds.Map (element_of name node) first.level first.place) first.parent 0 ∷ []
     → others ≡ faults ++ ignored_references (element_of name node) → level ≤ node_limit
     → after world homes [] now (made_of more others)
     ≡ after world homes [] left
     (put parent (whole_map world (path_of homes left ++ name_at homes at ∷ []) level root) (made_of nodes faults))
-enter_all world homes left now at parent level first walk name node root nodes more faults others r walked f rooted is made put_too fits =
+enter_all world homes left now at parent level first walk name node root nodes more faults others r walked f
+    rooted placed is made put_too fits =
     let home = home_at homes at in
-    let place = r.place in
-    let from : home.root + first.place ≡ home.root = omega arith in
     let here : slice_get home.nodes home.root ≡ Some node =
-    sym (ap (slice_get home.nodes) from)
-    ∙ subst (λ m. slice_get (home_at homes m).nodes ((home_at homes m).root + first.place) ≡ Some node) r.map f.here in
-    let whole : root ≡ (element_of home.name node, content_between home 1 first.end) =
+    sym (ap (slice_get home.nodes) r.place)
+    ∙ subst (λ m. slice_get (home_at homes m).nodes first.place ≡ Some node) r.map f.here in
+    let whole : root ≡ (element_of home.name node, content_between home (home.root + 1) first.end) =
     some_whole _ _ (sym rooted ∙ r.root node here) in
+    let there : home.root ≡ root_place world root.0.doc =
+    sym (ap (λ (w : Whole). root_place world w.0.doc) whole ∙ placed) in
     let named : name ≡ home.name = f.named ∙ ap (λ m. (home_at homes m).name) r.map in
     let element : element_of name node ≡ root.0 =
     ap (λ n. element_of n node) named ∙ sym (ap (λ (w : Whole). w.0) whole) in
     let level_is : walk.level ≡ level = ap (λ (w : Walk). w.level) walked ∙ r.level in
     let end_is : walk.end ≡ first.end = ap (λ (w : Walk). w.end) walked in
-    let head : more ≡ nodes ++ node_of (new_head kinds.Map root.0 walk.level 0) parent 0 ∷ [] =
+    let place = root_place world root.0.doc in
+    let head : more ≡ nodes ++ node_of (new_head kinds.Map root.0 walk.level place) parent 0 ∷ [] =
     made
     ∙ ap (λ e. nodes ++ node_of (new_head kinds.Map e first.level first.place) first.parent 0 ∷ []) element
     ∙ ap (λ l. nodes ++ node_of (new_head kinds.Map root.0 l first.place) first.parent 0 ∷ []) (r.level ∙ sym level_is)
-    ∙ ap (λ p. nodes ++ node_of (new_head kinds.Map root.0 walk.level p) first.parent 0 ∷ []) r.place
-    ∙ ap (λ p. nodes ++ node_of (new_head kinds.Map root.0 walk.level 0) p 0 ∷ []) r.parent in
-    let one : walk.place ≡ 1 = omega (arith, ap (λ (w : Walk). w.place) walked) in
-    let holds : root.1 ≡ content_between home 1 walk.end =
-    ap (λ (w : Whole). w.1) whole ∙ ap (λ n. content_between home 1 n) (sym end_is) in
+    ∙ ap (λ p. nodes ++ node_of (new_head kinds.Map root.0 walk.level p) first.parent 0 ∷ []) (r.place ∙ there)
+    ∙ ap (λ p. nodes ++ node_of (new_head kinds.Map root.0 walk.level place) p 0 ∷ []) r.parent in
+    let one : walk.place ≡ place + 1 =
+    ap (λ (w : Walk). w.place) walked ∙ ap (λ p. p + 1) (r.place ∙ there) in
+    let holds : root.1 ≡ content_between home (place + 1) walk.end =
+    ap (λ (w : Whole). w.1) whole ∙ ap (λ n. content_between home (home.root + 1) n) (sym end_is)
+    ∙ ap (λ p. content_between home (p + 1) walk.end) there in
     subst (λ l. after world homes [] now (made_of more others)
     ≡ after world homes [] left
     (put parent (whole_map world (path_of homes left ++ name_at homes at ∷ []) l root) (made_of nodes faults))) level_is

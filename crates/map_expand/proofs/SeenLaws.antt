@@ -18,14 +18,14 @@ use Rattle.map_expand.specs.declared.element.Makes.TheVariants as makes
 use Rattle.map_expand.specs.declared.work.Walk.{Walk}
 use Rattle.map_expand.proofs.SiblingLaws.{AfterElement, after_chars, size_between}
 
-none_inside : (home : Home) (place end : ℕ) → place ≤ end → home.root + end ≤ length home.nodes
+none_inside : (home : Home) (place end : ℕ) → place ≤ end → end ≤ length home.nodes
     → AreSiblings home place place
 none_inside home place end order within =
     let none : 0 ≡ place - place = omega arith in
     record {
       order = omega arith;
       within = omega arith;
-      tree = subst (λ n. ArePreorder (take n (drop (home.root + place) home.nodes)) (home.root + place)) none refl;
+      tree = subst (λ n. ArePreorder (take n (drop place home.nodes)) place) none refl;
     }
 
 some_node : (some other : Node) → Some some ≡ Some other → some ≡ other
@@ -45,7 +45,7 @@ made_grown world path home walk end element false (Some kind) is = is
 
 module _ (home : Home) (walk : Walk) (node : Node) (end : ℕ) (what : makes.the_data)
     (fits : AreSiblings home walk.place walk.end) (some : walk.place < walk.end)
-    (here : slice_get home.nodes (home.root + walk.place) ≡ Some node) where
+    (here : slice_get home.nodes walk.place ≡ Some node) where
   -- a text makes nothing
   pub seen_chars : node.kind ≡ kinds.Chars → end ≡ walk.place + 1 → what ≡ makes.Nothing → IsSeen home walk what end
   seen_chars kind is nothing =
@@ -65,20 +65,20 @@ module _ (home : Home) (walk : Walk) (node : Node) (end : ℕ) (what : makes.the
   grown_here : (after : AfterElement home walk.place walk.end fits some node here) (world : World) (path : List (List ℕ))
       → grown_of world path home walk
       ≡ beside (nodes_of_element (submap_at world path walk.level) (around_of walk) walk.place (element_of home.name node)
-      (λ around. among world path walk around (walk.place + 1) (content_between home (walk.place + 1) after.last)))
-      (grown_of world path home (behind walk after.last))
+      (λ around. among world path walk around (walk.place + 1) (content_between home (walk.place + 1) node.end)))
+      (grown_of world path home (behind walk node.end))
   grown_here after world path =
       let order = after.order in
-      let there : walk.place + 1 + size (content_between home (walk.place + 1) after.last) ≡ after.last = omega (
+      let there : walk.place + 1 + size (content_between home (walk.place + 1) node.end) ≡ node.end = omega (
         arith,
-        size_between home (walk.place + 1) after.last after.inside,
+        size_between home (walk.place + 1) node.end after.inside,
       ) in
       ap (λ nodes. among world path walk (around_of walk) walk.place nodes) after.is
       ∙ ap (λ n. beside (nodes_of_element (submap_at world path walk.level) (around_of walk) walk.place (element_of home.name node)
-      (λ around. among world path walk around (walk.place + 1) (content_between home (walk.place + 1) after.last)))
-      (among world path walk (around_of walk) n (content_between home after.last walk.end))) there
+      (λ around. among world path walk around (walk.place + 1) (content_between home (walk.place + 1) node.end)))
+      (among world path walk (around_of walk) n (content_between home node.end walk.end))) there
 
-  pub seen_element : (after : AfterElement home walk.place walk.end fits some node here) → end ≡ after.last
+  pub seen_element : (after : AfterElement home walk.place walk.end fits some node here) → end ≡ node.end
       → ((name : List ℕ) → what ≡ made (element_of name node)) → IsSeen home walk what end
   seen_element after is makes_it = record {
     inside = subst (λ n. AreSiblings home (walk.place + 1) n) (sym is) after.inside;
@@ -88,6 +88,7 @@ module _ (home : Home) (walk : Walk) (node : Node) (end : ℕ) (what : makes.the
         subst (λ (n : Node). Makes world path home walk end (element_of home.name n) what) same
         (subst (Makes world path home walk end (element_of home.name node)) (sym (makes_it home.name))
         (subst (λ n. Makes world path home walk n (element_of home.name node) (made (element_of home.name node))) (sym is)
-        (made_grown world path home walk after.last (element_of home.name node) (is_transparent (element_of home.name node))
-        (kind_of (element_of home.name node)) (grown_here after world path))));
+        (made_grown world path home walk node.end (element_of home.name node)
+        (is_transparent (element_of home.name node)) (kind_of (element_of home.name node))
+        (grown_here after world path))));
   }

@@ -29,33 +29,33 @@ pub size_between : (home : Home) (place end : ℕ) → AreSiblings home place en
     → size (content_between home place end) ≡ end - place
 size_between home place end fits =
     let nodes = nodes_between home place end in
-    let content = content_of nodes (home.root + place) in
-    let all = length_nodes content (home.root + place) in
-    let same : length nodes ≡ length (nodes_of content (home.root + place)) = ap (λ l. length l) fits.tree in
+    let content = content_of nodes place in
+    let all = length_nodes content place in
+    let same : length nodes ≡ length (nodes_of content place) = ap (λ l. length l) fits.tree in
     let order = fits.order in
     let within = fits.within in
     omega (
       arith,
       size_written home.name content,
-      length-take (end - place) (drop (home.root + place) home.nodes),
-      length-drop (home.root + place) home.nodes,
+      length-take (end - place) (drop place home.nodes),
+      length-drop place home.nodes,
     )
 
 -- none
 pub none_between : (home : Home) (place end : ℕ) → end ≡ place → content_between home place end ≡ written.End
 none_between home place end is =
     let zero_many : end - place ≡ 0 = omega arith in
-    ap (λ n. written_in home.name (content_of (take n (drop (home.root + place) home.nodes)) (home.root + place))) zero_many
+    ap (λ n. written_in home.name (content_of (take n (drop place home.nodes)) place)) zero_many
 
 module _ (home : Home) (place end : ℕ) (fits : AreSiblings home place end) (some : place < end) (node : Node)
-    (here : slice_get home.nodes (home.root + place) ≡ Some node) where
+    (here : slice_get home.nodes place ≡ Some node) where
   -- the first of them, and what stands behind it
   pub begin : nodes_between home place end ≡ node ∷ nodes_between home (place + 1) end
   begin =
       let more : end - place ≡ suc (end - (place + 1)) = omega arith in
-      let next : suc (home.root + place) ≡ home.root + (place + 1) = omega arith in
-      ap (λ n. take n (drop (home.root + place) home.nodes)) more
-      ∙ ap (λ l. take (suc (end - (place + 1))) l) (drop_first (home.root + place) home.nodes node here)
+      let next : suc place ≡ place + 1 = omega arith in
+      ap (λ n. take n (drop place home.nodes)) more
+      ∙ ap (λ l. take (suc (end - (place + 1))) l) (drop_first place home.nodes node here)
       ∙ ap (λ n. node ∷ take (end - (place + 1)) (drop n home.nodes)) next
 
   -- what stands behind is that of a text
@@ -66,90 +66,69 @@ module _ (home : Home) (place end : ℕ) (fits : AreSiblings home place end) (so
   pub after_chars : node.kind ≡ kinds.Chars → AfterChars
   after_chars kind =
       let more = nodes_between home (place + 1) end in
-      let at = home.root + place in
-      let next : at + 1 ≡ home.root + (place + 1) = omega arith in
-      let whole : content_of (node ∷ more) at ≡ tree.Chars node.text node.origin node.line (content_of more (at + 1)) =
-      rw kind refl in
-      let nodes : node ∷ more ≡ nodes_of (tree.Chars node.text node.origin node.line (content_of more (at + 1))) at =
-      sym begin ∙ fits.tree ∙ ap (λ l. nodes_of (content_of l at) at) begin ∙ ap (λ c. nodes_of c at) whole in
-      let rest : more ≡ nodes_of (content_of more (at + 1)) (at + 1) = cc in
-      let within = fits.within in
+      let whole : content_of (node ∷ more) place
+      ≡ tree.Chars node.text node.origin node.line (content_of more (place + 1)) = rw kind refl in
+      let nodes : node ∷ more
+      ≡ nodes_of (tree.Chars node.text node.origin node.line (content_of more (place + 1))) place =
+      sym begin ∙ fits.tree ∙ ap (λ l. nodes_of (content_of l place) place) begin ∙ ap (λ c. nodes_of c place) whole in
+      let rest : more ≡ nodes_of (content_of more (place + 1)) (place + 1) = cc in
       record {
         behind = record {
           order = omega arith;
-          within = within;
-          tree = subst (λ n. ArePreorder more n) next rest;
+          within = fits.within;
+          tree = rest;
         };
-        is = ap (written_in home.name) (ap (λ l. content_of l at) begin ∙ whole
-            ∙ ap (λ n. tree.Chars node.text node.origin node.line (content_of more n)) next);
+        is = ap (written_in home.name) (ap (λ l. content_of l place) begin ∙ whole);
       }
 
-  -- or of an element, which ends at this place
+  -- or of an element
   pub record AfterElement : Type 0 where
-    pub last : ℕ
-    pub ends : node.end ≡ home.root + last
-    pub order : place + 1 ≤ last
-    pub within : last ≤ end
-    pub inside : AreSiblings home (place + 1) last
-    pub behind : AreSiblings home last end
-    pub is : content_between home place end
-        ≡ written.Node (element_of home.name node) (content_between home (place + 1) last) (content_between home last end)
+    pub order : place + 1 ≤ node.end
+    pub within : node.end ≤ end
+    pub inside : AreSiblings home (place + 1) node.end
+    pub behind : AreSiblings home node.end end
+    pub is : content_between home place end ≡ written.Node (element_of home.name node)
+        (content_between home (place + 1) node.end) (content_between home node.end end)
 
   pub after_element : node.kind ≡ kinds.Element → AfterElement
   after_element kind =
       let more = nodes_between home (place + 1) end in
-      let at = home.root + place in
-      let begins : BeginsElement (nodes_between home place end) node more at =
-      begins_element (nodes_between home place end) node more at begin fits.tree kind in
+      let begins : BeginsElement (nodes_between home place end) node more place =
+      begins_element (nodes_between home place end) node more place begin fits.tree kind in
       let within = fits.within in
-      let last = node.end - home.root in
+      let last = node.end in
       let after = begins.after in
       let room = begins.fits in
       let many : length more ≡ end - (place + 1) = omega (
         arith,
-        length-take (end - (place + 1)) (drop (home.root + (place + 1)) home.nodes),
-        length-drop (home.root + (place + 1)) home.nodes,
+        length-take (end - (place + 1)) (drop (place + 1) home.nodes),
+        length-drop (place + 1) home.nodes,
       ) in
-      let count : node.end - (at + 1) ≡ last - (place + 1) = omega arith in
-      let next : at + 1 ≡ home.root + (place + 1) = omega arith in
-      let there : node.end ≡ home.root + last = omega arith in
-      let front : take (node.end - (at + 1)) more ≡ nodes_between home (place + 1) last =
-      ap (λ n. take n more) count
-      ∙ take-take (last - (place + 1)) (end - (place + 1)) (drop (home.root + (place + 1)) home.nodes) (omega arith) in
+      let front : take (last - (place + 1)) more ≡ nodes_between home (place + 1) last =
+      take-take (last - (place + 1)) (end - (place + 1)) (drop (place + 1) home.nodes) (omega arith) in
       let split : end - (place + 1) ≡ (last - (place + 1)) + (end - last) = omega arith in
-      let onward : home.root + (place + 1) + (last - (place + 1)) ≡ home.root + last = omega arith in
-      let back : drop (node.end - (at + 1)) more ≡ nodes_between home last end =
-      ap (λ n. drop n more) count
-      ∙ ap (λ n. drop (last - (place + 1)) (take n (drop (home.root + (place + 1)) home.nodes))) split
-      ∙ drop-take (last - (place + 1)) (end - last) (drop (home.root + (place + 1)) home.nodes)
-      ∙ ap (λ l. take (end - last) l) (drop-drop (last - (place + 1)) (home.root + (place + 1)) home.nodes)
+      let onward : place + 1 + (last - (place + 1)) ≡ last = omega arith in
+      let back : drop (last - (place + 1)) more ≡ nodes_between home last end =
+      ap (λ n. drop (last - (place + 1)) (take n (drop (place + 1) home.nodes))) split
+      ∙ drop-take (last - (place + 1)) (end - last) (drop (place + 1) home.nodes)
+      ∙ ap (λ l. take (end - last) l) (drop-drop (last - (place + 1)) (place + 1) home.nodes)
       ∙ ap (λ n. take (end - last) (drop n home.nodes)) onward in
       record {
-        last = last;
-        ends = there;
-        order = omega arith;
+        order = after;
         within = omega arith;
         inside = record {
-          order = omega arith;
+          order = after;
           within = omega arith;
-          tree = subst (λ n. ArePreorder (nodes_between home (place + 1) last) n) next
-              (subst (λ l. ArePreorder l (at + 1)) front begins.inside);
+          tree = subst (λ l. ArePreorder l (place + 1)) front begins.inside;
         };
         behind = record {
           order = omega arith;
-          within = omega arith;
-          tree = subst (λ n. ArePreorder (nodes_between home last end) n) there
-              (subst (λ l. ArePreorder l node.end) back begins.rest);
+          within = within;
+          tree = subst (λ l. ArePreorder l last) back begins.rest;
         };
         is = ap (written_in home.name) (begins.all
-            ∙ ap (λ l. tree.Element node.text node.attributes node.origin node.line (content_of l (at + 1))
-            (content_of (drop (node.end - (at + 1)) more) node.end)) front
-            ∙ ap (λ n. tree.Element node.text node.attributes node.origin node.line
-            (content_of (nodes_between home (place + 1) last) n)
-            (content_of (drop (node.end - (at + 1)) more) node.end)) next
+            ∙ ap (λ l. tree.Element node.text node.attributes node.origin node.line (content_of l (place + 1))
+            (content_of (drop (last - (place + 1)) more) last)) front
             ∙ ap (λ l. tree.Element node.text node.attributes node.origin node.line
-            (content_of (nodes_between home (place + 1) last) (home.root + (place + 1))) (content_of l node.end)) back
-            ∙ ap (λ n. tree.Element node.text node.attributes node.origin node.line
-            (content_of (nodes_between home (place + 1) last) (home.root + (place + 1)))
-            (content_of (nodes_between home last end) n)) there);
+            (content_of (nodes_between home (place + 1) last) (place + 1)) (content_of l last)) back);
       }

@@ -1,5 +1,5 @@
 -- The first node of a walk is gone over, and a walk or a map ends.
-use Rattle.std.specs.Prelude.{◌≡◌, ◌+◌, ◌<◌, ◌||◌, ℕ, zero, suc, Bool, true, false, List, [], ◌∷◌, ◌++◌, Some, length, get_or, bytes_eq, slice_get}
+use Rattle.std.specs.Prelude.{◌≡◌, ◌<◌, ◌||◌, ℕ, zero, suc, Bool, true, false, List, [], ◌∷◌, ◌++◌, Some, length, get_or, bytes_eq, slice_get}
 use Rattle.std.specs.List.{list_any}
 use Rattle.std.proofs.Common.{refl, sym, ap, ◌∙◌, arith, set, subst}
 use Rattle.std.proofs.lemmas.Bool.{false≢true}
@@ -38,7 +38,7 @@ some_at (node ∷ nodes) (suc at) within = some_at nodes at (omega arith)
 pub node_there : (home : Home) (walk : Walk) → AreSiblings home walk.place walk.end → walk.place < walk.end
     → (node : doc.Node) × IsNodeOf home walk node
 node_there home walk fits some =
-    some_at home.nodes (home.root + walk.place) (omega (arith, fits.within))
+    some_at home.nodes walk.place (omega (arith, fits.within))
 
 module _ (world : World) (homes : List Home) (left now : List Work) (walk : Walk) (end : ℕ)
     (is : now ≡ left ++ works.Walk (behind walk end) ∷ []) where

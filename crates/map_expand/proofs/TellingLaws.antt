@@ -183,7 +183,7 @@ bare node more place preorder kind =
 
 -- so the node of an attribute is an element
 pub has_kind : (home : Home) (place end : ℕ) → AreSiblings home place end → place < end → (node : doc.Node)
-    → slice_get home.nodes (home.root + place) ≡ Some node → (href : List ℕ)
+    → slice_get home.nodes place ≡ Some node → (href : List ℕ)
     → attribute (codes "href") (element_of home.name node) ≡ Some href → is_element node.kind ≡ true
 has_kind home place end fits some node here href is = by_kind node.kind refl
   where
@@ -193,10 +193,10 @@ has_kind home place end fits some node here href is = by_kind node.kind refl
     by_kind : (kind : NodeKind) → node.kind ≡ kind → is_element node.kind ≡ true
     by_kind kinds.Element e = ap is_element e
     by_kind kinds.Chars e =
-        let at = home.root + place in
         let more = nodes_between home (place + 1) end in
         let begins = begin home place end fits some node here in
-        let none = bare node more at (sym begins ∙ fits.tree ∙ ap (λ l. nodes_of (content_of l at) at) begins) e in
+        let none =
+        bare node more place (sym begins ∙ fits.tree ∙ ap (λ l. nodes_of (content_of l place) place) begins) e in
         let nothing : attribute (codes "href") (element_of home.name node) ≡ None =
         ap (λ a. attribute (codes "href") (record (element_of home.name node) { attributes = a })) none in
         absurd (none_some href (sym nothing ∙ is))

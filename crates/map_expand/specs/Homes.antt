@@ -3,7 +3,9 @@ use Rattle.std.specs.Prelude.{◌≡◌, ◌+◌, ◌-◌, ◌<◌, ◌≤◌, �
 use Rattle.std.specs.Arc.{arc_value}
 use Rattle.dita_doc.specs.Tree.{ArePreorder, content_of}
 use Rattle.dita_doc.specs.declared.doc.Node.{Node}
+use Rattle.map_spec.specs.Included.{root_place}
 use Rattle.map_spec.specs.Written.{Whole, Written, written_in}
+use Rattle.reader_spec.specs.World.{World}
 use Rattle.doc_elements.specs.Walk.{element_of}
 use Rattle.map_expand.specs.declared.maps.MapDoc.{MapDoc}
 use Rattle.map_expand.specs.declared.work.Walk.{Walk}
@@ -29,35 +31,39 @@ home_at homes at = get_or homes at no_home
 abbrev pub name_at : List Home → ℕ → List ℕ
 name_at homes at = (home_at homes at).name
 
--- nodes that stand side by side in a map, from one place to another; places are counted from the root
+-- nodes that stand side by side in a map, from one place to another; places are counted from the document's first node
 abbrev pub nodes_between : Home → ℕ → ℕ → List Node
-nodes_between home place end = take (end - place) (drop (home.root + place) home.nodes)
+nodes_between home place end = take (end - place) (drop place home.nodes)
 
 abbrev pub content_between : Home → ℕ → ℕ → Written
 content_between home place end =
-    written_in home.name (content_of (nodes_between home place end) (home.root + place))
+    written_in home.name (content_of (nodes_between home place end) place)
 
 -- the nodes between these places are those of siblings
 pub record AreSiblings (home : Home) (place end : ℕ) : Type 0 where
   pub order : place ≤ end
-  pub within : home.root + end ≤ length home.nodes
-  pub tree : ArePreorder (nodes_between home place end) (home.root + place)
+  pub within : end ≤ length home.nodes
+  pub tree : ArePreorder (nodes_between home place end) place
 
 -- the root stands there, and what it holds stands behind it
 pub record HomeFits (home : Home) : Type 0 where
   pub node : Node
   pub here : slice_get home.nodes home.root ≡ Some node
   pub after : home.root < node.end
-  pub inside : AreSiblings home 1 (node.end - home.root)
+  pub inside : AreSiblings home (home.root + 1) node.end
 
 abbrev pub whole_by : Home → Option Node → Option Whole
 whole_by home None = None
 whole_by home (Some node) =
-    Some (element_of home.name node, content_between home 1 (node.end - home.root))
+    Some (element_of home.name node, content_between home (home.root + 1) node.end)
 
 -- the root of a map, with what it holds
 abbrev pub root_in : Home → Option Whole
 root_in home = whole_by home (slice_get home.nodes home.root)
+
+-- in this world, the root of the document under the map's name stands where that of the map does
+abbrev pub IsPlaced : World → Home → Type 0
+IsPlaced world home = root_place world home.name ≡ home.root
 
 -- Which maps stand around what is walked over
 
@@ -75,7 +81,7 @@ pub record Extends (old new : List Home) : Type 0 where
 -- the node at the begin of a walk, in the document of this name
 pub record IsFirst (home : Home) (walk : Walk) (name : List ℕ) (node : Node) : Type 0 where
   pub named : name ≡ home.name
-  pub here : slice_get home.nodes (home.root + walk.place) ≡ Some node
+  pub here : slice_get home.nodes walk.place ≡ Some node
 
 abbrev pub IsNodeOf : Home → Walk → Node → Type 0
-IsNodeOf home walk node = slice_get home.nodes (home.root + walk.place) ≡ Some node
+IsNodeOf home walk node = slice_get home.nodes walk.place ≡ Some node

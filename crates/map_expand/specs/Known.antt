@@ -7,10 +7,10 @@ use Rattle.std.specs.Ordering.{nat_cmp}
 use Rattle.dita_doc.specs.Tree.{tree_of}
 use Rattle.dita_doc.specs.declared.doc.Node.{Node}
 use Rattle.map_spec.specs.Included.{if_map, map_in}
-use Rattle.map_spec.specs.Written.{Whole, first_sibling, written_in}
+use Rattle.map_spec.specs.Written.{Whole, first_place, first_sibling, written_in}
 use Rattle.reader_spec.specs.World.{World}
 use Rattle.readers.specs.Told.{Told, Agrees}
-use Rattle.map_expand.specs.Homes.{Home, HomeFits, home_at, homes, name_at, root_in}
+use Rattle.map_expand.specs.Homes.{Home, HomeFits, IsPlaced, home_at, homes, name_at, root_in}
 use Rattle.map_expand.specs.Telling.{IsTold}
 use Rattle.map_expand.specs.declared.maps.Maps.{Maps}
 
@@ -19,12 +19,13 @@ pub record IsNamed (homes : List Home) (name : List ℕ) (at : ℕ) : Type 0 whe
   pub within : at < length homes
   pub named : name_at homes at ≡ name
 
--- this map stands under the name
+-- this map stands under the name, and its root where the world has it
 pub record IsMap (world : World) (homes : List Home) (name : List ℕ) (at : ℕ) : Type 0 where
   pub named : IsNamed homes name at
   pub root : Whole
   pub is : map_in world name ≡ Some root
   pub here : root_in (home_at homes at) ≡ Some root
+  pub placed : IsPlaced world (home_at homes at)
 
 -- what was found for a name is right
 abbrev pub IsFound : World → List Home → List ℕ → Option ℕ → Type 0
@@ -48,10 +49,11 @@ pub record MapsFit (told : List Told) (maps : Maps) : Type 0 where
 
 -- Roots
 
--- the root that was looked for stands at this place of a document
+-- the root that was looked for stands at this place of a document, behind as many texts
 pub record IsRoot (name : List ℕ) (nodes : List Node) (wanted : Option Whole) (place : ℕ) : Type 0 where
   pub fits : HomeFits (record { name = name; nodes = nodes; root = place })
   pub here : root_in (record { name = name; nodes = nodes; root = place }) ≡ wanted
+  pub behind : first_place (written_in name (tree_of nodes)) ≡ place
 
 -- the root of a document under a name, and that of a map
 abbrev pub root_wanted : List ℕ → List Node → Option Whole

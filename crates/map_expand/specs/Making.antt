@@ -119,14 +119,17 @@ AllFit homes count (work ∷ more) = WorkFits homes count work × AllFit homes c
 -- the walk over the root of a map
 pub record IsRootWalk (homes : List Home) (at below high : ℕ) (walk : Walk) : Type 0 where
   pub map : walk.map ≡ at
-  pub place : walk.place ≡ 0
+  pub place : walk.place ≡ (home_at homes at).root
   pub parent : walk.parent ≡ below
   pub level : walk.level ≡ high
   pub in_table : walk.in_table ≡ false
-  pub some : 0 < walk.end
-  pub inside : AreSiblings (home_at homes at) 1 walk.end
+  pub some : walk.place < walk.end
+  pub inside : AreSiblings (home_at homes at) ((home_at homes at).root + 1) walk.end
   pub root : (node : doc.Node) → slice_get (home_at homes at).nodes (home_at homes at).root ≡ Some node
-      → root_in (home_at homes at) ≡ Some (element_of (home_at homes at).name node, content_between (home_at homes at) 1 walk.end)
+      → root_in (home_at homes at) ≡ Some (
+        element_of (home_at homes at).name node,
+        content_between (home_at homes at) ((home_at homes at).root + 1) walk.end,
+      )
 
 -- What the first of the nodes of a walk makes, which ends there
 
@@ -150,5 +153,5 @@ Makes world path home walk end element makes.Content =
 pub record IsSeen (home : Home) (walk : Walk) (what : makes.the_data) (end : ℕ) : Type 0 where
   pub inside : AreSiblings home (walk.place + 1) end
   pub behind : AreSiblings home end walk.end
-  pub made : (node : doc.Node) → slice_get home.nodes (home.root + walk.place) ≡ Some node
+  pub made : (node : doc.Node) → slice_get home.nodes walk.place ≡ Some node
       → (world : World) (path : List (List ℕ)) → Makes world path home walk end (element_of home.name node) what

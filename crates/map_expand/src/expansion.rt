@@ -91,6 +91,7 @@ impl Expansion {
             OnOk result (spec.Ready told maps.new self.new) }
         ensures made { (world : World) (root : Whole) →
             homes_spec.root_in (homes_spec.home_at (spec.homes_of maps.old) map) ≡ Some root →
+            homes_spec.IsPlaced world (homes_spec.home_at (spec.homes_of maps.old) map) →
             level ≤ length self.old.nodes → level ≤ included_spec.node_limit →
             spec.Goes world result maps.new self.new (spec.rest world maps.old self.old
             (making_spec.put parent (making_spec.whole_map world (spec.path_at maps.old self.old
@@ -374,6 +375,7 @@ impl Expansion {
         ensures made { (world : World) (node : doc.Node) (root : Whole) →
             homes_spec.IsNodeOf (homes_spec.home_at (spec.homes_of maps.old) walk.map) walk node →
             homes_spec.root_in (homes_spec.home_at (spec.homes_of maps.old) map) ≡ Some root →
+            homes_spec.IsPlaced world (homes_spec.home_at (spec.homes_of maps.old) map) →
             spec.Goes world result maps.new self.new (spec.rest world maps.old self.old
             (making_spec.put place (including_spec.submap_under world
             (spec.path_at maps.old self.old) walk.level

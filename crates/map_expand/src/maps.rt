@@ -180,8 +180,8 @@ impl Maps {
         let root = found.doc.nodes.as_slice().get(found.root as usize)?;
         Some(Walk {
             map,
-            place: 0,
-            end: root.end.saturating_sub(found.root),
+            place: found.root,
+            end: root.end,
             parent,
             level,
             in_table: false,
@@ -201,12 +201,8 @@ impl Maps {
             return None;
         }
         let found = self.maps.get(walk.map)?;
-        let node = found
-            .doc
-            .nodes
-            .as_slice()
-            .get(found.root as usize + walk.place as usize)?;
-        Some(seen_at(node, found.root, walk))
+        let node = found.doc.nodes.as_slice().get(walk.place as usize)?;
+        Some(seen_at(node, walk))
     }
 
     /// The first of the nodes that are left, with the name of the document in which it was written.
@@ -214,40 +210,30 @@ impl Maps {
         requires within { walk.map < length (homes_spec.homes self.now.maps.items) }
         ensures { MatchOption result
             (slice_get (homes_spec.home_at (homes_spec.homes self.now.maps.items) walk.map).nodes
-            ((homes_spec.home_at (homes_spec.homes self.now.maps.items) walk.map).root
-            + walk.place) ≡ None)
+            walk.place ≡ None)
             (λ found. homes_spec.IsFirst
             (homes_spec.home_at (homes_spec.homes self.now.maps.items) walk.map)
             walk found.0.now found.1.now) }
     {
         let found = self.maps.get(walk.map)?;
-        let node = found
-            .doc
-            .nodes
-            .as_slice()
-            .get(found.root as usize + walk.place as usize)?;
+        let node = found.doc.nodes.as_slice().get(walk.place as usize)?;
         Some((&found.name, node))
     }
 }
 
-// The node at the begin of a walk in a map whose root stands there.
-fn seen_at(node: &Node, root: u32, walk: Walk) -> Seen
+// The node at the begin of a walk.
+fn seen_at(node: &Node, walk: Walk) -> Seen
     requires { walk.place < walk.end }
     ensures begins { walk.place < result.end }
     ensures ends { result.end ≤ walk.end }
-    ensures seen { (home : homes_spec.Home) → home.root ≡ root
-        → homes_spec.AreSiblings home walk.place walk.end
-        → slice_get home.nodes (home.root + walk.place) ≡ Some node.now
+    ensures seen { (home : homes_spec.Home) → homes_spec.AreSiblings home walk.place walk.end
+        → slice_get home.nodes walk.place ≡ Some node.now
         → making_spec.IsSeen home walk result.makes result.end }
 {
     match node.kind {
         NodeKind::Element => Seen {
             makes: made_by(node),
-            end: node
-                .end
-                .saturating_sub(root)
-                .max(walk.place + 1)
-                .min(walk.end),
+            end: node.end.max(walk.place + 1).min(walk.end),
         },
         NodeKind::Chars => Seen {
             makes: Makes::Nothing,

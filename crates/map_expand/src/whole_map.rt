@@ -70,6 +70,7 @@ fn expand_root<R: Reader>(
     requires free { (at : ℕ) → homes_spec.flag_at maps.old.maps.items at ≡ false }
     ensures known { (world : World) → Agrees world (R.told reader.new) → (whole : Whole) →
         homes_spec.root_in (homes_spec.home_at (going_spec.homes_of maps.old) root) ≡ Some whole →
+        homes_spec.IsPlaced world (homes_spec.home_at (going_spec.homes_of maps.old) root) →
         Gives result (result_map_both included_spec.expanded (λ stop. stop)
         (included_spec.limited included_spec.node_limit (making_spec.whole_map world
         (homes_spec.name_at (going_spec.homes_of maps.old) root ∷ []) 0 whole))) }

@@ -6,9 +6,9 @@ ghost use Rattle.map_expand.specs.Making as making_spec;
 
 use dita_doc::PlanKind;
 
-/// Nodes of a map's document that stand side by side, from `place` to `end`, and where the nodes
-/// that they make stand: below which node of the plan, how many maps are included around them, and
-/// whether a relationship table is around them.
+/// Nodes of a map's document that stand side by side, from `place` to `end`, counted from the
+/// document's first node, and where the nodes that they make stand: below which node of the plan,
+/// how many maps are included around them, and whether a relationship table is around them.
 #[derive(Clone, Copy, Debug)]
 pub(crate) struct Walk {
     pub map: usize,

@@ -4,3 +4,7 @@ pub mod ScopeLaws
 pub mod KeyLaws
 pub mod PageLaws
 pub mod CarriedLaws
+pub mod GrownLaws
+pub mod HeadLaws
+pub mod PlacedLaws
+pub mod StandingLaws

@@ -15,7 +15,7 @@ use Rattle.reader_spec.specs.World.{World}
 use Rattle.map_spec.specs.Elements.{attribute, class_faults, fault_at, has_value, is_a, is_transparent}
 use Rattle.map_spec.specs.MapTree.{Grown, Head, beneath, beside, count, no_growth, plan_nodes, with_faults}
 use Rattle.map_spec.specs.Target.{Named, Document, Elsewhere, Unreadable, named_of}
-use Rattle.map_spec.specs.Written.{Element, Whole, Written, End, Chars, Node, document, first_sibling, size}
+use Rattle.map_spec.specs.Written.{Element, Whole, Written, End, Chars, Node, document, first_place, first_sibling, size}
 
 -- which node an element makes; all other elements are passed over with their content
 abbrev pub kind_of : Element → Option PlanKind
@@ -114,6 +114,14 @@ if_map root = if is_map root then Some root else None
 abbrev pub root_in : World → List ℕ → Option Whole
 root_in world name = option_and_then first_sibling (document world name)
 
+abbrev pub place_in : Option Written → ℕ
+place_in None = 0
+place_in (Some nodes) = first_place nodes
+
+-- the place of a document's root
+abbrev pub root_place : World → List ℕ → ℕ
+root_place world name = place_in (document world name)
+
 abbrev pub map_in : World → List ℕ → Option Whole
 map_in world name = option_and_then if_map (root_in world name)
 
@@ -143,8 +151,10 @@ unfoldable pub map_included : ℕ → World → List (List ℕ) → ℕ → Whol
 map_included zero world path level root = no_growth
 map_included (suc fuel) world path level root =
     let submap = submap_of (λ name. map_included fuel world (path ++ name ∷ []) (level + 1)) world path in
+    let place = root_place world root.0.doc in
     with_faults (ignored_references root.0)
-    (beneath (new_head kinds.Map root.0 level 0) (nodes_among submap (record { level = level; in_table = false }) 1 root.1))
+    (beneath (new_head kinds.Map root.0 level place)
+    (nodes_among submap (record { level = level; in_table = false }) (place + 1) root.1))
 
 -- The whole
 

@@ -79,6 +79,12 @@ first_sibling End = None
 first_sibling (Chars text doc rest) = first_sibling rest
 first_sibling (Node element inside rest) = Some (element, inside)
 
+-- how many texts stand in front of the first element among siblings: the place of a document's root
+abbrev pub first_place : Written → ℕ
+first_place End = 0
+first_place (Chars text doc rest) = 1 + first_place rest
+first_place (Node element inside rest) = 0
+
 -- all characters, in document order
 abbrev pub characters : Written → List ℕ
 characters End = []

@@ -38,7 +38,7 @@ returns-clause-known g c = λ world agrees.
     (c.in_ok-root.ensures.known world (agrees_before world _ _ c.expand_root.ensures.grows agrees)) in
     subst (Gives c.expand_root.result)
     (given_map world name (name_at (homes_of c.find.new.self) c.in-Some.root) found.root found.named.named found.is)
-    (c.expand_root.ensures.known world agrees found.root found.here)
+    (c.expand_root.ensures.known world agrees found.root found.here found.placed)
 
 pub returns-clause-value : goal.returns-clause-value
 returns-clause-value g c =

@@ -1,4 +1,4 @@
-use Rattle.std.proofs.Common.{◌≡◌, ◌<◌, ap, arith, sym, ◌∙◌, ◌++◌, ◌∷◌, [], subst, length}
+use Rattle.std.proofs.Common.{◌≡◌, ◌+◌, ◌<◌, ap, arith, sym, ◌∙◌, ◌++◌, ◌∷◌, [], subst, length}
 use Rattle.std.proofs.lemmas.List.{length_push}
 use Rattle.map_expand.specs.Going.{homes_of}
 use Rattle.map_expand.specs.Homes.{AreSiblings, home_at, name_at}
@@ -13,7 +13,7 @@ use Rattle.map_expand.proofs.TellingLaws.{asked_first}
 use Rattle.map_expand.proofs.expansion.Expansion.enter.Goals as goal
 
 pub returns-in-Err-clause-made : goal.returns-in-Err-clause-made
-returns-in-Err-clause-made c = λ world root is few fits.
+returns-in-Err-clause-made c = λ world root is placed few fits.
     let homes = homes_of c.args.maps.now in
     let left = c.args.self.now.left.items in
     let path = path_of homes left ++ name_at homes c.args.map ∷ [] in
@@ -38,7 +38,7 @@ returns-clause-path c =
     (c.in_ok-push-2.ensures.items ∙ ap (λ l. l ++ works.Walk walk ∷ []) first)
 
 pub returns-clause-made : goal.returns-clause-made
-returns-clause-made c = λ world root is few fits.
+returns-clause-made c = λ world root is placed few fits.
     let walk : Walk = record c.content-content.result { parent = c.in-Ok.place } in
     let first = c.in_ok-push.ensures.items ∙ ap (λ v. v.items ++ works.Leave c.args.map ∷ []) c.in-Ok.ensures.left in
     let now = c.push-2.new.self.items in
@@ -48,7 +48,7 @@ returns-clause-made c = λ world root is few fits.
     ap (λ h. after world h [] now (made_of c.put.new.self.nodes c.put.new.self.faults)) c.set_around.ensures.homes
     ∙ enter_all world (homes_of c.args.maps.now) c.args.self.now.left.items now c.args.map c.args.parent c.args.level
     c.in-Some.walk walk c.in-Some-first.name.now c.in-Some-first.root.now root c.args.self.now.nodes c.put.new.self.nodes
-    c.args.self.now.faults c.put.new.self.faults c.in-Some.ensures walked c.in-Some-first.ensures is
+    c.args.self.now.faults c.put.new.self.faults c.in-Some.ensures walked c.in-Some-first.ensures is placed
     (c.in_ok-push-2.ensures.items ∙ ap (λ l. l ++ works.Walk walk ∷ []) first)
     c.in-Ok.ensures.nodes c.in-Ok.ensures.faults fits
 
@@ -60,7 +60,8 @@ returns-clause-ready c = λ told ready free few.
     let homes = homes_of c.args.maps.now in
     let content_is = c.content-content.ensures in
     let map_is : walk.map ≡ c.args.map = ap (λ (w : Walk). w.map) content_is ∙ root.map in
-    let place_is : walk.place ≡ 1 = omega (arith, ap (λ (w : Walk). w.place) content_is, root.place) in
+    let place_is : walk.place ≡ (home_at homes c.args.map).root + 1 =
+    ap (λ (w : Walk). w.place) content_is ∙ ap (λ p. p + 1) root.place in
     let end_is : walk.end ≡ c.in-Some.walk.end = ap (λ (w : Walk). w.end) content_is in
     let level_is : walk.level ≡ c.args.level = ap (λ (w : Walk). w.level) content_is ∙ root.level in
     let many = ap (λ l. length l) c.in-Ok.ensures.nodes ∙ length_push c.args.self.now.nodes _ in
@@ -74,7 +75,8 @@ returns-clause-ready c = λ told ready free few.
         map = subst (λ n. n < length homes) (sym map_is) c.requires.within;
         siblings = subst (λ m. AreSiblings (home_at homes m) walk.place walk.end) (sym map_is)
             (subst (λ p. AreSiblings (home_at homes c.args.map) p walk.end) (sym place_is)
-            (subst (λ e. AreSiblings (home_at homes c.args.map) 1 e) (sym end_is) root.inside));
+            (subst (λ e. AreSiblings (home_at homes c.args.map) ((home_at homes c.args.map).root + 1) e) (sym end_is)
+            root.inside));
       };
       level = omega (arith, many, level_is, few);
     })

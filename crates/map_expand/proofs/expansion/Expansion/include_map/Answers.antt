@@ -11,7 +11,7 @@ use Rattle.map_expand.proofs.CallLaws.{faulted, submap_cycle, submap_entered}
 use Rattle.map_expand.proofs.expansion.Expansion.include_map.Goals as goal
 
 pub returns-then-is_around-clause-made : goal.returns-then-is_around-clause-made
-returns-then-is_around-clause-made c = λ world node root here is.
+returns-then-is_around-clause-made c = λ world node root here is placed.
     let homes = homes_of c.args.maps.now in
     let path = path_at c.args.maps.now c.args.self.now in
     let name = c.args.name.now in
@@ -25,7 +25,7 @@ returns-then-is_around-clause-made c = λ world node root here is.
     ∙ ap (λ d. c.args.self.now.faults ++ fault_at element faults.MapCycle d ∷ []) c.as_str.ensures.value)
 
 pub returns-clause-made : goal.returns-clause-made
-returns-clause-made c = λ world node root here is.
+returns-clause-made c = λ world node root here is placed.
     let homes = homes_of c.args.maps.now in
     let path = path_at c.args.maps.now c.args.self.now in
     let name = c.args.name.now in
@@ -34,4 +34,5 @@ returns-clause-made c = λ world node root here is.
     (rest world c.args.maps.now c.args.self.now (put c.args.place g (so_far c.args.self.now))))
     (submap_entered world path c.args.walk.level element name root (name_at homes c.args.map)
     (sym c.requires.around ∙ sym c.is_around.ensures ∙ c.if-is_around.false) c.requires.named)
-    (c.enter.ensures.made world root is (omega (arith, c.requires.level)) (omega (arith, c.requires.level, c.requires.count)))
+    (c.enter.ensures.made world root is placed (omega (arith, c.requires.level))
+    (omega (arith, c.requires.level, c.requires.count)))

@@ -52,7 +52,7 @@ returns-in-Some-clause-made g c = λ world agrees node here.
     c.requires.within (sym found.is))
     (c.include_map.ensures.made world node found.root
     (subst (λ h. IsNodeOf h c.args.walk node) (sym (home_found homes new at c.find.ensures.homes c.requires.within)) here)
-    found.here)
+    found.here found.placed)
 
 pub returns-in_ok-append_fault-in-None-clause-ready : goal.returns-in_ok-append_fault-in-None-clause-ready
 returns-in_ok-append_fault-in-None-clause-ready g c =

@@ -2,7 +2,7 @@ use Rattle.std.proofs.Common.{ap, ◌∙◌, ◌∷◌}
 use Rattle.std.specs.Arc.{arc_value}
 use Rattle.readers.specs.Told.{document, tree_found}
 use Rattle.readers.proofs.GrowthLaws.{told_answer}
-use Rattle.map_expand.proofs.FindLaws.{found_put, map_told, ok_more, put_is_told}
+use Rattle.map_expand.proofs.FindLaws.{found_put, ok_more, put_is_told}
 use Rattle.map_expand.proofs.maps.Maps.ask.Goals as goal
 
 pub returns-in-Some-clause-found : goal.returns-in-Some-clause-found
@@ -10,8 +10,9 @@ returns-in-Some-clause-found g c = λ world agrees.
     let name = c.args.name.now in
     let nodes = (arc_value c.in-Some.doc).nodes in
     let holds = told_answer world (document name (tree_found c.in_ok-doc.field-0)) _ _ c.in_ok-doc.ensures.told agrees in
-    let told = map_told world name nodes (holds ∙ ap tree_found c.in-Some.is) in
-    ok_more c.put_if_map.result _ _ (λ found put. found_put world name nodes _ _ found told put) c.put_if_map.ensures.map
+    ok_more c.put_if_map.result _ _
+    (λ found put. found_put world name nodes _ _ found (holds ∙ ap tree_found c.in-Some.is) put)
+    c.put_if_map.ensures.map
 
 pub returns-in-Some-clause-told : goal.returns-in-Some-clause-told
 returns-in-Some-clause-told g c =
