@@ -1,5 +1,5 @@
 -- The nearest value of a node, by that of its parent.
-use Rattle.std.specs.Prelude.{◌≡◌, ◌+◌, ◌<◌, ◌≤◌, ◌||◌, ◌&&◌, ℕ, zero, suc, Bool, true, false, List, [], ◌∷◌, ◌++◌, Option, Some, None, map, length, slice_get, take, nat_lt, if◌then◌else◌}
+use Rattle.std.specs.Prelude.{◌≡◌, ◌+◌, ◌<◌, ◌||◌, ℕ, zero, suc, Bool, true, false, List, [], ◌∷◌, ◌++◌, Option, Some, None, map, length, slice_get, nat_lt, if◌then◌else◌}
 use Rattle.std.specs.Borrow.{Bor}
 use Rattle.std.specs.Option.{option_and_then, option_copied, option_or}
 use Rattle.std.proofs.Common.{refl, sym, ap, ◌∙◌, arith, get_or}
@@ -7,14 +7,15 @@ use Rattle.std.proofs.lemmas.Bool.Decides.{nat_tests}
 use Rattle.std.proofs.lemmas.List.{map-append, take_all}
 use Rattle.std.proofs.lemmas.Option.{slice_get-get_or}
 use Rattle.dita_doc.specs.declared.plan.PlanNode.{PlanNode}
-use Rattle.map_spec.specs.Cascade.{attribute_at, is_first_included, is_included_kind, nearest, passed, stays_behind, walk, whole_at}
+use Rattle.map_spec.specs.Cascade.{attribute_at, nearest, passed, stays_behind, walk, whole_at}
 use Rattle.map_spec.specs.Scopes.{places}
 use Rattle.map_spec.specs.Written.{Whole}
 use Rattle.plan_nodes.specs.Home as home
 use Rattle.plan_nodes.specs.Preorder.{HasParentsBefore}
 use Rattle.reader_spec.specs.World.{World}
 use Rattle.attr_cascade.specs.Nearest.{Value, nearest_at, nearest_of, parent_of, passed_on, seen, stops, value_at}
-use Rattle.attr_cascade.proofs.PlaceLaws.{Begins, known, known_at, known_more, node_at, own_value, walk_begins, walk_root, walk_up}
+use Rattle.attr_cascade.proofs.PlaceLaws.{Begins, own_value, walk_begins}
+use Rattle.plan_nodes.proofs.PlaceLaws.{known, known_at, known_more, node_at, walk_root, walk_up}
 
 abbrev nothing : Value
 nothing = None

@@ -1,95 +1,22 @@
 -- Texts one behind the other, with the set of them.
-use Rattle.std.specs.Prelude.{◌≡◌, ◌+◌, ◌<◌, ◌==◌, ◌||◌, Option, None, Some, MatchOption, take, ℕ, zero, suc, Bool, true, false, not, List, [], ◌∷◌, ◌++◌, length, map, bytes_eq, if◌then◌else◌}
-use Rattle.std.specs.Borrow.{Bor}
+use Rattle.std.specs.Prelude.{◌≡◌, ◌+◌, ◌<◌, ◌==◌, Option, None, Some, MatchOption, take, ℕ, suc, Bool, true, false, not, List, [], ◌∷◌, ◌++◌, length, if◌then◌else◌}
 use Rattle.std.specs.BTreeMap.{is_at}
 use Rattle.std.specs.BTreeSet.{insert_key}
-use Rattle.std.specs.Cmp.Lexicographic.{slice_cmp}
 use Rattle.std.specs.List.{list_any}
-use Rattle.std.specs.Ordering.{match_ordering, nat_cmp}
-use Rattle.std.proofs.Common.{Ordering, Less, Equal, Greater, refl, sym, ap, subst, ◌∙◌, arith, get_or, length-append}
-use Rattle.std.proofs.lemmas.List.{append-nil, append_assoc, length-map, length-take, map-append, take_more}
+use Rattle.std.proofs.Common.{refl, sym, ap, subst, ◌∙◌, arith, get_or, length-append}
+use Rattle.std.proofs.lemmas.List.{append-nil, append_assoc, length-map, length-take, take_more}
 use Rattle.std.proofs.lemmas.Bool.Decides.{nat_tests}
-use Rattle.std.proofs.lemmas.Map.Text.{is_eq-slice_cmp}
-use Rattle.dita_doc.proofs.NameOrder.{same_from_equal}
+use Rattle.plan_nodes.proofs.TextSetLaws.{Str, has_one, is_one, order, set_put, texts_push}
 use Rattle.dita_doc.specs.Bytes.{space}
 use Rattle.map_spec.specs.Cascade.{spaced, with_new}
 use Rattle.attr_cascade.specs.Tokens.{AreTexts, texts, with_one}
-
-abbrev Str : Type 0
-Str = Bor (List ℕ)
-
-abbrev order : Str → Str → Ordering
-order a b = slice_cmp nat_cmp a.now b.now
-
-abbrev is_one : List ℕ → List (List ℕ) → Bool
-is_one text all = list_any (bytes_eq text) all
-
-or-twice : (a b : Bool) → (a || b) ≡ (a || (a || b))
-or-twice true b = refl
-or-twice false b = refl
-
-or-swap : (a b c : Bool) → (a || (b || c)) ≡ (b || (a || c))
-or-swap true true c = refl
-or-swap true false c = refl
-or-swap false true c = refl
-or-swap false false c = refl
-
-or-last : (a b : Bool) → (a || b) ≡ (b || (a || false))
-or-last true true = refl
-or-last true false = refl
-or-last false true = refl
-or-last false false = refl
-
-or-assoc : (a b c : Bool) → ((a || b) || c) ≡ (a || (b || c))
-or-assoc true b c = refl
-or-assoc false b c = refl
-
-one-append : (text : List ℕ) (xs ys : List (List ℕ)) → is_one text (xs ++ ys) ≡ (is_one text xs || is_one text ys)
-one-append text [] ys = refl
-one-append text (x ∷ xs) ys =
-    ap (λ b. bytes_eq text x || b) (one-append text xs ys)
-    ∙ sym (or-assoc (bytes_eq text x) (is_one text xs) (is_one text ys))
-
--- a text put into a set of them
-placed : (text : List ℕ) (k x : Str) (keys more : List Str) (o : Ordering) → order k x ≡ o
-    → is_one text (texts more) ≡ (bytes_eq text k.now || is_one text (texts keys))
-    → is_one text (texts (match_ordering o (k ∷ x ∷ keys) (x ∷ keys) (x ∷ more)))
-    ≡ (bytes_eq text k.now || is_one text (texts (x ∷ keys)))
-placed text k x keys more Less is rest = refl
-placed text k x keys more Equal is rest =
-    or-twice (bytes_eq text x.now) (is_one text (texts keys))
-    ∙ ap (λ name. bytes_eq text name || (bytes_eq text x.now || is_one text (texts keys)))
-    (sym (same_from_equal k.now x.now is))
-placed text k x keys more Greater is rest =
-    ap (λ b. bytes_eq text x.now || b) rest
-    ∙ or-swap (bytes_eq text x.now) (bytes_eq text k.now) (is_one text (texts keys))
-
-one-insert : (text : List ℕ) (k : Str) (keys : List Str)
-    → is_one text (texts (insert_key order keys k)) ≡ (bytes_eq text k.now || is_one text (texts keys))
-one-insert text k [] = refl
-one-insert text k (x ∷ keys) =
-    placed text k x keys (insert_key order keys k) (order k x) refl (one-insert text k keys)
-
--- whether the set has it
-has_one : (k : Str) (keys : List Str) → list_any (is_at (order k)) keys ≡ is_one k.now (texts keys)
-has_one k [] = refl
-has_one k (x ∷ keys) =
-    ap (λ b. b || list_any (is_at (order k)) keys) (is_eq-slice_cmp k.now x.now)
-    ∙ ap (λ b. bytes_eq k.now x.now || b) (has_one k keys)
-
-texts-push : (tokens : List Str) (text : Str) → texts (tokens ++ text ∷ []) ≡ texts tokens ++ text.now ∷ []
-texts-push tokens text = map-append (λ (token : Str). token.now) tokens (text ∷ [])
 
 -- one more text, and the set with it
 pub both_put : (old tokens keys later : List Str) (text : Str) (all : List (List ℕ)) → AreTexts old keys all
     → tokens ≡ old ++ text ∷ [] → later ≡ insert_key order keys text → AreTexts tokens later (all ++ text.now ∷ [])
 both_put old tokens keys later text all are more put = record {
-  are = ap texts more ∙ texts-push old text ∙ ap (λ some. some ++ text.now ∷ []) are.are;
-  set = λ t.
-      ap (λ some. is_one t (texts some)) put ∙ one-insert t text keys
-      ∙ ap (λ b. bytes_eq t text.now || b) (are.set t)
-      ∙ or-last (bytes_eq t text.now) (is_one t all)
-      ∙ sym (one-append t all (text.now ∷ []));
+  are = ap texts more ∙ texts_push old text ∙ ap (λ some. some ++ text.now ∷ []) are.are;
+  set = set_put keys later text all are.set put;
 }
 
 not_true : (b c : Bool) → c ≡ true → c ≡ not b → b ≡ false
@@ -171,7 +98,7 @@ pub words_on : (old new : List Str) (text : Str) (word : List ℕ) (all more val
     → texts new ++ more ≡ value
 words_on old new text word all more value push same cut whole =
     ap (λ some. texts some ++ more) push
-    ∙ ap (λ some. some ++ more) (texts-push old text)
+    ∙ ap (λ some. some ++ more) (texts_push old text)
     ∙ append_assoc (texts old) (text.now ∷ []) more
     ∙ ap (λ first. texts old ++ first ∷ more) same
     ∙ ap (λ words. texts old ++ words) (sym cut)
@@ -184,7 +111,7 @@ no_str = record { ref_ptr = (0, 0); now = [] }
 pub take_texts : (all : List Str) (at : ℕ) → at < length all
     → texts (take (at + 1) all) ≡ texts (take at all) ++ (get_or all at no_str).now ∷ []
 take_texts all at within =
-    ap texts (take_more all at no_str within) ∙ texts-push (take at all) (get_or all at no_str)
+    ap texts (take_more all at no_str within) ∙ texts_push (take at all) (get_or all at no_str)
 
 pub match_weaker : {X : Type 0} (found : Option X) (P P' : Type 0) (Q Q' : X → Type 0) → (P → P')
     → ((x : X) → Q x → Q' x) → MatchOption found P Q → MatchOption found P' Q'

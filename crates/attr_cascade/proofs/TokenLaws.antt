@@ -1,5 +1,5 @@
 -- The lists of tokens, one put behind the other, and those of a node by those of its parent.
-use Rattle.std.specs.Prelude.{◌≡◌, ◌+◌, ◌<◌, ◌≤◌, ◌==◌, ℕ, zero, suc, Bool, true, false, not, List, [], ◌∷◌, ◌++◌, Option, Some, None, Result, IfOk, map, length, slice_get, bytes_eq, codes}
+use Rattle.std.specs.Prelude.{◌≡◌, ◌+◌, ◌<◌, ℕ, zero, suc, Bool, List, [], ◌∷◌, ◌++◌, Option, Some, None, Result, IfOk, map, length, slice_get, codes}
 use Rattle.std.specs.Borrow.{Bor}
 use Rattle.std.specs.Option.{option_and_then, option_copied}
 use Rattle.std.proofs.Common.{refl, sym, ap, subst, ◌∙◌, arith, get_or, length-append}
@@ -14,21 +14,18 @@ use Rattle.plan_nodes.specs.Home as home
 use Rattle.plan_nodes.specs.Preorder.{HasParentsBefore}
 use Rattle.reader_spec.specs.World.{World}
 use Rattle.attr_cascade.specs.Nearest as near
-use Rattle.attr_cascade.specs.Tokens.{AreTokens, IsListOf, IsPlaceOf, IsTokens, Longer, merges, own_tokens, place_at, texts, tokens_at, tokens_in, value_of}
+use Rattle.attr_cascade.specs.Tokens.{AreTokens, IsPlaceOf, IsTokens, Longer, merges, own_tokens, place_at, tokens_at, tokens_in, value_of}
 use Rattle.attr_cascade.specs.declared.tokens.TokenList.{TokenList}
 use Rattle.attr_cascade.proofs.NearestLaws.{nearest_there}
-use Rattle.attr_cascade.proofs.PlaceLaws.{node_at, own_value, walk_root, walk_up}
+use Rattle.attr_cascade.proofs.PlaceLaws.{own_value}
+use Rattle.plan_nodes.proofs.ListLaws.{get_more}
+use Rattle.plan_nodes.proofs.PlaceLaws.{node_at, walk_root, walk_up}
 
 get-last : {X : Type 0} (xs : List X) (at : ℕ) (x : X) → at ≡ length xs → slice_get (xs ++ x ∷ []) at ≡ Some x
 get-last [] zero x is = refl
 get-last [] (suc at) x is = absurd (omega arith)
 get-last (y ∷ xs) zero x is = absurd (omega arith)
 get-last (y ∷ xs) (suc at) x is = get-last xs at x (omega arith)
-
-get-before : {X : Type 0} (xs more : List X) (at : ℕ) → at < length xs → slice_get (xs ++ more) at ≡ slice_get xs at
-get-before [] more at within = absurd (omega arith)
-get-before (x ∷ xs) more zero within = refl
-get-before (x ∷ xs) more (suc at) within = get-before xs more at (omega arith)
 
 get-found : {X : Type 0} (xs more : List X) (at : ℕ) (x : X) → slice_get xs at ≡ Some x
     → slice_get (xs ++ more) at ≡ Some x
@@ -125,7 +122,7 @@ module _ (world : World) (name : List ℕ) (nodes : List PlanNode) where
     each = λ k below. ⊎_elim
         (λ before. subst (λ p. IsTokens new p (tokens_at world name nodes k))
         (sym (ap (λ all. place_at all k) more
-        ∙ ap (option_and_then (λ (p : Option ℕ). p)) (get-before places (place ∷ []) k (omega (arith, so_far.many)))))
+        ∙ ap (option_and_then (λ (p : Option ℕ). p)) (get_more places (place ∷ []) k (omega (arith, so_far.many)))))
         (longer_tokens old new (place_at places k) _ is.longer (so_far.each k before)))
         (λ past. let here : k ≡ at = omega arith in
         subst (λ n. IsTokens new (place_at later n) (tokens_at world name nodes n)) (sym here)

@@ -1,12 +1,12 @@
 -- The values of nodes one after the other.
-use Rattle.std.specs.Prelude.{◌≡◌, ◌+◌, ◌<◌, ◌≤◌, ℕ, zero, suc, Bool, false, List, [], ◌∷◌, ◌++◌, Option, Some, None, map, length, slice_get, take, drop, unwrap_or}
+use Rattle.std.specs.Prelude.{◌≡◌, ◌+◌, ◌<◌, ◌≤◌, ℕ, zero, suc, Bool, false, List, [], ◌∷◌, ◌++◌, Option, Some, None, map, length, take, drop, unwrap_or}
 use Rattle.std.specs.Borrow.{Bor}
 use Rattle.attr_cascade.specs.Nearest.{Value, nearest_at, nearest_of, seen, value_at}
 use Rattle.attr_cascade.proofs.NearestLaws.{nearest_there}
 use Rattle.std.specs.List.{filter_map}
 use Rattle.std.specs.Option.{option_to_list}
 use Rattle.std.proofs.Common.{refl, sym, ap, ◌∙◌, arith, get_or, append_assoc}
-use Rattle.std.proofs.lemmas.List.{append-nil, drop_all, take_all, take_more}
+use Rattle.std.proofs.lemmas.List.{append-nil, drop_all, take_all}
 use Rattle.std.proofs.lemmas.List.Elements.{filter_map-append}
 use Rattle.std.proofs.Math.Seq.{drop-cons}
 use Rattle.dita_doc.specs.declared.doc.Attribute.{Attribute}
@@ -15,7 +15,7 @@ use Rattle.map_spec.specs.Cascade.{cascaded_from, cascaded_on, named_tokens, wal
 use Rattle.reader_spec.specs.World.{World}
 use Rattle.attr_cascade.specs.Tokens.{AreTables, IsTableOf, tokens_at}
 use Rattle.attr_cascade.specs.Values.{put_if, told_at}
-use Rattle.attr_cascade.proofs.PlaceLaws.{known_at}
+use Rattle.plan_nodes.proofs.PlaceLaws.{known_at}
 use Rattle.map_spec.specs.Scopes.{places}
 use Rattle.plan_nodes.specs.Preorder.{is_in_table_at, tables_around}
 use Rattle.attr_cascade.specs.declared.tokens.TokenTable.{TokenTable}

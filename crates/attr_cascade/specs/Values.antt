@@ -1,5 +1,5 @@
 -- The values of a node one after the other (own): those of which the nearest counts, then those with tokens.
-use Rattle.std.specs.Prelude.{ℕ, Bool, false, List, [], ◌∷◌, Option, map, slice_get, unwrap_or}
+use Rattle.std.specs.Prelude.{ℕ, Bool, false, List, Option, map, slice_get, unwrap_or}
 use Rattle.std.specs.Option.{option_to_list}
 use Rattle.dita_doc.specs.declared.doc.Attribute.{Attribute}
 use Rattle.dita_doc.specs.declared.plan.PlanNode.{PlanNode}

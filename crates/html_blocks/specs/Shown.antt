@@ -1,5 +1,5 @@
 -- Parts of elements of HTML, as the code writes them.
-use Rattle.std.specs.Prelude.{◌≡◌, ◌-◌, ◌^◌, ℕ, Bool, List, [], ◌∷◌, ◌++◌, Option, Some, None, codes, min}
+use Rattle.std.specs.Prelude.{◌-◌, ◌^◌, ℕ, Bool, List, [], ◌∷◌, ◌++◌, Option, Some, None, codes, min}
 use Rattle.dita_doc.specs.HtmlEscapes.{escaped_value}
 use Rattle.html_blocks.specs.declared.context.Around.{Around}
 use Rattle.html_blocks.specs.declared.context.Around.TheVariants as arounds

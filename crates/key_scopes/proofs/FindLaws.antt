@@ -1,9 +1,10 @@
 -- What is found by the outermost own definition and the qualified keys around it is the definition of the key.
-use Rattle.std.specs.Prelude.{◌≡◌, ◌<◌, ◌≤◌, ◌==◌, ◌⊎◌, ℕ, zero, suc, Bool, true, false, List, [], ◌∷◌, Option, Some, None, IfSome, length, nat_lt, slice_get, if◌then◌else◌}
-use Rattle.std.specs.Option.{option_map_or, option_or}
-use Rattle.std.proofs.Common.{refl, sym, ap, ap₂, subst, ◌∙◌, arith, inl, inr}
+use Rattle.std.specs.Prelude.{◌≡◌, ◌<◌, ◌≤◌, ◌==◌, ℕ, zero, suc, Bool, true, false, List, Option, Some, None, IfSome, length, nat_lt, if◌then◌else◌}
+use Rattle.std.specs.Option.{option_or}
+use Rattle.std.proofs.Common.{refl, sym, ap, ap₂, subst, ◌∙◌, arith}
 use Rattle.std.proofs.lemmas.Bool.{true≢false}
 use Rattle.std.proofs.lemmas.Bool.Decides.{nat_tests}
+use Rattle.std.proofs.lemmas.Option.{slice_get_past}
 use Rattle.dita_doc.specs.declared.plan.PlanNode.{PlanNode}
 use Rattle.dita_doc.specs.declared.plan.Scope.{Scope}
 use Rattle.key_scopes.specs.declared.definitions.Definition.{Definition}
@@ -16,55 +17,18 @@ use Rattle.key_scopes.proofs.AboveLaws.{above_both, above_encloses, encloses_abo
 use Rattle.key_scopes.proofs.NestedLaws.{top_within}
 use Rattle.key_scopes.proofs.PastLaws.{has_dot, own_past, qualified_past, qualified_without}
 use Rattle.key_scopes.proofs.RiseLaws.{defined_of, none_own, own_of, risen_to, some_own, stays, up}
-use Rattle.key_scopes.proofs.RisingLaws.{or_none}
-use Rattle.key_scopes.proofs.TestLaws.{either}
+use Rattle.key_scopes.proofs.OptionLaws.{or_none}
+use Rattle.key_scopes.proofs.RisingLaws.{around_other, around_root, parent_low, parent_or_root}
 use Rattle.map_spec.specs.Scopes.{found, found_from, own, own_or_qualified, parent_of, scopes}
 use Rattle.reader_spec.specs.World.{World}
-
--- Scopes
-
-scope_past : (all : List Scope) (at : ℕ) → length all ≤ at → slice_get all at ≡ None
-scope_past [] at out = refl
-scope_past (x ∷ all) zero out = absurd (omega arith)
-scope_past (x ∷ all) (suc at) out = scope_past all at (omega arith)
-
-scope_there : (all : List Scope) (at : ℕ) → at < length all → (own : Scope) × (slice_get all at ≡ Some own)
-scope_there [] at within = absurd (omega arith)
-scope_there (x ∷ all) zero within = (x, refl)
-scope_there (x ∷ all) (suc at) within = scope_there all at (omega arith)
-
-abbrev parent_or_root : Option Scope → ℕ
-parent_or_root one = option_map_or (λ (scope : Scope). scope.parent) one 0
-
--- each parent stands before its scope
-parent_low : (all : List Scope) → AreInPreorder (parent_in all) (length all) → (at : ℕ) → 0 < at → parent_in all at < at
-parent_low all ordered at some = by_test (either (nat_lt at (length all)))
-  where
-    by_test : (nat_lt at (length all) ≡ true) ⊎ (nat_lt at (length all) ≡ false) → parent_in all at < at
-    by_test (inl low) = ordered.before at some (grind (arith, nat_tests))
-    by_test (inr far) =
-        let out : length all ≤ at = grind (arith, nat_tests) in
-        let none = ap parent_or_root (scope_past all at out) in
-        omega (arith, some, none)
 
 -- what stands around a scope of the table
 around_is : (all : List Scope) → AreInPreorder (parent_in all) (length all) → (at : ℕ) → at < length all
     → around_in all at ≡ (if at == 0 then None else Some (parent_in all at))
-around_is all ordered at within =
-    let found = scope_there all at within in
-    by_root found.0 found.1 (at == 0) refl
-  where
-    by_root : (own : Scope) → slice_get all at ≡ Some own → (a : Bool) → (at == 0) ≡ a
-        → around_in all at ≡ (if at == 0 then None else Some (parent_in all at))
-    by_root own is true e =
-        let none : nat_lt own.parent at ≡ false = grind (arith, nat_tests) in
-        rw (e, is, none) refl
-    by_root own is false e =
-        let some : 0 < at = grind (arith, nat_tests) in
-        let less = ordered.before at some within in
-        let parent : parent_in all at ≡ own.parent = ap parent_or_root is in
-        let low : nat_lt own.parent at ≡ true = grind (arith, nat_tests, less, parent) in
-        rw (e, is, low) refl
+around_is all ordered zero within = around_root all ordered
+around_is all ordered (suc at) within =
+    let other : (suc at == 0) ≡ false = grind (arith, nat_tests) in
+    rw other (around_other all ordered (suc at) (omega arith) within)
 
 risen_low : (parent : ℕ → ℕ) → parent 0 ≡ 0 → ((at : ℕ) → 0 < at → parent at < at) → (steps at : ℕ)
     → risen parent steps at ≤ at
@@ -202,7 +166,7 @@ module _ (world : World) (nodes : List PlanNode) (table : Table) (is : IsTableOf
           let none : both scope ≡ None =
           ap₂ option_or (is.own scope key ∙ own_past world nodes scope key far)
           (qualified_past (length key) world nodes scope key ordered far) in
-          let root : parent_in all scope ≡ 0 = ap parent_or_root (scope_past all scope out) in
+          let root : parent_in all scope ≡ 0 = ap parent_or_root (slice_get_past all scope out) in
           found_is scope scope ∙ up all low both scope some
           ∙ ap₂ option_or (ap (risen_to all low both) root) none
           ∙ or_none (risen_to all low both 0) ∙ sym (found_is 0 0)

@@ -11,6 +11,7 @@ use Rattle.dita_doc.specs.declared.plan.PlanNode.{PlanNode}
 use Rattle.key_scopes.specs.Defined.{AreOrdered, first_by, firsts_by, is_entry_before, is_last_of, with_first}
 use Rattle.key_scopes.specs.Numbered.{Entry, entry}
 use Rattle.key_scopes.specs.Table.{First, is_first}
+use Rattle.key_scopes.proofs.OptionLaws.{or_assoc, or_none}
 use Rattle.key_scopes.proofs.TestLaws.{and_both, and_left, and_right, either, number_same, same_number, same_text, text_same}
 use Rattle.map_spec.specs.Scopes.{places_from}
 
@@ -100,14 +101,6 @@ last_found scope key (first ∷ next ∷ firsts) entry last is =
         → (found : First) × (find (is_first scope key) (first ∷ next ∷ firsts) ≡ Some found)
     by_one true e behind = (first, rw e refl)
     by_one false e behind = (behind.0, rw e behind.1)
-
-or_assoc : {X : Type 0} (a b c : Option X) → option_or (option_or a b) c ≡ option_or a (option_or b c)
-or_assoc None b c = refl
-or_assoc (Some a) b c = refl
-
-or_none : {X : Type 0} (a : Option X) → option_or a None ≡ a
-or_none None = refl
-or_none (Some a) = refl
 
 pub first_among : (scope : ℕ) (key : List ℕ) (entries : List Entry) (firsts : List First)
     → find (is_first scope key) (firsts_by firsts entries)

@@ -1,4 +1,5 @@
 pub mod TestLaws
+pub mod OptionLaws
 pub mod AboveLaws
 pub mod NameLaws
 pub mod PlaceLaws

@@ -12,7 +12,7 @@ use Rattle.key_scopes.specs.Made.{IsTableOf}
 use Rattle.key_scopes.specs.Numbered.{AreNumbered, entries, entries_at, faults_at, place_in, scope_placed}
 use Rattle.key_scopes.specs.Table.{Table, firsts_of}
 use Rattle.key_scopes.proofs.OwnLaws.{own_is}
-use Rattle.key_scopes.proofs.PlaceLaws.{known_at}
+use Rattle.plan_nodes.proofs.PlaceLaws.{known_at}
 use Rattle.key_scopes.proofs.ScopeTreeLaws.{scopes_ordered}
 use Rattle.key_scopes.proofs.StrictLaws.{firsts_strict}
 use Rattle.key_scopes.proofs.TreeLaws.{tree_ordered, tree_parents}

@@ -1,26 +1,15 @@
 -- Names, each once, and one more of them.
 use Rattle.std.specs.Prelude.{◌≡◌, ◌||◌, ℕ, Bool, true, false, not, List, [], ◌∷◌, ◌++◌, bytes_eq, filter, if◌then◌else◌}
-use Rattle.std.specs.Borrow.{Bor}
 use Rattle.std.specs.BTreeMap.{is_at}
 use Rattle.std.specs.BTreeSet.{insert_key}
-use Rattle.std.specs.Cmp.Lexicographic.{slice_cmp}
 use Rattle.std.specs.List.{list_any}
-use Rattle.std.specs.Ordering.{match_ordering, nat_cmp}
-use Rattle.std.proofs.Common.{Ordering, Less, Equal, Greater, refl, sym, ap, ◌∙◌}
+use Rattle.std.proofs.Common.{refl, sym, ap, ◌∙◌}
 use Rattle.std.proofs.lemmas.Bool.{true≢false}
-use Rattle.std.proofs.lemmas.List.{map-append}
-use Rattle.std.proofs.lemmas.Map.Text.{is_eq-slice_cmp}
 use Rattle.std.proofs.lemmas.Slice.Eq.{bytes_eq-Decides}
-use Rattle.dita_doc.proofs.NameOrder.{same_from_equal}
+use Rattle.plan_nodes.proofs.TextSetLaws.{Str, has_one, is_one, one_append, order, set_put, texts_push}
 use Rattle.key_scopes.specs.Named.{texts}
 use Rattle.map_spec.specs.Branches.{each_once}
 use Rattle.map_spec.specs.Scopes.{bad_names, good_names, is_good_name}
-
-abbrev Str : Type 0
-Str = Bor (List ℕ)
-
-abbrev order : Str → Str → Ordering
-order a b = slice_cmp nat_cmp a.now b.now
 
 -- Equal texts
 
@@ -36,74 +25,13 @@ turned a b = by_truth (bytes_eq a b) (bytes_eq b a)
 
 -- A set of texts
 
-abbrev is_one : List ℕ → List (List ℕ) → Bool
-is_one text all = list_any (bytes_eq text) all
-
-or-twice : (a b : Bool) → (a || b) ≡ (a || (a || b))
-or-twice true b = refl
-or-twice false b = refl
-
-or-swap : (a b c : Bool) → (a || (b || c)) ≡ (b || (a || c))
-or-swap true true c = refl
-or-swap true false c = refl
-or-swap false true c = refl
-or-swap false false c = refl
-
-or-last : (a b : Bool) → (a || b) ≡ (b || (a || false))
-or-last true true = refl
-or-last true false = refl
-or-last false true = refl
-or-last false false = refl
-
-or-assoc : (a b c : Bool) → ((a || b) || c) ≡ (a || (b || c))
-or-assoc true b c = refl
-or-assoc false b c = refl
-
-one-append : (text : List ℕ) (xs ys : List (List ℕ)) → is_one text (xs ++ ys) ≡ (is_one text xs || is_one text ys)
-one-append text [] ys = refl
-one-append text (x ∷ xs) ys =
-    ap (λ b. bytes_eq text x || b) (one-append text xs ys)
-    ∙ sym (or-assoc (bytes_eq text x) (is_one text xs) (is_one text ys))
-
-placed : (text : List ℕ) (k x : Str) (keys more : List Str) (o : Ordering) → order k x ≡ o
-    → is_one text (texts more) ≡ (bytes_eq text k.now || is_one text (texts keys))
-    → is_one text (texts (match_ordering o (k ∷ x ∷ keys) (x ∷ keys) (x ∷ more)))
-    ≡ (bytes_eq text k.now || is_one text (texts (x ∷ keys)))
-placed text k x keys more Less is rest = refl
-placed text k x keys more Equal is rest =
-    or-twice (bytes_eq text x.now) (is_one text (texts keys))
-    ∙ ap (λ name. bytes_eq text name || (bytes_eq text x.now || is_one text (texts keys)))
-    (sym (same_from_equal k.now x.now is))
-placed text k x keys more Greater is rest =
-    ap (λ b. bytes_eq text x.now || b) rest
-    ∙ or-swap (bytes_eq text x.now) (bytes_eq text k.now) (is_one text (texts keys))
-
-one-insert : (text : List ℕ) (k : Str) (keys : List Str)
-    → is_one text (texts (insert_key order keys k)) ≡ (bytes_eq text k.now || is_one text (texts keys))
-one-insert text k [] = refl
-one-insert text k (x ∷ keys) =
-    placed text k x keys (insert_key order keys k) (order k x) refl (one-insert text k keys)
-
-has_one : (k : Str) (keys : List Str) → list_any (is_at (order k)) keys ≡ is_one k.now (texts keys)
-has_one k [] = refl
-has_one k (x ∷ keys) =
-    ap (λ b. b || list_any (is_at (order k)) keys) (is_eq-slice_cmp k.now x.now)
-    ∙ ap (λ b. bytes_eq k.now x.now || b) (has_one k keys)
-
-pub texts-push : (tokens : List Str) (text : Str) → texts (tokens ++ text ∷ []) ≡ texts tokens ++ text.now ∷ []
-texts-push tokens text = map-append (λ (token : Str). token.now) tokens (text ∷ [])
-
 abbrev Known : List Str → List (List ℕ) → Type 0
 Known keys written = (name : List ℕ) → list_any (bytes_eq name) (texts keys) ≡ list_any (bytes_eq name) written
 
 -- the set with one more
 pub known_new : (keys later : List Str) (text : Str) (written : List (List ℕ)) → Known keys written
     → later ≡ insert_key order keys text → Known later (written ++ text.now ∷ [])
-known_new keys later text written known put = λ t.
-    ap (λ some. is_one t (texts some)) put ∙ one-insert t text keys
-    ∙ ap (λ b. bytes_eq t text.now || b) (known t)
-    ∙ or-last (bytes_eq t text.now) (is_one t written)
-    ∙ sym (one-append t written (text.now ∷ []))
+known_new keys later text written known put = set_put keys later text written known put
 
 not-not : (b : Bool) → b ≡ not (not b)
 not-not true = refl
@@ -128,7 +56,7 @@ known_again keys later text written known same there = λ t.
     ap (λ some. is_one t (texts some)) same ∙ known t
     ∙ or-same (bytes_eq t text.now) (is_one text.now written) (is_one t written) there
     (λ e. ap (λ n. is_one n written) ((bytes_eq-Decides t text.now).0 e))
-    ∙ sym (one-append t written (text.now ∷ []))
+    ∙ sym (one_append t written (text.now ∷ []))
 
 -- Each once
 
@@ -218,12 +146,12 @@ pub good_more : (written : List (List ℕ)) (old new : List Str) (name : Str) �
     → is_good_name name.now ≡ true → list_any (bytes_eq name.now) written ≡ false → new ≡ old ++ name ∷ []
     → texts new ≡ good_names (written ++ name.now ∷ [])
 good_more written old new name are good other more =
-    ap texts more ∙ texts-push old name ∙ ap (λ some. some ++ name.now ∷ []) are
+    ap texts more ∙ texts_push old name ∙ ap (λ some. some ++ name.now ∷ []) are
     ∙ sym (once_new is_good_name written name.now good other)
 
 pub bad_more : (written : List (List ℕ)) (old new : List Str) (name : Str) → texts old ≡ bad_names written
     → is_good_name name.now ≡ false → list_any (bytes_eq name.now) written ≡ false → new ≡ old ++ name ∷ []
     → texts new ≡ bad_names (written ++ name.now ∷ [])
 bad_more written old new name are bad other more =
-    ap texts more ∙ texts-push old name ∙ ap (λ some. some ++ name.now ∷ []) are
+    ap texts more ∙ texts_push old name ∙ ap (λ some. some ++ name.now ∷ []) are
     ∙ sym (once_new (λ some. not (is_good_name some)) written name.now (ap not bad) other)

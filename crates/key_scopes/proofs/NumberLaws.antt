@@ -12,7 +12,8 @@ use Rattle.dita_doc.specs.declared.plan.PlanNode.{PlanNode}
 use Rattle.dita_doc.specs.declared.plan.Scope.{Scope}
 use Rattle.key_scopes.specs.declared.numbering.Numbering.{Numbering}
 use Rattle.key_scopes.specs.Numbered.{AreNumbered, IsNew, IsPut, IsScopePut, entries, entries_at, entry, faults_at, has_name, keys_name, keys_written, place_in, scope_around, scope_of, scope_placed, scopes_before, scopes_put, told_at}
-use Rattle.key_scopes.proofs.PlaceLaws.{all_more, known, known_at, known_more, place_more, up_from}
+use Rattle.key_scopes.proofs.PlaceLaws.{all_more}
+use Rattle.plan_nodes.proofs.PlaceLaws.{known, known_at, known_more, place_more, up_from}
 use Rattle.map_spec.specs.Cascade.{attribute_at, places_up, whole_at}
 use Rattle.map_spec.specs.Scopes.{bad_names, begins, good_names, has_scope_name, key_faults, keys_defined, keys_of, may_define, node_fault, number_of, places, root_scope, scope_at, scope_begun, scope_faults, scope_on}
 use Rattle.map_spec.specs.Written.{Whole}

@@ -19,7 +19,8 @@ use Rattle.key_scopes.specs.Table.{First, first_of, firsts_of}
 use Rattle.key_scopes.proofs.NestedLaws.{encloses_it, high_of, low_of}
 use Rattle.key_scopes.proofs.OrderLaws.{first_total, strict_of}
 use Rattle.key_scopes.proofs.TestLaws.{either, same_number, same_text, text_same}
-use Rattle.key_scopes.proofs.ToppedLaws.{Found, found, taken, there}
+use Rattle.key_scopes.proofs.OptionLaws.{there}
+use Rattle.key_scopes.proofs.ToppedLaws.{Found, found, taken}
 
 -- Orders
 

@@ -1,101 +1,15 @@
--- Nodes in preorder: the places from each up go on from its parent, and what is known of each place before one.
-use Rattle.std.specs.Prelude.{◌≡◌, ◌+◌, ◌<◌, ◌≤◌, ◌==◌, ℕ, zero, suc, Bool, true, false, List, [], ◌∷◌, ◌++◌, Option, Some, None, map, length, slice_get, take, if◌then◌else◌}
+-- What is made of each place before one, and of one more.
+use Rattle.std.specs.Prelude.{◌≡◌, ◌+◌, ◌<◌, ℕ, List, [], ◌∷◌, ◌++◌, length, take}
 use Rattle.std.specs.List.{flat_map}
-use Rattle.std.specs.Option.{option_map_or}
-use Rattle.std.proofs.Common.{refl, ap, ◌∙◌, arith, get_or, eqb}
-use Rattle.std.proofs.lemmas.Bool.Decides.{nat_tests}
-use Rattle.std.proofs.lemmas.List.{append-nil, length-take, map-append, take_more}
+use Rattle.std.proofs.Common.{ap, ◌∙◌}
+use Rattle.std.proofs.lemmas.List.{append-nil}
 use Rattle.std.proofs.lemmas.List.Concat.{flat_map-append}
-use Rattle.std.proofs.lemmas.Option.{slice_get_read}
 use Rattle.dita_doc.specs.declared.plan.PlanNode.{PlanNode}
-use Rattle.map_spec.specs.Cascade.{places_up, steps_up}
-use Rattle.map_spec.specs.Scopes.{places, places_from}
-use Rattle.plan_nodes.specs.Preorder.{HasParentsBefore}
-
--- one step up, which takes no more steps than it needs
-same_step : (nodes : List PlanNode) → HasParentsBefore nodes → (steps more at : ℕ) → at < suc steps → at < suc more
-    → (root : Bool) → (at == 0) ≡ root → (found : Option PlanNode) → slice_get nodes at ≡ found
-    → ((up : ℕ) → up < steps → up < more → steps_up steps nodes up ≡ steps_up more nodes up)
-    → (if root then [] else option_map_or (λ (node : PlanNode). steps_up steps nodes node.parent) found [])
-    ≡ (if root then [] else option_map_or (λ (node : PlanNode). steps_up more nodes node.parent) found [])
-same_step nodes before steps more at few enough true e found is same = refl
-same_step nodes before steps more at few enough false e None is same = refl
-same_step nodes before steps more at few enough false e (Some node) is same =
-    let above : 0 < at = grind (arith, nat_tests) in
-    let up = before at node above is in
-    same node.parent (omega arith) (omega arith)
-
-same_walk : (nodes : List PlanNode) → HasParentsBefore nodes → (steps more at : ℕ) → at < steps → at < more
-    → steps_up steps nodes at ≡ steps_up more nodes at
-same_walk nodes before zero more at few enough = absurd (omega arith)
-same_walk nodes before (suc steps) zero at few enough = absurd (omega arith)
-same_walk nodes before (suc steps) (suc more) at few enough =
-    ap (λ places. at ∷ places) (same_step nodes before steps more at few enough (at == 0) refl (slice_get nodes at) refl
-    (λ up fewer less. same_walk nodes before steps more up fewer less))
-
--- the places from a node up go on from its parent
-module _ (nodes : List PlanNode) (before : HasParentsBefore nodes) (at : ℕ) (node : PlanNode)
-    (is : slice_get nodes at ≡ Some node) where
-  up_one : (steps : ℕ) → 0 < at → steps_up (suc steps) nodes at ≡ at ∷ steps_up steps nodes node.parent
-  up_one steps above = let other : eqb at 0 ≡ false = grind (arith, nat_tests) in rw (other, is) refl
-
-  pub up_from : 0 < at → places_up nodes at ≡ at ∷ places_up nodes node.parent
-  up_from above =
-      let more : at + 1 ≡ suc at = omega arith in
-      let up = before at node above is in
-      ap (λ steps. steps_up steps nodes at) more ∙ up_one at above
-      ∙ ap (λ places. at ∷ places) (same_walk nodes before at (node.parent + 1) node.parent up (omega arith))
-
--- What is known of the places before one
-
-abbrev pub known : {X : Type 0} → (ℕ → X) → List PlanNode → ℕ → List X
-known f nodes count = map f (places (take count nodes))
-
-known_from : {X : Type 0} (f : ℕ → X) (from at count : ℕ) (nodes : List PlanNode) → at < count → count ≤ length nodes
-    → slice_get (map f (places_from from (take count nodes))) at ≡ Some (f (from + at))
-known_from f from at zero nodes few fits = absurd (omega arith)
-known_from f from at (suc count) [] few fits = absurd (omega arith)
-known_from f from zero (suc count) (node ∷ nodes) few fits =
-    let same : from ≡ from + 0 = omega arith in ap (λ place. Some (f place)) same
-known_from f from (suc at) (suc count) (node ∷ nodes) few fits =
-    let same : from + 1 + at ≡ from + suc at = omega arith in
-    known_from f (from + 1) at count nodes (omega arith) (omega arith) ∙ ap (λ place. Some (f place)) same
-
-pub known_at : {X : Type 0} (f : ℕ → X) (nodes : List PlanNode) (at count : ℕ) → at < count → count ≤ length nodes
-    → slice_get (known f nodes count) at ≡ Some (f at)
-known_at f nodes at count few fits =
-    let same : 0 + at ≡ at = omega arith in
-    known_from f 0 at count nodes few fits ∙ ap (λ place. Some (f place)) same
-
-places_more : (from : ℕ) (nodes : List PlanNode) (node : PlanNode)
-    → places_from from (nodes ++ node ∷ []) ≡ places_from from nodes ++ (from + length nodes) ∷ []
-places_more from [] node = let same : from ≡ from + 0 = omega arith in ap (λ place. place ∷ []) same
-places_more from (first ∷ nodes) node =
-    let same : from + 1 + length nodes ≡ from + suc (length nodes) = omega arith in
-    ap (λ places. from ∷ places)
-    (places_more (from + 1) nodes node ∙ ap (λ place. places_from (from + 1) nodes ++ place ∷ []) same)
-
--- one place more
-pub place_more : (nodes : List PlanNode) (at : ℕ) (node : PlanNode) → at < length nodes
-    → places (take (at + 1) nodes) ≡ places (take at nodes) ++ at ∷ []
-place_more nodes at node within =
-    let long : 0 + length (take at nodes) ≡ at = omega (arith, length-take at nodes) in
-    ap places (take_more nodes at node within)
-    ∙ places_more 0 (take at nodes) (get_or nodes at node)
-    ∙ ap (λ place. places (take at nodes) ++ place ∷ []) long
-
-pub known_more : {X : Type 0} (f : ℕ → X) (nodes : List PlanNode) (at : ℕ) (node : PlanNode) → at < length nodes
-    → known f nodes (at + 1) ≡ known f nodes at ++ f at ∷ []
-known_more f nodes at node within =
-    ap (map f) (place_more nodes at node within) ∙ map-append f (places (take at nodes)) (at ∷ [])
+use Rattle.map_spec.specs.Scopes.{places}
+use Rattle.plan_nodes.proofs.PlaceLaws.{place_more}
 
 pub all_more : {X : Type 0} (f : ℕ → List X) (nodes : List PlanNode) (at : ℕ) (node : PlanNode) → at < length nodes
     → flat_map f (places (take (at + 1) nodes)) ≡ flat_map f (places (take at nodes)) ++ f at
 all_more f nodes at node within =
     ap (flat_map f) (place_more nodes at node within) ∙ flat_map-append f (places (take at nodes)) (at ∷ [])
     ∙ ap (λ last. flat_map f (places (take at nodes)) ++ last) (append-nil (f at))
-
--- the node at a place
-pub node_at : (nodes : List PlanNode) (at : ℕ) (node : PlanNode) → at < length nodes → node ≡ get_or nodes at node
-    → slice_get nodes at ≡ Some node
-node_at nodes at node within item = slice_get_read nodes (length nodes) at node refl within item

@@ -9,7 +9,7 @@ use Rattle.key_scopes.specs.Made.{IsTableOf}
 use Rattle.key_scopes.specs.Rising.{by_names}
 use Rattle.key_scopes.specs.Table.{Table, firsts_of, own_in}
 use Rattle.key_scopes.specs.Ways.{Way, next_way, way_of}
-use Rattle.key_scopes.proofs.RisingLaws.{or_none}
+use Rattle.key_scopes.proofs.OptionLaws.{or_none}
 use Rattle.key_scopes.proofs.WayLaws.{behind_way, by_all_ways, by_way, no_way_behind, way_behind}
 use Rattle.map_spec.specs.Scopes.{own, scopes}
 use Rattle.reader_spec.specs.World.{World}

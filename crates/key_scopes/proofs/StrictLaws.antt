@@ -4,9 +4,11 @@ use Rattle.std.specs.Cmp.{IsTotalOrder}
 use Rattle.std.specs.List.{All}
 use Rattle.std.specs.Ordering.{is_gt, is_lt, nat_cmp, ordering_reverse, ordering_then}
 use Rattle.std.proofs.Common.{Ordering, Less, Equal, Greater, refl, sym, ap, subst, ◌∙◌, arith, get_or, inl, inr, length-append}
+use Rattle.std.proofs.Math.Seq.{get_or-append_seam}
 use Rattle.std.proofs.lemmas.Bool.{true≢false}
 use Rattle.std.proofs.lemmas.Bool.Decides.{nat_tests}
 use Rattle.std.proofs.lemmas.Cmp.{nat_cmp_total, nat_list_cmp_total, tied_itself}
+use Rattle.std.proofs.lemmas.List.{get_or_append_left}
 use Rattle.std.proofs.lemmas.List.Elements.{All-cons, All-filter, All-from_get_or, All-get_or, All-head, All-nil, All-push, All-tail, All-weaker}
 use Rattle.key_scopes.specs.Defined.{AreFirsts, AreOrdered, AreStrict, first_by, first_order, firsts_by, is_entry_before, is_last_of, is_level_within, with_first}
 use Rattle.key_scopes.specs.Numbered.{Entry}
@@ -22,16 +24,6 @@ AllNotAfter firsts entry = All (NotAfter entry) firsts
 
 -- One more first definition
 
-get_front : (firsts : List First) (x : First) (i : ℕ) (d : First) → i < length firsts
-    → get_or (firsts ++ x ∷ []) i d ≡ get_or firsts i d
-get_front [] x i d within = absurd (omega arith)
-get_front (f ∷ firsts) x zero d within = refl
-get_front (f ∷ firsts) x (suc i) d within = get_front firsts x i d (omega arith)
-
-get_end : (firsts : List First) (x d : First) → get_or (firsts ++ x ∷ []) (length firsts) d ≡ x
-get_end [] x d = refl
-get_end (f ∷ firsts) x d = get_end firsts x d
-
 strict_push : (firsts : List First) (x : First) → AreStrict firsts
     → ((i : ℕ) (d : First) → i < length firsts → first_order (get_or firsts i d) x ≡ Less)
     → AreStrict (firsts ++ x ∷ [])
@@ -43,14 +35,14 @@ strict_push firsts x strict below i j d low within =
     by_test (inl same) =
         let is = same_number j (length firsts) same in
         ap (λ n. first_order (get_or (firsts ++ x ∷ []) i d) (get_or (firsts ++ x ∷ []) n d)) is
-        ∙ ap (first_order (get_or (firsts ++ x ∷ []) i d)) (get_end firsts x d)
-        ∙ ap (λ f. first_order f x) (get_front firsts x i d (omega (arith, low, is)))
+        ∙ ap (first_order (get_or (firsts ++ x ∷ []) i d)) (get_or-append_seam firsts x [] d)
+        ∙ ap (λ f. first_order f x) (get_or_append_left firsts (x ∷ []) d i (omega (arith, low, is)))
         ∙ below i d (omega (arith, low, is))
     by_test (inr differs) =
         let long = length-append firsts (x ∷ []) in
         let less : j < length firsts = grind (arith, nat_tests, long, within) in
-        ap (λ f. first_order f (get_or (firsts ++ x ∷ []) j d)) (get_front firsts x i d (omega (arith, low, less)))
-        ∙ ap (first_order (get_or firsts i d)) (get_front firsts x j d less)
+        ap (λ f. first_order f (get_or (firsts ++ x ∷ []) j d)) (get_or_append_left firsts (x ∷ []) d i (omega (arith, low, less)))
+        ∙ ap (first_order (get_or firsts i d)) (get_or_append_left firsts (x ∷ []) d j less)
         ∙ strict i j d low less
 
 -- the last one is of the entry's key and scope only if it says so

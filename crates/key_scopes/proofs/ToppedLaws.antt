@@ -1,10 +1,13 @@
 -- A definition at a place, and one more of them with its outermost one.
 use Rattle.std.specs.Prelude.{◌≡◌, ◌<◌, ◌≤◌, ◌++◌, ◌⊎◌, ℕ, zero, suc, true, false, List, [], ◌∷◌, Some, length, nat_lt, slice_get, take}
 use Rattle.std.proofs.Common.{refl, sym, ap, subst, ◌∙◌, arith, get_or, inl, inr, length-append}
+use Rattle.std.proofs.Math.Seq.{take-append_seam}
 use Rattle.std.proofs.lemmas.Bool.Decides.{nat_tests}
+use Rattle.std.proofs.lemmas.List.{take-append-le}
 use Rattle.key_scopes.specs.declared.definitions.Definition.{Definition}
 use Rattle.key_scopes.specs.Outermost.{AreTopped, top_for}
 use Rattle.key_scopes.proofs.TestLaws.{either}
+use Rattle.plan_nodes.proofs.ListLaws.{get_more}
 
 -- A definition at a place
 
@@ -22,12 +25,6 @@ found (first ∷ definitions) (suc at) definition is =
     let behind = found definitions at definition is in
     record { within = let low = behind.within in omega (arith, low); got = behind.got }
 
-pub there : (definitions : List Definition) (at : ℕ) → at < length definitions
-    → (definition : Definition) × (slice_get definitions at ≡ Some definition)
-there [] at within = absurd (omega arith)
-there (first ∷ definitions) zero within = (first, refl)
-there (first ∷ definitions) (suc at) within = there definitions at (omega arith)
-
 pub taken : (definitions : List Definition) (count at : ℕ) → at < count
     → slice_get (take count definitions) at ≡ slice_get definitions at
 taken [] zero at low = absurd (omega arith)
@@ -37,23 +34,6 @@ taken (first ∷ definitions) (suc count) zero low = refl
 taken (first ∷ definitions) (suc count) (suc at) low = taken definitions count at (omega arith)
 
 -- One more definition
-
-take_front : (definitions : List Definition) (last : Definition) (count : ℕ) → count ≤ length definitions
-    → take count (definitions ++ last ∷ []) ≡ take count definitions
-take_front definitions last zero low = refl
-take_front [] last (suc count) low = absurd (omega arith)
-take_front (first ∷ definitions) last (suc count) low =
-    ap (λ more. first ∷ more) (take_front definitions last count (omega arith))
-
-take_whole : (definitions : List Definition) → take (length definitions) definitions ≡ definitions
-take_whole [] = refl
-take_whole (first ∷ definitions) = ap (λ more. first ∷ more) (take_whole definitions)
-
-get_front : (definitions : List Definition) (last : Definition) (at : ℕ) → at < length definitions
-    → slice_get (definitions ++ last ∷ []) at ≡ slice_get definitions at
-get_front [] last at low = absurd (omega arith)
-get_front (first ∷ definitions) last zero low = refl
-get_front (first ∷ definitions) last (suc at) low = get_front definitions last at (omega arith)
 
 get_end : (definitions : List Definition) (last : Definition)
     → slice_get (definitions ++ last ∷ []) (length definitions) ≡ Some last
@@ -70,8 +50,8 @@ topped_more ends old new last topped top more = subst (AreTopped ends) (sym more
         → own.top ≡ top_for ends (take at (old ++ last ∷ [])) own.key own.scope
     by_test at own is here (inl less) =
         let low : at < length old = grind (arith, nat_tests) in
-        topped at own (sym (get_front old last at low) ∙ is)
-        ∙ ap (λ all. top_for ends all own.key own.scope) (sym (take_front old last at (omega arith)))
+        topped at own (sym (get_more old (last ∷ []) at low) ∙ is)
+        ∙ ap (λ all. top_for ends all own.key own.scope) (sym (take-append-le at old (last ∷ []) (omega arith)))
     by_test at own is here (inr not_less) =
         let high : length old ≤ at = grind (arith, nat_tests) in
         let within = here.within in
@@ -80,6 +60,6 @@ topped_more ends old new last topped top more = subst (AreTopped ends) (sym more
         sym (get_end old last) ∙ ap (slice_get (old ++ last ∷ [])) (sym same) ∙ is in
         let own_is : last ≡ own = cc in
         let all : take at (old ++ last ∷ []) ≡ old =
-        ap (λ n. take n (old ++ last ∷ [])) same ∙ take_front old last (length old) (omega arith) ∙ take_whole old in
+        ap (λ n. take n (old ++ last ∷ [])) same ∙ take-append_seam old (last ∷ []) in
         subst (λ (d : Definition). d.top ≡ top_for ends (take at (old ++ last ∷ [])) d.key d.scope) own_is
         (top ∙ ap (λ some. top_for ends some last.key last.scope) (sym all))

@@ -1,11 +1,15 @@
 -- Names by scope and rank: the first of some of them, and those behind it.
 use Rattle.std.specs.Prelude.{◌≡◌, ◌+◌, ◌<◌, ◌≤◌, ◌==◌, ◌&&◌, ◌||◌, ◌⊎◌, ℕ, zero, suc, Bool, true, false, not, List, [], ◌∷◌, ◌++◌, Option, Some, None, filter, find, length, nat_lt, slice_get, if◌then◌else◌}
+use denote.Param.Members.{Mut}
+use Rattle.std.specs.Borrow.{Bor}
+use Rattle.std.specs.Fn.{Called, ComputesKey}
 use Rattle.std.specs.List.{All, flat_map}
 use Rattle.std.specs.List.Sorted.{IsPartitionPoint, IsPartitionedBy}
 use Rattle.std.proofs.Common.{refl, sym, ap, subst, ◌∙◌, arith, get_or, inl, inr}
 use Rattle.std.proofs.lemmas.Bool.{true≢false}
 use Rattle.std.proofs.lemmas.Bool.Decides.{nat_tests}
 use Rattle.std.proofs.lemmas.List.Elements.{All-append, All-cons, All-get_or, All-head, All-nil, All-tail, All-weaker}
+use Rattle.std.proofs.lemmas.List.Sorted.{IsPartitionPoint-from_clause}
 use Rattle.dita_doc.specs.declared.plan.Scope.{Scope}
 use Rattle.key_scopes.specs.declared.children.ChildName.{ChildName}
 use Rattle.key_scopes.specs.Children.{all_names, names_of, ranked}
@@ -148,6 +152,18 @@ pub found_by_half : (p : ChildName → Bool) (names : List ChildName) (at : ℕ)
 found_by_half p names at part =
     halves p names at (λ k d low within. not_true (p (get_or names k d)) (part.0 k d (omega arith) low))
     (λ k d low within. not_false (p (get_or names k d)) (part.1 k d low within))
+
+-- so the first name behind stands where `partition_point` parts the names
+pub found_parted : (child rank : ℕ) {F : Type 0} {g : Mut F (Bor ChildName × Unit {0}) Bool} {f : F}
+    (names : List ChildName) (count : ℕ) → ((q : ChildName → Bool) → ComputesKey g q f → IsPartitionedBy q names
+    → IsPartitionPoint (λ name. q name ≡ true) (λ name. q name ≡ false) names count)
+    → ((a : Bor ChildName × Unit {0}) (r : Bool) (later : F) → Called g f a r later
+    → (r ≡ not (is_later child rank a.0.now)) × (later ≡ f)) → AreInTurn names
+    → find (is_later child rank) names ≡ slice_get names count
+found_parted child rank names count partitioned called turn =
+    found_by_half (is_later child rank) names count
+    (IsPartitionPoint-from_clause (λ name. not (is_later child rank name)) names count partitioned
+    (parted_in_turn child rank names turn) called)
 
 All-filtered : (P : ChildName → Type 0) (p : ChildName → Bool) (names : List ChildName) → All P names
     → All P (filter p names)

@@ -14,6 +14,7 @@ use Rattle.key_scopes.specs.Rising.{by_names}
 use Rattle.key_scopes.specs.Ways.{AreInTurn, Way, is_behind, is_later, leads, next_way, way_in}
 use Rattle.key_scopes.proofs.DotLaws.{behind_dot, cut, leads_short}
 use Rattle.key_scopes.proofs.FirstLaws.{find_is}
+use Rattle.key_scopes.proofs.OptionLaws.{or_assoc}
 use Rattle.key_scopes.proofs.TestLaws.{and_right, same_number}
 use Rattle.key_scopes.proofs.TurnLaws.{all_in_turn, later_trans, not_itself, not_later}
 use Rattle.map_spec.specs.Scopes.{begins, behind, first_found, is_child_of, numbered, own, places, qualified, scope_begun, scopes}
@@ -24,10 +25,6 @@ use Rattle.reader_spec.specs.World.{World}
 first_cons : (x : Option ℕ) (xs : List (Option ℕ)) → first_found (x ∷ xs) ≡ option_or x (first_found xs)
 first_cons None xs = refl
 first_cons (Some x) xs = refl
-
-or_assoc : (a b c : Option ℕ) → option_or (option_or a b) c ≡ option_or a (option_or b c)
-or_assoc None b c = refl
-or_assoc (Some a) b c = refl
 
 first_append : (xs ys : List (Option ℕ)) → first_found (xs ++ ys) ≡ option_or (first_found xs) (first_found ys)
 first_append [] ys = refl

@@ -40,7 +40,7 @@ told_later old new homes grows told =
 
 -- The document that an href names
 
-name_by : (far external empty : Bool) (read : Option (List ℕ)) (name : List ℕ)
+pub name_by : (far external empty : Bool) (read : Option (List ℕ)) (name : List ℕ)
     → (if far || external then Elsewhere else named_by (if empty then None else read)) ≡ Document name
     → (if external then None else read) ≡ Some name
 name_by true external empty read name is = cc
@@ -49,20 +49,21 @@ name_by false false true read name is = cc
 name_by false false false None name is = cc
 name_by false false false (Some other) name is = let same : other ≡ name = cc in ap (λ n. Some n) same
 
-module _ (told : List Told) (element : Element) (href name : List ℕ) (was : IsTold told element)
-    (is : attribute (codes "href") element ≡ Some href) where
-  joined_allowed : name_joined element.doc href ≡ Some name → (roots : List (List ℕ))
-      → IsTrue (is_allowed roots told name)
-  joined_allowed read roots =
+module _ (element : Element) (href name : List ℕ) (is : attribute (codes "href") element ≡ Some href) where
+  pub joined_given : name_joined element.doc href ≡ Some name → IsTrue (is_among (names_of_element element) name)
+  joined_given read =
       let found : option_and_then (name_joined element.doc) (attribute (codes "href") element) ≡ Some name =
       ap (option_and_then (name_joined element.doc)) is ∙ read in
-      let among : IsTrue (is_among (names_of_element element) name) = rw found (among_first name _) in
-      was.allowed roots name among
+      rw found (among_first name _)
 
-  pub may_name : named_of element href ≡ Document name → (roots : List (List ℕ))
-      → IsTrue (is_allowed roots told name)
-  may_name named = joined_allowed
+  pub gives_name : named_of element href ≡ Document name → IsTrue (is_among (names_of_element element) name)
+  gives_name named = joined_given
       (name_by (is_far (unwrap_or (attribute (codes "scope") element) default_scope)) (is_external href) _ _ name named)
+
+pub may_name : (told : List Told) (element : Element) (href name : List ℕ) → IsTold told element
+    → attribute (codes "href") element ≡ Some href → named_of element href ≡ Document name → (roots : List (List ℕ))
+    → IsTrue (is_allowed roots told name)
+may_name told element href name was is named roots = was.allowed roots name (gives_name element href name is named)
 
 -- The document of a target: the file of a reference stands before the first `#`
 
@@ -144,8 +145,9 @@ pub may_target : (told : List Told) (element : Element) (href format scope name 
     → IsTold told element → attribute (codes "href") element ≡ Some href
     → target_by href format scope element.doc ≡ Some (targets.Local name reference) → (roots : List (List ℕ))
     → IsTrue (is_allowed roots told name)
-may_target told element href format scope name reference was is target = joined_allowed told element href name was is
+may_target told element href format scope name reference was is target roots =
+    was.allowed roots name (joined_given element href name is
     (target_read (is_far scope) (is_external href) (bytes_eq format (codes "dita")) href name reference _ _
     (if_read (joined element.doc (file_of href)))
     (topic_read element.doc href name reference (reference_of href) (file_read href))
-    (λ file. no_file _ _ name reference file) target)
+    (λ file. no_file _ _ name reference file) target))

@@ -1,13 +1,12 @@
 -- The documents in which nodes stand, one put behind the other, and the homes of nodes in them.
-use Rattle.std.specs.Prelude.{◌≡◌, ◌+◌, ◌<◌, ◌≤◌, ℕ, zero, suc, Bool, true, false, List, [], ◌∷◌, ◌++◌, Option, Some, None, IfSome, MatchOption, cond, length, map, option_map, slice_get, take}
+use Rattle.std.specs.Prelude.{◌≡◌, ◌+◌, ◌<◌, ◌≤◌, ℕ, Bool, true, false, List, [], ◌∷◌, ◌++◌, Option, Some, None, MatchOption, length, map, option_map, slice_get, take}
 use Rattle.std.specs.Arc.{arc_value}
 use Rattle.std.specs.BTreeMap.{insert_entry, is_at}
 use Rattle.std.specs.Cmp.Lexicographic.{slice_cmp}
 use Rattle.std.specs.Map.{lookup}
-use Rattle.std.specs.Ordering.{is_eq, match_ordering, nat_cmp}
-use Rattle.std.proofs.Common.{Ordering, Less, Equal, Greater, refl, sym, ap, subst, ◌∙◌, arith, append-nil, get_or, length-append}
+use Rattle.std.specs.Ordering.{nat_cmp}
+use Rattle.std.proofs.Common.{refl, sym, ap, subst, ◌∙◌, arith, append-nil, get_or, length-append}
 use Rattle.std.proofs.lemmas.List.{map-append, take_more}
-use Rattle.dita_doc.proofs.NameOrder.{same_from_equal}
 use Rattle.dita_doc.specs.Siblings as siblings
 use Rattle.dita_doc.specs.Siblings.{IsElementAt}
 use Rattle.dita_doc.specs.Tree.{tree_of}
@@ -22,16 +21,13 @@ use Rattle.plan_nodes.specs.HomeDocs.{AreHomesOf, AreKnown, AreWithin, IsDocOf, 
 use Rattle.plan_nodes.specs.declared.homes.Home.{Home}
 use Rattle.plan_nodes.specs.declared.homes.NamedDoc.{NamedDoc}
 use Rattle.plan_nodes.proofs.ElementLaws.{element_found}
-
-get-more : {X : Type 0} (xs more : List X) (k : ℕ) → k < length xs → slice_get (xs ++ more) k ≡ slice_get xs k
-get-more [] more k within = absurd (omega arith)
-get-more (x ∷ xs) more zero within = refl
-get-more (x ∷ xs) more (suc k) within = get-more xs more k (omega arith)
+use Rattle.plan_nodes.proofs.ListLaws.{get_more}
+use Rattle.plan_nodes.proofs.MemoLaws.{IsEach, each_found, each_kept, each_put}
 
 document_more : (docs more : List NamedDoc) (place : Option ℕ) → IsWithin (length docs) place
     → document_at (docs ++ more) place ≡ document_at docs place
 document_more docs more None within = refl
-document_more docs more (Some at) within = ap (option_map written_of) (get-more docs more at within)
+document_more docs more (Some at) within = ap (option_map written_of) (get_more docs more at within)
 
 whole_more : (docs more : List NamedDoc) (home : Option Home) → IsWithin (length docs) (doc_of home)
     → whole_of (docs ++ more) home ≡ whole_of docs home
@@ -49,46 +45,28 @@ within_longer docs more place within =
     within_more (length docs) (length (docs ++ more)) place (omega (arith, length-append docs more)) within
 
 -- what was known before is still known
-known_more : (world : World) (docs more : List NamedDoc) (entries : List Known) → AreKnown world docs entries
-    → AreKnown world (docs ++ more) entries
-known_more world docs more [] known = tt
-known_more world docs more (entry ∷ entries) known = (
-  record {
-    within = within_longer docs more entry.1 known.0.within;
-    is = document_more docs more entry.1 known.0.within ∙ known.0.is;
-  },
-  known_more world docs more entries known.1,
-)
+known_more : (world : World) (docs more : List NamedDoc) (name : List ℕ) (place : Option ℕ)
+    → IsKnown world docs name place → IsKnown world (docs ++ more) name place
+known_more world docs more name place known = record {
+  within = within_longer docs more place known.within;
+  is = document_more docs more place known.within ∙ known.is;
+}
+
+known_each : (world : World) (docs : List NamedDoc) → IsEach (IsKnown world docs) (AreKnown world docs)
+known_each world docs = record {
+  none = tt;
+  first = λ entry more known. known.0;
+  behind = λ entry more known. known.1;
+  both = λ entry more here known. (here, known);
+}
 
 pub known_longer : (world : World) (old new : List NamedDoc) (entries : List Known) → Longer old new
     → AreKnown world old entries → AreKnown world new entries
 known_longer world old new entries longer known =
-    subst (λ docs. AreKnown world docs entries) (sym longer.1) (known_more world old longer.0 entries known)
-
--- A table of places
-
-equal_test : (o : Ordering) → is_eq o ≡ true → o ≡ Equal
-equal_test Equal same = refl
-equal_test Less same = cc
-equal_test Greater same = cc
-
-abbrev Holds : World → List NamedDoc → Known → Type 0
-Holds world docs entry = IsKnown world docs entry.0 entry.1
-
-known_found : (world : World) (docs : List NamedDoc) (name : List ℕ) (entries : List Known)
-    → AreKnown world docs entries
-    → IfSome (lookup (is_at (slice_cmp nat_cmp name)) entries) (IsKnown world docs name)
-known_found world docs name [] known = tt
-known_found world docs name (entry ∷ more) known =
-    by_test (known_found world docs name more known.1) (is_at (slice_cmp nat_cmp name) entry.0) refl
-  where
-    by_test : IfSome (lookup (is_at (slice_cmp nat_cmp name)) more) (IsKnown world docs name) → (test : Bool)
-        → is_at (slice_cmp nat_cmp name) entry.0 ≡ test
-        → IfSome (cond test (Some entry.1) (lookup (is_at (slice_cmp nat_cmp name)) more)) (IsKnown world docs name)
-    by_test behind true same =
-        subst (λ n. IsKnown world docs n entry.1)
-        (sym (same_from_equal name entry.0 (equal_test (slice_cmp nat_cmp name entry.0) same))) known.0
-    by_test behind false same = behind
+    subst (λ docs. AreKnown world docs entries) (sym longer.1)
+    (each_kept (IsKnown world old) (IsKnown world (old ++ longer.0)) (AreKnown world old)
+    (AreKnown world (old ++ longer.0)) (known_each world old) (known_each world (old ++ longer.0))
+    (known_more world old longer.0) entries known)
 
 pub place_found : (world : World) (docs : List NamedDoc) (name : List ℕ) (entries : List Known) (place : Option ℕ)
     → Some place ≡ lookup (is_at (slice_cmp nat_cmp name)) entries → AreKnown world docs entries
@@ -96,24 +74,8 @@ pub place_found : (world : World) (docs : List NamedDoc) (name : List ℕ) (entr
 place_found world docs name entries place is known = record {
   longer = ([], sym (append-nil docs));
   known = known;
-  here = subst (λ found. IfSome found (IsKnown world docs name)) (sym is) (known_found world docs name entries known);
+  here = each_found (IsKnown world docs) (AreKnown world docs) (known_each world docs) name entries place is known;
 }
-
-known_put : (world : World) (docs : List NamedDoc) (name : List ℕ) (place : Option ℕ) (entries : List Known)
-    → AreKnown world docs entries → IsKnown world docs name place
-    → AreKnown world docs (insert_entry (slice_cmp nat_cmp) entries name place)
-known_put world docs name place [] known is = (is, tt)
-known_put world docs name place (entry ∷ more) known is =
-    by_order (known_put world docs name place more known.1 is) (slice_cmp nat_cmp name entry.0) refl
-  where
-    by_order : AreKnown world docs (insert_entry (slice_cmp nat_cmp) more name place) → (o : Ordering)
-        → slice_cmp nat_cmp name entry.0 ≡ o
-        → AreKnown world docs (match_ordering o ((name, place) ∷ entry ∷ more) ((entry.0, place) ∷ more)
-        (entry ∷ insert_entry (slice_cmp nat_cmp) more name place))
-    by_order behind Less same = (is, known)
-    by_order behind Equal same =
-        (subst (λ n. IsKnown world docs n place) (same_from_equal name entry.0 same) is, known.1)
-    by_order behind Greater same = (known.0, behind)
 
 -- a document was put behind the others, and its place into the table
 pub place_put : (world : World) (old new : List NamedDoc) (name key : List ℕ) (place : Option ℕ)
@@ -122,9 +84,8 @@ pub place_put : (world : World) (old new : List NamedDoc) (name key : List ℕ) 
     → IsKnown world new name place → IsDocOf world old new later name place
 place_put world old new name key place entries later longer same is known here = record {
   longer = longer;
-  known = subst (AreKnown world new) (sym is)
-      (known_put world new key place entries (known_longer world old new entries longer known)
-      (subst (λ n. IsKnown world new n place) (sym same) here));
+  known = each_put (IsKnown world new) (AreKnown world new) (known_each world new) name key place entries later same is
+      (known_longer world old new entries longer known) here;
   here = here;
 }
 

@@ -2,9 +2,13 @@ pub mod ElementLaws
 pub mod EndLaws
 pub mod GivenLaws
 pub mod HomeLaws
+pub mod ListLaws
+pub mod MemoLaws
+pub mod PlaceLaws
 pub mod PreorderLaws
 pub mod TableLaws
 pub mod TargetLaws
+pub mod TextSetLaws
 pub mod ToldLaws
 pub mod Walking
 pub mod WordLaws

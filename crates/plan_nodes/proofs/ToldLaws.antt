@@ -62,12 +62,12 @@ docs_told old new docs all name (Some doc) is put told =
 
 -- What an element gives is among what the elements of its document give
 
-among_front : (a b : List (List ℕ)) (m : List ℕ) → IsTrue (is_among a m) → IsTrue (is_among (a ++ b) m)
+pub among_front : (a b : List (List ℕ)) (m : List ℕ) → IsTrue (is_among a m) → IsTrue (is_among (a ++ b) m)
 among_front [] b m among = absurd (false≢true among)
 among_front (name ∷ a) b m among = ⊎_elim (λ here. or_left (bytes_eq name m) _ here)
     (λ there. or_right (bytes_eq name m) _ (among_front a b m there)) (or_cases (bytes_eq name m) _ among)
 
-among_back : (a b : List (List ℕ)) (m : List ℕ) → IsTrue (is_among b m) → IsTrue (is_among (a ++ b) m)
+pub among_back : (a b : List (List ℕ)) (m : List ℕ) → IsTrue (is_among b m) → IsTrue (is_among (a ++ b) m)
 among_back [] b m among = among
 among_back (name ∷ a) b m among = or_right (bytes_eq name m) _ (among_back a b m among)
 

@@ -4,7 +4,7 @@ use Rattle.map_spec.specs.Cascade.{whole_at}
 use Rattle.plan_nodes.specs.Preorder.{HasParentsBefore}
 use Rattle.reader_spec.specs.World.{World}
 use Rattle.attr_cascade.specs.Nearest.{nearest_at, seen}
-use Rattle.attr_cascade.proofs.PlaceLaws.{known}
+use Rattle.plan_nodes.proofs.PlaceLaws.{known}
 use Rattle.attr_cascade.proofs.nearest.nearest_values.Given as goal
 
 abbrev pub invariant-loop-at : goal.invariant-loop-at

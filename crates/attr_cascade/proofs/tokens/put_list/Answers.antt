@@ -1,6 +1,5 @@
-use Rattle.std.proofs.Common.{◌≡◌, ◌∙◌, ap, rules}
+use Rattle.std.proofs.Common.{◌∙◌, ap, rules}
 use Rattle.map_spec.specs.Cascade.{spaced}
-use Rattle.std.specs.Prelude.{length}
 use Rattle.std.specs.Vec.{vec_len}
 use Rattle.attr_cascade.specs.Tokens.{texts}
 use Rattle.attr_cascade.proofs.TextLaws.{some_texts}

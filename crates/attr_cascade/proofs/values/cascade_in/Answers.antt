@@ -1,4 +1,4 @@
-use Rattle.std.proofs.Common.{◌∙◌, ap, arith, subst, sym}
+use Rattle.std.proofs.Common.{arith, subst, sym}
 use Rattle.ditaval_rules.specs.Verdict.{conditional_names}
 use Rattle.map_spec.specs.Cascade.{cascaded}
 use Rattle.attr_cascade.specs.Tokens.{AreTables}

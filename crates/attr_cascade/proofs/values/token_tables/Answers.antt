@@ -1,4 +1,4 @@
-use Rattle.std.proofs.Common.{[], ◌∷◌, List, ℕ, sym, subst}
+use Rattle.std.proofs.Common.{[], ◌∷◌, sym, subst}
 use Rattle.std.specs.Prelude.{codes}
 use Rattle.attr_cascade.specs.Tokens.{AreTables}
 use Rattle.attr_cascade.proofs.values.token_tables.Goals as goal

@@ -2,7 +2,8 @@ use Rattle.std.proofs.Common.{rules, ◌≡◌, ◌∙◌, ◌<◌, ap, sym, sub
 use Rattle.std.specs.Option.{option_or}
 use Rattle.key_scopes.specs.Above.{around_in}
 use Rattle.key_scopes.specs.Rising.{by_names, outermost_from}
-use Rattle.key_scopes.proofs.RisingLaws.{around_within, or_assoc, or_none, one_up}
+use Rattle.key_scopes.proofs.OptionLaws.{or_assoc, or_none}
+use Rattle.key_scopes.proofs.RisingLaws.{around_within, one_up}
 use Rattle.key_scopes.proofs.search.outermost_qualified.Goals as goal
 use Rattle.key_scopes.proofs.search.outermost_qualified.Goals.{in-Some-qualified, in_default-qualified}
 

@@ -1,7 +1,7 @@
 use Rattle.std.proofs.Common.{◌≡◌, arith, length, subst}
 use Rattle.key_scopes.specs.Numbered.{AreNumbered}
 use Rattle.key_scopes.proofs.NumberLaws.{new_numbered, number_put, told_there}
-use Rattle.key_scopes.proofs.PlaceLaws.{node_at}
+use Rattle.plan_nodes.proofs.PlaceLaws.{node_at}
 use Rattle.key_scopes.proofs.numbering.Numbering.of.Goals as goal
 
 pub loop-at-init : goal.loop-at-init
