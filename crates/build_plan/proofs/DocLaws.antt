@@ -1,6 +1,6 @@
 -- The documents in which the nodes of a tree stand: filtering and copying bring in no other.
 use Rattle.std.specs.Prelude.{◌≡◌, ◌+◌, ◌||◌, ℕ, Bool, true, false, List, [], ◌∷◌, ◌++◌, Option, Some, None, IsTrue, bytes_eq, map, option_map, if◌then◌else◌}
-use Rattle.std.specs.List.{flat_map}
+use Rattle.std.specs.List.{AllByRecursion, flat_map}
 use Rattle.std.specs.Option.{option_to_list}
 use Rattle.std.proofs.Common.{refl, sym, ap, subst, ◌∙◌}
 use Rattle.std.proofs.Math.Logic.{⊎_elim}
@@ -9,9 +9,10 @@ use Rattle.std.proofs.lemmas.Slice.Eq.{bytes_eq-Decides}
 use Rattle.dita_doc.specs.declared.content.Rule.{Rule}
 use Rattle.dita_doc.specs.declared.plan.PlanNode.{PlanNode}
 use Rattle.map_spec.specs.Branches.{Branch, all_beside, all_marked, branch_of, branches_of, copied, copies, copy_below, copy_for, ditavalrefs, group_for, has_branches, is_ditavalref, is_map_node, with_scope_names}
-use Rattle.map_spec.specs.Judged.{filtered, is_excluded, judged, kept, whole_of}
+use Rattle.map_spec.specs.Judged.{filtered, is_excluded, kept, whole_of}
 use Rattle.map_spec.specs.MapTree.{Head, MapTree, MapNode, NoNodes, count, nodes_below, trees_beside}
 use Rattle.map_spec.specs.Written.{Whole}
+use Rattle.map_lemmas.proofs.HeadLaws.{AllHeads, each_below, heads_beside, heads_filtered}
 use Rattle.reader_spec.specs.World.{World}
 use Rattle.readers.specs.Founded.{homes, is_among}
 use Rattle.readers.proofs.FoundedLaws.{among_behind, among_first}
@@ -19,16 +20,10 @@ use Rattle.readers.proofs.FoundedLaws.{among_behind, among_first}
 module _ (P : List ℕ → Type 0) where
   -- of the document of each node
   abbrev pub AllIn : MapTree → Type 0
-  AllIn NoNodes = Unit {0}
-  AllIn (MapNode head below more) = P head.doc × AllIn below × AllIn more
+  AllIn tree = AllHeads (λ (head : Head). P head.doc) tree
 
   abbrev pub Each : List PlanNode → Type 0
-  Each [] = Unit {0}
-  Each (node ∷ nodes) = P node.doc × Each nodes
-
-  each_both : (nodes more : List PlanNode) → Each nodes → Each more → Each (nodes ++ more)
-  each_both [] more first second = second
-  each_both (node ∷ nodes) more first second = (first.0, each_both nodes more first.1 second)
+  Each nodes = AllByRecursion (λ (node : PlanNode). P node.doc) nodes
 
   each_first : (nodes more : List PlanNode) → Each (nodes ++ more) → Each nodes
   each_first [] more all = tt
@@ -39,12 +34,8 @@ module _ (P : List ℕ → Type 0) where
   each_second (node ∷ nodes) more all = each_second nodes more all.1
 
   pub each_of : (tree : MapTree) (parent place : ℕ) → AllIn tree → Each (nodes_below parent place tree)
-  each_of NoNodes parent place all = tt
-  each_of (MapNode head below more) parent place all = (
-    all.0,
-    each_both (nodes_below place (place + 1) below) (nodes_below parent (place + 1 + count below) more)
-        (each_of below place (place + 1) all.1) (each_of more parent (place + 1 + count below) all.2),
-  )
+  each_of tree parent place all = each_below (λ (head : Head). P head.doc) (λ (node : PlanNode). P node.doc)
+      (λ head at end is. is) parent place tree all
 
   pub all_of : (tree : MapTree) (parent place : ℕ) → Each (nodes_below parent place tree) → AllIn tree
   all_of NoNodes parent place all = tt
@@ -64,28 +55,9 @@ module _ (P : List ℕ → Type 0) where
 
   -- Filtering
 
-  all_beside_both : (first second : MapTree) → AllIn first → AllIn second → AllIn (trees_beside first second)
-  all_beside_both NoNodes second all others = others
-  all_beside_both (MapNode head below more) second all others =
-      (all.0, all.1, all_beside_both more second all.2 others)
-
-  all_judged : (world : World) (rules : List Rule) (tree : MapTree) → AllIn tree → AllIn (judged world rules tree).tree
-  all_judged world rules NoNodes all = tt
-  all_judged world rules (MapNode head below more) all =
-      by_test (is_excluded world rules head) (all_judged world rules below all.1) (all_judged world rules more all.2)
-    where
-      by_test : (out : Bool) → AllIn (judged world rules below).tree → AllIn (judged world rules more).tree
-          → AllIn (if out then judged world rules more else record {
-            tree = MapNode head (judged world rules below).tree (judged world rules more).tree;
-            faults = (judged world rules below).faults ++ (judged world rules more).faults;
-          }).tree
-      by_test true inner behind = behind
-      by_test false inner behind = (all.0, inner, behind)
-
   pub all_filtered : (world : World) (rules : List Rule) (tree : MapTree) → AllIn tree
       → AllIn (filtered world rules tree).tree
-  all_filtered world rules NoNodes all = tt
-  all_filtered world rules (MapNode head below more) all = (all.0, all_judged world rules below all.1, all.2)
+  all_filtered world rules tree all = heads_filtered (λ (head : Head). P head.doc) world rules tree all
 
   -- Copies
 
@@ -128,13 +100,13 @@ module _ (P : List ℕ → Type 0) where
     all_copies_for : (branches : List Branch) → AllIn (all_beside (map (copy_for world head below) branches))
     all_copies_for [] = tt
     all_copies_for (branch ∷ branches) =
-        all_beside_both (copy_for world head below branch) (all_beside (map (copy_for world head below) branches))
+        heads_beside (λ (own : Head). P own.doc) (copy_for world head below branch) (all_beside (map (copy_for world head below) branches))
         (one_copy branch) (all_copies_for branches)
 
     all_groups : (branches : List Branch) → AllBranches branches → AllIn (all_beside (map (group_for world head below) branches))
     all_groups [] all = tt
     all_groups (branch ∷ branches) all =
-        all_beside_both (group_for world head below branch) (all_beside (map (group_for world head below) branches))
+        heads_beside (λ (own : Head). P own.doc) (group_for world head below branch) (all_beside (map (group_for world head below) branches))
         (one_group branch all.0) (all_groups branches all.1)
 
     all_copies : (branches : List Branch) → AllBranches branches → AllIn (copies world head below branches)
@@ -149,20 +121,20 @@ module _ (P : List ℕ → Type 0) where
         by_test true groups copies_for = (here, groups, tt)
         by_test false groups copies_for = copies_for
 
-  abbrev AllHeads : List Head → Type 0
-  AllHeads [] = Unit {0}
-  AllHeads (head ∷ heads) = P head.doc × AllHeads heads
+  abbrev AllRefs : List Head → Type 0
+  AllRefs [] = Unit {0}
+  AllRefs (head ∷ heads) = P head.doc × AllRefs heads
 
-  all_refs : (tree : MapTree) → AllIn tree → AllHeads (ditavalrefs tree)
+  all_refs : (tree : MapTree) → AllIn tree → AllRefs (ditavalrefs tree)
   all_refs NoNodes all = tt
   all_refs (MapNode head below more) all = by_test (is_ditavalref head.kind) (all_refs more all.2)
     where
-      by_test : (is : Bool) → AllHeads (ditavalrefs more)
-          → AllHeads (if is then head ∷ ditavalrefs more else ditavalrefs more)
+      by_test : (is : Bool) → AllRefs (ditavalrefs more)
+          → AllRefs (if is then head ∷ ditavalrefs more else ditavalrefs more)
       by_test true others = (all.0, others)
       by_test false others = others
 
-  all_read : (world : World) (refs : List Head) → AllHeads refs → AllBranches
+  all_read : (world : World) (refs : List Head) → AllRefs refs → AllBranches
       (flat_map (λ ref. option_to_list (option_map (branch_of world ref) (whole_of world ref))) refs)
   all_read world [] all = tt
   all_read world (ref ∷ refs) all = by_whole (whole_of world ref) (all_read world refs all.1)
@@ -197,4 +169,4 @@ module _ (P : List ℕ → Type 0) where
           (copies world (with_scope_names world head below) (copied world below) (branches_of world head below))
           (copied world more))
       by_test true behind here = behind
-      by_test false behind here = all_beside_both _ _ here behind
+      by_test false behind here = heads_beside (λ (own : Head). P own.doc) _ _ here behind

@@ -4,6 +4,7 @@ pub mod FoundLaws
 pub mod HomeLaws
 pub mod PlanLaws
 pub mod Planning
+pub mod RefLaws
 pub mod StepLaws
 pub mod TellLaws
 pub mod TreeLaws

@@ -25,9 +25,10 @@ use Rattle.branch_copies.specs.Copied.{AreCopied}
 use Rattle.build_plan.specs.Stages.{AreMapNodes, IsMapTree, branched_map, cascaded_map, copied_map, judged_map}
 use Rattle.build_plan.proofs.FoundLaws.{Found, none_of, some_of}
 use Rattle.build_plan.proofs.HomeLaws.{Fewer, fewer_copied, fewer_filtered}
-use Rattle.build_plan.proofs.TreeLaws.{copied_tree, filtered_tree, included_tree, one_root, within}
+use Rattle.build_plan.proofs.TreeLaws.{copied_tree, filtered_tree, included_tree, one_root}
 use Rattle.map_lemmas.proofs.AlikeLaws.{same_shapes}
 use Rattle.map_lemmas.proofs.CarriedLaws.{alike_cascaded, cascaded_carry}
+use Rattle.map_lemmas.proofs.GrownLaws.{within}
 use Rattle.readers.specs.Founded.{homes}
 
 same_made : (a b : List PlanNode) (f h : List Fault) → a ≡ b → f ≡ h

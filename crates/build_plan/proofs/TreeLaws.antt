@@ -11,20 +11,13 @@ use Rattle.map_spec.specs.Included.{included, included_from, is_map, limited, ma
 use Rattle.map_spec.specs.Judged.{filtered, judged}
 use Rattle.map_spec.specs.MapTree.{Grown, Head, MapTree, MapNode, NoNodes, count, trees_beside}
 use Rattle.map_spec.specs.Written.{Whole}
+use Rattle.map_lemmas.proofs.GrownLaws.{included_made}
 use Rattle.plan_nodes.specs.Preorder.{HasOneRoot}
 use Rattle.reader_spec.specs.World.{World}
 use Rattle.build_plan.specs.Stages.{IsMapTree}
 
 pub one_root : (tree : MapTree) → IsMapTree tree → HasOneRoot tree
 one_root tree map = subst HasOneRoot (sym map.is) refl
-
--- a result within a limit is what was limited
-pub within : (limit : ℕ) (grown made : Grown) → limited limit grown ≡ Ok made → grown ≡ made
-within limit grown made is = by_test (nat_le (count grown.tree) limit) is
-  where
-    by_test : (test : Bool) → (if test then Ok grown else Err stops.TooManyNodes) ≡ Ok made → grown ≡ made
-    by_test true same = cc
-    by_test false same = cc
 
 included_map : (limit : ℕ) (world : World) (path : List (List ℕ)) (root : Whole) → IsMapTree (map_included (limit + 1) world path 0 root).tree
 unfolding map_included
@@ -33,21 +26,11 @@ included_map limit world path root =
     subst (λ n. IsMapTree (map_included n world path 0 root).tree) (sym fuel)
     (record { head = _; below = _; is = refl; kind = refl })
 
-included_by : (limit : ℕ) (world : World) (map : List ℕ) (root : Whole) (test : Bool) (grown : Grown)
-    → (if test then limited limit (map_included (limit + 1) world (map ∷ []) 0 root) else Err stops.NotMap) ≡ Ok grown
-    → IsMapTree grown.tree
-included_by limit world map root true grown is =
-    subst (λ (g : Grown). IsMapTree g.tree) (within limit _ grown is) (included_map limit world (map ∷ []) root)
-included_by limit world map root false grown is = cc
-
-included_at : (limit : ℕ) (world : World) (map : List ℕ) (found : Option Whole) (grown : Grown)
-    → included_from limit world map found ≡ Ok grown → IsMapTree grown.tree
-included_at limit world map None grown is = cc
-included_at limit world map (Some root) grown is = included_by limit world map root (is_map root) grown is
-
 pub included_tree : (limit : ℕ) (world : World) (map : List ℕ) (grown : Grown) → included limit world map ≡ Ok grown
     → IsMapTree grown.tree
-included_tree limit world map grown is = included_at limit world map (root_in world map) grown is
+included_tree limit world map grown is =
+    let made = included_made limit world map grown is in
+    subst (λ (g : Grown). IsMapTree g.tree) made.is (included_map limit world (map ∷ []) made.root)
 
 pub filtered_tree : (world : World) (rules : List Rule) (tree : MapTree) → IsMapTree tree
     → IsMapTree (filtered world rules tree).tree

@@ -2,6 +2,7 @@
 
 ghost use Rattle.std.specs.Prelude.{◌≡◌, [], ◌∷◌, IfOk};
 ghost use Rattle.std.specs.Result.{result_map_both};
+ghost use Rattle.build_plan.specs.Documents as documents_spec;
 ghost use Rattle.build_plan.specs.Stages as stages_spec;
 ghost use Rattle.dita_doc.specs.Gives.{Gives};
 ghost use Rattle.map_expand.specs.AskedFor.{AreAsked};
@@ -9,6 +10,7 @@ ghost use Rattle.map_spec.specs.Included as included_spec;
 ghost use Rattle.plan_nodes.specs.Carried.{CarryValues};
 ghost use Rattle.plan_nodes.specs.Preorder.{IsTree};
 ghost use Rattle.reader_spec.specs.World.{World};
+ghost use Rattle.readers.specs.Documents.{AsksOnly};
 ghost use Rattle.readers.specs.Founded as founded_spec;
 ghost use Rattle.readers.specs.Founded.{Grows, StaysFounded};
 ghost use Rattle.readers.specs.Told.{Agrees, Knows};
@@ -43,6 +45,8 @@ pub(crate) fn nodes_of_map<R: Reader>(
         (founded_spec.homes made.nodes)) }
     ensures stand { R.stand reader.new ≡ R.stand reader.old }
     ensures founded { StaysFounded (map.now ∷ []) (R.told reader.old) (R.told reader.new) }
+    ensures asks { AsksOnly documents_spec.plan_targets (map.now ∷ []) (R.told reader.old)
+        (R.told reader.new) }
     ensures grows { Grows (R.told reader.old) (R.told reader.new) }
 {
     let Expanded { nodes, faults } = match branched_nodes(alloc, reader, map, rules) {
@@ -68,6 +72,8 @@ fn branched_nodes<R: Reader>(
         (founded_spec.homes made.nodes)) }
     ensures stand { R.stand reader.new ≡ R.stand reader.old }
     ensures founded { StaysFounded (map.now ∷ []) (R.told reader.old) (R.told reader.new) }
+    ensures asks { AsksOnly documents_spec.plan_targets (map.now ∷ []) (R.told reader.old)
+        (R.told reader.new) }
     ensures grows { Grows (R.told reader.old) (R.told reader.new) }
 {
     let Expanded { nodes, mut faults } = match filtered_nodes(alloc, reader, map, rules) {
@@ -101,6 +107,8 @@ fn filtered_nodes<R: Reader>(
         (founded_spec.homes made.nodes)) }
     ensures stand { R.stand reader.new ≡ R.stand reader.old }
     ensures founded { StaysFounded (map.now ∷ []) (R.told reader.old) (R.told reader.new) }
+    ensures asks { AsksOnly documents_spec.plan_targets (map.now ∷ []) (R.told reader.old)
+        (R.told reader.new) }
     ensures grows { Grows (R.told reader.old) (R.told reader.new) }
 {
     let Expanded { nodes, mut faults } = expand(alloc, reader, map)?;

@@ -8,6 +8,7 @@ ghost use Rattle.key_layer.specs.Ready.{AreReady};
 ghost use Rattle.key_scopes.specs.Made.{IsTableOf};
 ghost use Rattle.map_spec.specs.PlanOf as plan_spec;
 ghost use Rattle.reader_spec.specs.World.{World};
+ghost use Rattle.readers.specs.Documents.{AsksOnly};
 ghost use Rattle.readers.specs.Founded.{Grows, StaysFounded};
 ghost use Rattle.readers.specs.Told.{Agrees, Knows};
 
@@ -42,6 +43,9 @@ pub fn planned<T: Titles>(
         (λ world. ∥ IsTableOf world planned.plan.nodes planned.table ∥₁)) }
     ensures stand { T.stand asker.new ≡ T.stand asker.old }
     ensures founded { StaysFounded (documents_spec.build_names map.now (option_copied val.entry))
+        (T.told asker.old) (T.told asker.new) }
+    ensures asks { AsksOnly documents_spec.plan_targets
+        (documents_spec.build_names map.now (option_copied val.entry))
         (T.told asker.old) (T.told asker.new) }
     ensures grows { Grows (T.told asker.old) (T.told asker.new) }
 {

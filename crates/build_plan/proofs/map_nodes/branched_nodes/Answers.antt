@@ -2,6 +2,8 @@ use Rattle.map_expand.proofs.AskedForLaws.{asked_later, stays_asked}
 use Rattle.readers.proofs.GrowthLaws.{agrees_before}
 use Rattle.build_plan.proofs.HomeLaws.{asked_fewer}
 use Rattle.build_plan.proofs.StepLaws.{branched_gives, branched_stops, copied_nodes_are, fewer_when_copied, judged_stops}
+use Rattle.build_plan.proofs.RefLaws.{are_ditavalrefs}
+use Rattle.build_plan.proofs.TellLaws.{asks_ditavals}
 use Rattle.build_plan.proofs.map_nodes.branched_nodes.Goals as goal
 
 pub returns-in-Err-clause-known : goal.returns-in-Err-clause-known
@@ -45,3 +47,24 @@ returns-clause-asked g c =
 pub returns-clause-founded : goal.returns-clause-founded
 returns-clause-founded g c =
     stays_asked _ _ _ _ _ c.filtered_nodes.ensures.founded c.in-Ok.ensures.asked c.copy_branches.ensures.founded
+
+pub returns-in-Err-copy_branches-clause-asks : goal.returns-in-Err-copy_branches-clause-asks
+returns-in-Err-copy_branches-clause-asks g c =
+    let before = c.filtered_nodes.new.reader in
+    asks_ditavals _ _ _ _ _ c.filtered_nodes.ensures.asks c.in-Ok.ensures.asked
+    (c.copy_branches.ensures.asks (are_ditavalrefs (g.R.Reader.stand before).world c.args.rules.now c.args.map.now c.in-Ok.made
+    (c.in-Ok.ensures.known (g.R.Reader.stand before).world (g.met.R.Reader.agrees before))))
+
+pub returns-in_err-append_faults-clause-asks : goal.returns-in_err-append_faults-clause-asks
+returns-in_err-append_faults-clause-asks g c =
+    let before = c.filtered_nodes.new.reader in
+    asks_ditavals _ _ _ _ _ c.filtered_nodes.ensures.asks c.in-Ok.ensures.asked
+    (c.copy_branches.ensures.asks (are_ditavalrefs (g.R.Reader.stand before).world c.args.rules.now c.args.map.now c.in-Ok.made
+    (c.in-Ok.ensures.known (g.R.Reader.stand before).world (g.met.R.Reader.agrees before))))
+
+pub returns-clause-asks : goal.returns-clause-asks
+returns-clause-asks g c =
+    let before = c.filtered_nodes.new.reader in
+    asks_ditavals _ _ _ _ _ c.filtered_nodes.ensures.asks c.in-Ok.ensures.asked
+    (c.copy_branches.ensures.asks (are_ditavalrefs (g.R.Reader.stand before).world c.args.rules.now c.args.map.now c.in-Ok.made
+    (c.in-Ok.ensures.known (g.R.Reader.stand before).world (g.met.R.Reader.agrees before))))

@@ -2,6 +2,7 @@ use Rattle.map_expand.proofs.AskedForLaws.{asked_later, stays_asked}
 use Rattle.readers.proofs.GrowthLaws.{agrees_before}
 use Rattle.build_plan.proofs.HomeLaws.{asked_fewer}
 use Rattle.build_plan.proofs.StepLaws.{fewer_when_filtered, filtered_gives, filtered_nodes_are}
+use Rattle.build_plan.proofs.TellLaws.{asks_again, asks_maps}
 use Rattle.build_plan.proofs.map_nodes.filtered_nodes.Goals as goal
 
 pub returns-clause-known : goal.returns-clause-known
@@ -39,3 +40,19 @@ returns-in_err-filtered-clause-founded g c =
 pub returns-in_err-append_faults-clause-founded : goal.returns-in_err-append_faults-clause-founded
 returns-in_err-append_faults-clause-founded g c =
     stays_asked _ _ _ _ _ c.expand.ensures.founded c.in_ok-nodes.ensures.asked c.filter_nodes.ensures.founded
+
+pub returns-clause-asks : goal.returns-clause-asks
+returns-clause-asks g c =
+    asks_again _ _ _ _ _ (asks_maps _ _ _ c.expand.ensures.asks) c.in_ok-nodes.ensures.asked c.filter_nodes.ensures.asks
+
+pub returns-in_err-nodes-clause-asks : goal.returns-in_err-nodes-clause-asks
+returns-in_err-nodes-clause-asks g c =
+    asks_maps _ _ _ c.expand.ensures.asks
+
+pub returns-in_err-filtered-clause-asks : goal.returns-in_err-filtered-clause-asks
+returns-in_err-filtered-clause-asks g c =
+    asks_again _ _ _ _ _ (asks_maps _ _ _ c.expand.ensures.asks) c.in_ok-nodes.ensures.asked c.filter_nodes.ensures.asks
+
+pub returns-in_err-append_faults-clause-asks : goal.returns-in_err-append_faults-clause-asks
+returns-in_err-append_faults-clause-asks g c =
+    asks_again _ _ _ _ _ (asks_maps _ _ _ c.expand.ensures.asks) c.in_ok-nodes.ensures.asked c.filter_nodes.ensures.asks

@@ -4,6 +4,7 @@ use Rattle.map_expand.proofs.AskedForLaws.{asked_later, stays_asked}
 use Rattle.readers.proofs.GrowthLaws.{agrees_before}
 use Rattle.build_plan.proofs.HomeLaws.{homes_cascaded}
 use Rattle.build_plan.proofs.StepLaws.{cascaded_gives, cascaded_stand, cascaded_values, copied_parents, copied_stops}
+use Rattle.build_plan.proofs.TellLaws.{asks_again}
 use Rattle.build_plan.proofs.map_nodes.nodes_of_map.Goals as goal
 
 pub returns-in-Err-clause-known : goal.returns-in-Err-clause-known
@@ -48,3 +49,11 @@ returns-clause-asked g c =
     (sym (homes_cascaded world c.in-Ok.made.nodes c.in_ok-nodes.nodes
     (c.in_ok-nodes.ensures.known world agrees (copied_parents world c.args.rules.now c.args.map.now c.in-Ok.made given))))
     (asked_later _ _ _ c.cascade.ensures.grows c.in-Ok.ensures.asked)
+
+pub returns-in_err-nodes-clause-asks : goal.returns-in_err-nodes-clause-asks
+returns-in_err-nodes-clause-asks g c =
+    asks_again _ _ _ _ _ c.branched_nodes.ensures.asks c.in-Ok.ensures.asked c.cascade.ensures.asks
+
+pub returns-clause-asks : goal.returns-clause-asks
+returns-clause-asks g c =
+    asks_again _ _ _ _ _ c.branched_nodes.ensures.asks c.in-Ok.ensures.asked c.cascade.ensures.asks

@@ -4,13 +4,14 @@ use Rattle.std.specs.Result.{result_map_both}
 use Rattle.dita_doc.specs.Gives.{GivesSeen}
 use Rattle.map_spec.specs.PlanOf.{build_rules, few_pages, limits, plan_of, plan_with}
 use Rattle.map_expand.proofs.AskedForLaws.{asked_allowed}
+use Rattle.readers.proofs.DocumentLaws.{asks_after}
 use Rattle.readers.proofs.FoundedLaws.{stays_after}
 use Rattle.readers.proofs.GrowthLaws.{agrees_before, grows_trans}
-use Rattle.build_plan.specs.Documents.{build_names}
+use Rattle.build_plan.specs.Documents.{build_names, plan_targets}
 use Rattle.build_plan.specs.Stages.{cascaded_map, copied_map}
 use Rattle.build_plan.specs.declared.scoped.Planned.{Planned}
 use Rattle.build_plan.proofs.PlanLaws.{no_map, no_nodes, no_rules, stops_by, with_nodes}
-use Rattle.build_plan.proofs.TellLaws.{stays_given, stays_map, stays_val}
+use Rattle.build_plan.proofs.TellLaws.{asks_again, asks_map, asks_root, asks_val, stays_given, stays_map, stays_val}
 use Rattle.build_plan.proofs.steps.planned.Goals as goal
 
 pub returns-in-Some-clause-known : goal.returns-in-Some-clause-known
@@ -98,3 +99,50 @@ pub returns-clause-grows : goal.returns-clause-grows
 returns-clause-grows g c = grows_trans _ _ _ (grows_trans _ _ _
     (grows_trans _ _ _ c.why_no_map.ensures.grows c.rules_of_build.ensures.grows) c.nodes_of_map.ensures.grows)
     c.plan_of_nodes.ensures.grows
+
+pub returns-in_err-stop-clause-asks : goal.returns-in_err-stop-clause-asks
+returns-in_err-stop-clause-asks g c =
+    let name = c.args.map.now in
+    let val = option_copied c.args.val in
+    asks_root name val _ _ c.why_no_map.ensures.asks
+
+pub returns-in-Some-clause-asks : goal.returns-in-Some-clause-asks
+returns-in-Some-clause-asks g c =
+    let name = c.args.map.now in
+    let val = option_copied c.args.val in
+    asks_root name val _ _ c.why_no_map.ensures.asks
+
+pub returns-in-Err-clause-asks : goal.returns-in-Err-clause-asks
+returns-in-Err-clause-asks g c =
+    let name = c.args.map.now in
+    let val = option_copied c.args.val in
+    asks_after _ _ _ _ _ c.why_no_map.ensures.grows (asks_root name val _ _ c.why_no_map.ensures.asks)
+    (asks_val name val _ _ c.rules_of_build.ensures.asks)
+
+pub returns-in-Err-nodes_of_map-clause-asks : goal.returns-in-Err-nodes_of_map-clause-asks
+returns-in-Err-nodes_of_map-clause-asks g c =
+    let name = c.args.map.now in
+    let val = option_copied c.args.val in
+    let first = grows_trans _ _ _ c.why_no_map.ensures.grows c.rules_of_build.ensures.grows in
+    asks_after _ _ _ _ _ first (asks_after _ _ _ _ _ c.why_no_map.ensures.grows (asks_root name val _ _ c.why_no_map.ensures.asks)
+    (asks_val name val _ _ c.rules_of_build.ensures.asks))
+    (asks_map plan_targets name val _ _ c.nodes_of_map.ensures.asks)
+
+pub returns-in_err-append_faults-clause-asks : goal.returns-in_err-append_faults-clause-asks
+returns-in_err-append_faults-clause-asks g c =
+    let name = c.args.map.now in
+    let val = option_copied c.args.val in
+    let first = grows_trans _ _ _ c.why_no_map.ensures.grows c.rules_of_build.ensures.grows in
+    asks_after _ _ _ _ _ first (asks_after _ _ _ _ _ c.why_no_map.ensures.grows (asks_root name val _ _ c.why_no_map.ensures.asks)
+    (asks_val name val _ _ c.rules_of_build.ensures.asks))
+    (asks_map plan_targets name val _ _ c.nodes_of_map.ensures.asks)
+
+pub returns-clause-asks : goal.returns-clause-asks
+returns-clause-asks g c =
+    let name = c.args.map.now in
+    let val = option_copied c.args.val in
+    let first = grows_trans _ _ _ c.why_no_map.ensures.grows c.rules_of_build.ensures.grows in
+    asks_again (build_names name val) _ _ _ _ (asks_after _ _ _ _ _ first (asks_after _ _ _ _ _ c.why_no_map.ensures.grows (asks_root name val _ _ c.why_no_map.ensures.asks)
+    (asks_val name val _ _ c.rules_of_build.ensures.asks))
+    (asks_map plan_targets name val _ _ c.nodes_of_map.ensures.asks))
+    c.in-Ok-nodes_of_map.ensures.asked c.plan_of_nodes.ensures.asks
