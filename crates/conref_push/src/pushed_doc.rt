@@ -1,5 +1,11 @@
 //! A document with its pushes.
 
+ghost use Rattle.std.specs.Prelude.{◌≡◌};
+ghost use Rattle.conref_push.specs.Into as into_spec;
+ghost use Rattle.readers.specs.Documents as documents_spec;
+ghost use Rattle.readers.specs.Documents.{AsksOnly};
+ghost use Rattle.readers.specs.Founded.{Grows, StaysFounded};
+
 use crate::acts::acts;
 use crate::attributes::{attributes_beside, attributes_instead};
 use crate::sources::PushSources;
@@ -8,19 +14,28 @@ use doc_maker::DocMaker;
 use readers::Reader;
 use std::alloc::Global;
 use std::collections::BTreeMap;
+use std::sync::Arc;
 
 /// The document with these pushes into it, if it is stored, without the elements that act. The
-/// documents that the pushes come from are asked for once each.
+/// documents that the pushes come from are asked for once each. It is not said yet which document
+/// it is.
+#[tactic(auto, using(crate::proofs::Telling::telling))]
 pub fn pushed<R: Reader>(
     alloc: Global,
     reader: &mut R,
     doc: &Name,
     pushes: &List<Push>,
-) -> Result<Option<Doc>, NoMemory> {
-    let Some(found) = reader.doc(alloc, doc)? else {
+) -> Result<Option<Doc>, NoMemory>
+    ensures stand { R.stand reader.new ≡ R.stand reader.old }
+    ensures founded { StaysFounded (into_spec.docs_of doc.now pushes.now) (R.told reader.old)
+        (R.told reader.new) }
+    ensures asks { AsksOnly documents_spec.nothing (into_spec.docs_of doc.now pushes.now)
+        (R.told reader.old) (R.told reader.new) }
+    ensures grows { Grows (R.told reader.old) (R.told reader.new) }
+{
+    let Some((found, sources)) = ask_all(alloc, reader, doc, pushes.as_slice())? else {
         return Ok(None);
     };
-    let sources = PushSources::of(alloc, reader, pushes.as_slice())?;
     let by_place = by_place(alloc, pushes.as_slice())?;
     let mut maker = DocMaker::new(alloc);
     let into = PushedInto {
@@ -30,6 +45,28 @@ pub fn pushed<R: Reader>(
     };
     into.put(alloc, &mut maker, Siblings::of(&found))?;
     Ok(Some(maker.finish()))
+}
+
+// Asks for the document, and if it is stored for those that the pushes come from.
+#[tactic(auto, using(crate::proofs::Telling::telling))]
+fn ask_all<R: Reader>(
+    alloc: Global,
+    reader: &mut R,
+    doc: &Name,
+    pushes: &[Push],
+) -> Result<Option<(Arc<Doc>, PushSources)>, NoMemory>
+    ensures stand { R.stand reader.new ≡ R.stand reader.old }
+    ensures founded { StaysFounded (into_spec.docs_of doc.now pushes.now) (R.told reader.old)
+        (R.told reader.new) }
+    ensures asks { AsksOnly documents_spec.nothing (into_spec.docs_of doc.now pushes.now)
+        (R.told reader.old) (R.told reader.new) }
+    ensures grows { Grows (R.told reader.old) (R.told reader.new) }
+{
+    let Some(found) = reader.doc(alloc, doc)? else {
+        return Ok(None);
+    };
+    let sources = PushSources::of(alloc, reader, pushes)?;
+    Ok(Some((found, sources)))
 }
 
 // The pushes by the place that they go to, those to one place in their order.

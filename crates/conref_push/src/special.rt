@@ -1,17 +1,27 @@
 //! Types that specialize others.
 
+ghost use Rattle.std.specs.Prelude.{◌≡◌, ℕ, List};
+ghost use Rattle.dita_doc.specs.ClassValue as class_value_spec;
+ghost use Rattle.doc_elements.specs.Walk as walk_spec;
+ghost use Rattle.page_spec.specs.Pushes as pushes_spec;
+
 use dita_doc::{Node, split_word};
-use doc_elements::tokens_of;
+use doc_elements::{has_types, tokens_of};
 
 /// Whether an element is of the type of another, or of one that specializes it: the types of the
 /// other are the first of its own. An element without a class that can be read is neither.
-pub fn is_special(special: &Node, base: &Node) -> bool {
-    let bases = tokens_of(base);
-    !bases.is_empty() && begins_with(tokens_of(special), bases)
+pub fn is_special(special: &Node, base: &Node) -> bool
+    ensures { (name other : List ℕ) → result ≡ pushes_spec.is_special
+        (walk_spec.element_of name special.now) (walk_spec.element_of other base.now) }
+{
+    has_types(base) && begins_with(tokens_of(special), tokens_of(base))
 }
 
 // Whether the words of a text begin with those of another.
-fn begins_with(text: &[u8], first: &[u8]) -> bool {
+fn begins_with(text: &[u8], first: &[u8]) -> bool
+    ensures { result ≡ pushes_spec.begins_with (class_value_spec.words_of text.now)
+        (class_value_spec.words_of first.now) }
+{
     let mut own = text;
     let mut wanted = first;
     while let Some((word, more)) = split_word(wanted) {

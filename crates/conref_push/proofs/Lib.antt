@@ -1,0 +1,15 @@
+pub mod Telling
+pub mod ActLaws
+pub mod SightLaws
+pub mod SpecialLaws
+pub mod AttributeLaws
+pub mod PlaceLaws
+pub mod DocLaws
+pub mod AmongLaws
+pub mod ReplaceLaws
+pub mod TableLaws
+pub mod SourceLaws
+pub mod FileLaws
+pub mod AimLaws
+pub mod GatherLaws
+pub mod UntouchedLaws

@@ -1,0 +1,42 @@
+use Rattle.std.proofs.Common.{◌∷◌, ◌∙◌, Some, ap, sym}
+use Rattle.dita_doc.specs.Tree.{tree_of}
+use Rattle.dita_doc.specs.declared.doc.Doc.{Doc}
+use Rattle.page_spec.specs.Pushes.{all_pushes}
+use Rattle.readers.proofs.GrowthLaws.{agrees_before, told_answer}
+use Rattle.readers.specs.Told.{document, tree_found}
+use Rattle.topic_find.proofs.TableLaws.{on_ok}
+use Rattle.conref_push.specs.Table.{acts_among}
+use Rattle.conref_push.proofs.AimLaws.{asks_put, stays_put}
+use Rattle.conref_push.proofs.GatherLaws.{gathered_more, gathered_same}
+use Rattle.conref_push.proofs.table.PushTable.put_document.Goals as goal
+
+pub returns-in-Some-clause-known : goal.returns-in-Some-clause-known
+returns-in-Some-clause-known g c = λ world documents agrees gathered.
+    let tree = tree_of c.deref.result.now.nodes in
+    let found = ap tree_found c.in-Some.is ∙ ap (λ (doc : Doc). Some (tree_of doc.nodes)) (sym c.deref.ensures) in
+    let is = told_answer world _ _ _ c.in_ok-doc.ensures.told
+    (agrees_before world _ _ c.put_all.ensures.grows agrees) ∙ found in
+    on_ok _ _ c.put_all.result
+    (λ more. gathered_more world documents c.args.name.now tree c.put_all.new.targets c.put_all.new.self is more)
+    (c.put_all.ensures.known world (all_pushes world documents) (acts_among world documents) agrees gathered)
+
+pub returns-in-Some-clause-founded : goal.returns-in-Some-clause-founded
+returns-in-Some-clause-founded g c =
+    let tree = tree_of c.deref.result.now.nodes in
+    let found = ap tree_found c.in-Some.is ∙ ap (λ (doc : Doc). Some (tree_of doc.nodes)) (sym c.deref.ensures) in
+    stays_put c.args.name.now tree _ _ _ c.in_ok-doc.ensures.founded
+    (c.in_ok-doc.ensures.told ∙ ap (λ t. document c.args.name.now t ∷ g.R.Reader.told c.args.reader.now) found)
+    c.put_all.ensures.founded
+
+pub returns-in-Some-clause-asks : goal.returns-in-Some-clause-asks
+returns-in-Some-clause-asks g c =
+    let tree = tree_of c.deref.result.now.nodes in
+    let found = ap tree_found c.in-Some.is ∙ ap (λ (doc : Doc). Some (tree_of doc.nodes)) (sym c.deref.ensures) in
+    asks_put c.args.name.now tree _ _ _ c.in_ok-doc.ensures.asks
+    (c.in_ok-doc.ensures.told ∙ ap (λ t. document c.args.name.now t ∷ g.R.Reader.told c.args.reader.now) found)
+    c.put_all.ensures.asks
+
+pub returns-in-None-clause-known : goal.returns-in-None-clause-known
+returns-in-None-clause-known g c = λ world documents agrees gathered.
+    gathered_same world documents c.args.name.now c.args.targets.now c.args.self.now
+    (told_answer world _ _ _ c.in_ok-doc.ensures.told agrees ∙ ap tree_found c.in-None.is) gathered

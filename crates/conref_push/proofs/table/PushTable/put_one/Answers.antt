@@ -1,0 +1,21 @@
+use Rattle.std.proofs.Common.{◌∙◌, sym}
+use Rattle.topic_find.proofs.TableLaws.{on_ok}
+use Rattle.conref_push.specs.Sight.{sight_of}
+use Rattle.conref_push.proofs.GatherLaws.{gathered_found, gathered_nowhere}
+use Rattle.conref_push.proofs.table.PushTable.put_one.Goals as goal
+
+pub returns-in-Some-clause-known : goal.returns-in-Some-clause-known
+returns-in-Some-clause-known g c = λ world all acting agrees gathered.
+    c.put.ensures world all acting
+    (gathered_found world all acting c.args.targets.now c.find.new.self c.args.self.now
+    (c.in_ok-target.ensures.docs world agrees gathered.docs) c.in_ok-target.ensures.replaced gathered)
+    (sym c.in-Some.is ∙ c.in_ok-target.ensures.known world agrees gathered.docs)
+
+pub returns-in-None-clause-known : goal.returns-in-None-clause-known
+returns-in-None-clause-known g c = λ world all acting agrees gathered.
+    on_ok _ _ c.put_fault.result
+    (λ tabled. gathered_nowhere world all acting (sight_of c.args.name.now c.args.pushing) c.args.targets.now
+    c.find.new.self c.put_fault.new.self
+    (sym c.in-None.is ∙ c.in_ok-target.ensures.known world agrees gathered.docs)
+    (c.in_ok-target.ensures.docs world agrees gathered.docs) c.in_ok-target.ensures.replaced tabled gathered.replaced)
+    (c.put_fault.ensures all acting gathered.tabled)

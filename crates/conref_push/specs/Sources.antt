@@ -1,0 +1,22 @@
+-- The documents that pushes come from, as they were asked for (own).
+use Rattle.std.specs.Prelude.{◌≡◌, ℕ, List, Option, IsTrue, is_some}
+use Rattle.std.specs.BTreeMap as tree
+use Rattle.std.specs.Cmp.Lexicographic.{slice_cmp}
+use Rattle.std.specs.Ordering.{nat_cmp}
+use Rattle.std.specs.declared.alloc.Global.{Global}
+use Rattle.std.specs.declared.sync.Arc.{Arc}
+use Rattle.conref_push.specs.Targets.{AreKnown}
+use Rattle.conref_push.specs.declared.sources.PushSources.{PushSources}
+use Rattle.dita_doc.specs.declared.doc.Doc.{Doc}
+use Rattle.reader_spec.specs.World.{World}
+use Rattle.readers.specs.Founded.{is_among}
+use Rattle.readers.specs.Told.{tree_found}
+
+abbrev pub IsSource : World → List ℕ → Option (Arc Doc Global) → Type 0
+IsSource world name found = world name ≡ tree_found found
+
+-- the documents of these names, each as it stands
+pub record AreSources (world : World) (names : List (List ℕ)) (sources : PushSources) : Type 0 where
+  pub known : AreKnown (IsSource world) sources.docs
+  pub each : (name : List ℕ) → IsTrue (is_among names name)
+      → IsTrue (is_some (tree.get (slice_cmp nat_cmp) sources.docs name))

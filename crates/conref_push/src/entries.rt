@@ -1,0 +1,100 @@
+//! What is known of each document: what is pushed into it, and what is wrong in it.
+
+ghost use Rattle.std.specs.Prelude.{◌≡◌, [], None, Some, OnOk, IfOk};
+ghost use Rattle.std.specs.Option.{option_copied};
+ghost use Rattle.conref_push.specs.Table as spec;
+
+use dita_doc::{Fault, List, Name, NoMemory, Push};
+use std::alloc::Global;
+use std::collections::BTreeMap;
+
+// What is pushed into a document, the faults that stand in it, and whether an element of it acts.
+#[derive(Debug, Drop)]
+pub(crate) struct Entry {
+    pub pushes: List<Push>,
+    pub faults: List<Fault>,
+    pub acts: bool,
+}
+
+impl Entry {
+    ghost use Rattle.std.specs.Prelude.{◌≡◌};
+    ghost use Rattle.conref_push.specs.Table as spec;
+
+    pub fn touches(&self) -> bool
+        ensures { result ≡ spec.touched_by self.now }
+    {
+        self.acts || !self.pushes.is_empty()
+    }
+}
+
+// The entries of documents by their names.
+#[derive(Debug, Drop)]
+pub(crate) struct Entries {
+    map: BTreeMap<Name, Entry>,
+}
+
+impl Entries {
+    pub fn new(alloc: Global) -> Entries
+        ensures { result.map.entries ≡ [] }
+    {
+        Entries {
+            map: BTreeMap::new(alloc),
+        }
+    }
+
+    pub fn get(&self, name: &Name) -> Option<&Entry>
+        ensures { option_copied result ≡ spec.entry_in self.now name.now }
+    {
+        self.map.get(name)
+    }
+
+    // Puts a push behind the others into a document.
+    pub fn add_push(&mut self, alloc: Global, name: &Name, push: Push) -> Result<(), NoMemory>
+        ensures { OnOk result (spec.IsChanged self.old self.new name.now (spec.with_push push)) }
+    {
+        let mut entry = self.take(alloc, name);
+        entry.pushes.push(push)?;
+        self.put(name, entry)
+    }
+
+    // Puts a fault behind the others that stand in a document.
+    pub fn add_fault(&mut self, alloc: Global, name: &Name, fault: Fault) -> Result<(), NoMemory>
+        ensures { OnOk result (spec.IsChanged self.old self.new name.now
+            (spec.with_fault fault)) }
+    {
+        let mut entry = self.take(alloc, name);
+        entry.faults.push(fault)?;
+        self.put(name, entry)
+    }
+
+    // Notes that an element of a document acts.
+    pub fn set_acts(&mut self, alloc: Global, name: &Name) -> Result<(), NoMemory>
+        ensures { OnOk result (spec.IsChanged self.old self.new name.now spec.with_acts) }
+    {
+        let mut entry = self.take(alloc, name);
+        entry.acts = true;
+        self.put(name, entry)
+    }
+
+    // Takes out the entry of a document, if it has one.
+    fn take(&mut self, alloc: Global, name: &Name) -> Entry
+        ensures entry { result ≡ spec.entry_at self.old name.now }
+        ensures others { spec.HasAt self.old self.new name.now None }
+    {
+        match self.map.remove(name) {
+            Some(entry) => entry,
+            None => Entry {
+                pushes: List::new(alloc),
+                faults: List::new(alloc),
+                acts: false,
+            },
+        }
+    }
+
+    fn put(&mut self, name: &Name, entry: Entry) -> Result<(), NoMemory>
+        ensures { OnOk result (spec.HasAt self.old self.new name.now (Some entry)) }
+    {
+        self.map.insert(name.clone()?, entry)?;
+        Ok(())
+    }
+}
