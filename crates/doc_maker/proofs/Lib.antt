@@ -1,2 +1,5 @@
+pub mod BuildingLaws
 pub mod MadeLaws
+pub mod MakerLaws
 pub mod OriginLaws
+pub mod SeenLaws

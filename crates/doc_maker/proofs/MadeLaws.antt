@@ -1,15 +1,15 @@
 -- Documents in the making: what is put, opened and closed.
-use Rattle.std.specs.Prelude.{◌≡◌, ◌+◌, ◌^◌, ◌<◌, ◌≤◌, ℕ, zero, suc, true, List, [], ◌∷◌, ◌++◌, length, take, drop, nat_lt, reverse}
+use Rattle.std.specs.Prelude.{◌≡◌, ◌+◌, ◌<◌, ◌≤◌, ℕ, zero, suc, true, List, [], ◌∷◌, ◌++◌, length, take, drop, nat_lt}
 use Rattle.std.proofs.Common.{refl, sym, ◌∙◌, ap, subst, arith, append_assoc, length-append, get_or, set}
 use Rattle.std.proofs.lemmas.Bool.{and_parts, ltb-true, lt-ltb, false≢true}
-use Rattle.std.proofs.lemmas.List.{append-nil, take_at, drop_at, length_push, reverse-append}
+use Rattle.std.proofs.lemmas.List.{append-nil, take_at, drop_at}
 use Rattle.dita_doc.specs.declared.doc.Node.{Node}
 use Rattle.dita_doc.specs.declared.doc.NodeKind.{NodeKind}
 use Rattle.dita_doc.specs.declared.doc.NodeKind.TheVariants as kinds
 use Rattle.dita_doc.specs.Siblings.{joined}
 use Rattle.dita_doc.specs.Tree.{Content, End, Chars, Element, size_of, nodes_of, content_of, element_node, is_element, ArePreorder, are_placed, are_places}
-use Rattle.dita_doc.proofs.TreeLaws.{length_nodes, preorder_of_content}
-use Rattle.doc_maker.specs.Made.{AreOpen, IsMade, Made, begins_element, changed_at, ending, leaf_of, made_of, with_end}
+use Rattle.dita_doc.proofs.TreeLaws.{content_of_nodes, length_nodes, preorder_of_content}
+use Rattle.doc_maker.specs.Made.{AreOpen, begins_element, changed_at, ending, with_end}
 
 -- the nodes of one content behind another
 nodes_joined : (c more : Content) (place : ℕ)
@@ -23,20 +23,39 @@ nodes_joined (Element name attributes origin line inside rest) more place =
     let behind : end + size_of rest ≡ place + (1 + (size_of inside + size_of rest)) = omega arith in
     rw (nodes_joined rest more end, append_assoc, behind) refl
 
+-- how many nodes a preorder has
+pub preorder_count : (nodes : List Node) (place : ℕ) → ArePreorder nodes place
+    → length nodes ≡ size_of (content_of nodes place)
+preorder_count nodes place tree = ap length tree ∙ length_nodes (content_of nodes place) place
+
+pub end_of_preorder : (nodes : List Node) (place end : ℕ) → end ≡ place + length nodes → ArePreorder nodes place
+    → end ≡ place + size_of (content_of nodes place)
+end_of_preorder nodes place end is tree = omega (arith, preorder_count nodes place tree, is)
+
+-- the nodes of any content behind a preorder
+nodes_more : (c : Content) (nodes : List Node) (place end : ℕ) → end ≡ place + length nodes → ArePreorder nodes place
+    → nodes_of (joined (content_of nodes place) c) place ≡ nodes ++ nodes_of c end
+nodes_more c nodes place end is tree =
+    let d = content_of nodes place in
+    nodes_joined d c place ∙ ap (λ ns. ns ++ nodes_of c (place + size_of d)) (sym tree)
+    ∙ ap (λ n. nodes ++ nodes_of c n) (sym (end_of_preorder nodes place end is tree))
+
 -- a preorder goes on with any content
 preorder_more : (c : Content) (nodes : List Node) (place end : ℕ) → end ≡ place + length nodes
     → ArePreorder nodes place → ArePreorder (nodes ++ nodes_of c end) place
 preorder_more c nodes place end is tree =
-    let d = content_of nodes place in
-    let count : length nodes ≡ size_of d = ap length tree ∙ length_nodes d place in
-    let there : end ≡ place + size_of d = omega (arith, count, is) in
-    let all : nodes_of (joined d c) place ≡ nodes ++ nodes_of c end =
-    nodes_joined d c place ∙ ap (λ ns. ns ++ nodes_of c (place + size_of d)) (sym tree)
-    ∙ ap (λ n. nodes ++ nodes_of c n) (sym there) in
-    subst (λ ns. ArePreorder ns place) all (preorder_of_content (joined d c) place)
+    subst (λ ns. ArePreorder ns place) (nodes_more c nodes place end is tree)
+    (preorder_of_content (joined (content_of nodes place) c) place)
+
+-- and is that of both contents, one behind the other
+pub content_more : (c : Content) (nodes : List Node) (place end : ℕ) → end ≡ place + length nodes
+    → ArePreorder nodes place → content_of (nodes ++ nodes_of c end) place ≡ joined (content_of nodes place) c
+content_more c nodes place end is tree =
+    ap (λ ns. content_of ns place) (sym (nodes_more c nodes place end is tree))
+    ∙ content_of_nodes (joined (content_of nodes place) c) place
 
 -- an element that stands at a place
-record PartsAt (nodes : List Node) (place : ℕ) : Type 0 where
+pub record PartsAt (nodes : List Node) (place : ℕ) : Type 0 where
   pub node : Node
   pub whole : nodes ≡ take place nodes ++ node ∷ drop (place + 1) nodes
   pub count : length (take place nodes) ≡ place
@@ -55,7 +74,7 @@ parts_next (node ∷ nodes) (suc place) (suc next) is begins =
     let more = parts_next nodes place next (omega arith) begins in
     (more.0, ap (λ ns. node ∷ ns) more.1, ap suc more.2, more.3)
 
-parts_at : (nodes : List Node) (place : ℕ) → begins_element (drop place nodes) ≡ true → PartsAt nodes place
+pub parts_at : (nodes : List Node) (place : ℕ) → begins_element (drop place nodes) ≡ true → PartsAt nodes place
 parts_at nodes place begins =
     let parts = parts_next nodes place (place + 1) refl begins in
     record { node = parts.0; whole = parts.1; count = parts.2; kind = parts.3 }
@@ -72,21 +91,33 @@ open_inside nodes place outer opened =
       parts.count,
     )
 
--- nodes, an element behind them, and what it holds so far
+-- nodes, an element behind them, and what it holds so far: where each stands
+pub record SplitAt (before : List Node) (node : Node) (inside : List Node) (place : ℕ) : Type 0 where
+  pub front : take place (before ++ node ∷ inside) ≡ before
+  pub here : drop place (before ++ node ∷ inside) ≡ node ∷ inside
+  pub back : drop (place + 1) (before ++ node ∷ inside) ≡ inside
+
+pub split_at : (before : List Node) (node : Node) (inside : List Node) (place : ℕ) → length before ≡ place
+    → SplitAt before node inside place
+split_at before node inside place count =
+    let same : before ++ node ∷ inside ≡ (before ++ node ∷ []) ++ inside =
+    sym (append_assoc before (node ∷ []) inside) in
+    record {
+      front = take_at before (node ∷ inside) place count;
+      here = drop_at before (node ∷ inside) place count;
+      back = ap (drop (place + 1)) same ∙ drop_at (before ++ node ∷ []) inside (place + 1)
+          (omega (arith, length-append before (node ∷ []), count));
+    }
+
+-- the element is open, if what it holds is a preorder
 open_with : (before : List Node) (node : Node) (inside : List Node) (place : ℕ) (outer : List ℕ)
     → length before ≡ place → is_element node.kind ≡ true → ArePreorder inside (place + 1) → AreOpen before outer
     → AreOpen (before ++ node ∷ inside) (place ∷ outer)
 open_with before node inside place outer count kind tree opened =
-    let here : drop place (before ++ node ∷ inside) ≡ node ∷ inside = drop_at before (node ∷ inside) place count in
-    let same : before ++ node ∷ inside ≡ (before ++ node ∷ []) ++ inside =
-    sym (append_assoc before (node ∷ []) inside) in
-    let behind : drop (place + 1) (before ++ node ∷ inside) ≡ inside =
-    ap (drop (place + 1)) same ∙ drop_at (before ++ node ∷ []) inside (place + 1)
-    (omega (arith, length-append before (node ∷ []), count)) in
-    let front : take place (before ++ node ∷ inside) ≡ before = take_at before (node ∷ inside) place count in (
-      ap begins_element here ∙ kind,
-      subst (λ ns. ArePreorder ns (place + 1)) (sym behind) tree,
-      subst (λ ns. AreOpen ns outer) (sym front) opened,
+    let split = split_at before node inside place count in (
+      ap begins_element split.here ∙ kind,
+      subst (λ ns. ArePreorder ns (place + 1)) (sym split.back) tree,
+      subst (λ ns. AreOpen ns outer) (sym split.front) opened,
     )
 
 -- any content is put into the innermost element
@@ -144,34 +175,46 @@ element_is node end kind = by_kind node.kind refl
     by_kind kinds.Element is = rw is refl
     by_kind kinds.Chars is = absurd (false≢true (ap is_element (sym is) ∙ kind))
 
--- the innermost element ends behind all that was put
-pub open_closed : (nodes : List Node) (place : ℕ) (outer : List ℕ) → AreOpen nodes (place ∷ outer)
-    → AreOpen (with_end place nodes) outer
-open_closed nodes place outer opened =
+-- the element that stands at a place, with all that stands behind it as what it holds
+abbrev pub element_from : (node : Node) (inside : List Node) → ℕ → Content
+element_from node inside place =
+    Element node.text node.attributes node.origin node.line (content_of inside (place + 1)) End
+
+-- the nodes in which it ends behind all that was put
+pub nodes_ended : (nodes : List Node) (place : ℕ) (outer : List ℕ) (opened : AreOpen nodes (place ∷ outer))
+    → take place nodes
+    ++ nodes_of (element_from (parts_at nodes place opened.0).node (drop (place + 1) nodes) place) place
+    ≡ with_end place nodes
+nodes_ended nodes place outer opened =
     let parts = parts_at nodes place opened.0 in
     let before = take place nodes in
     let inside = drop (place + 1) nodes in
     let node = parts.node in
     let c = content_of inside (place + 1) in
-    let count : length inside ≡ size_of c = ap length opened.1 ∙ length_nodes c (place + 1) in
     let there : length nodes ≡ place + 1 + size_of c = omega (
       arith,
-      count,
+      preorder_count inside (place + 1) opened.1,
       ap length parts.whole,
       length-append before (node ∷ inside),
       parts.count,
     ) in
-    let d = Element node.text node.attributes node.origin node.line c End in
-    let element : ending (length nodes) node ∷ inside ≡ nodes_of d place =
+    let element : ending (length nodes) node ∷ inside ≡ nodes_of (element_from node inside place) place =
     ap (λ n. n ∷ inside) (element_is node (length nodes) parts.kind
     ∙ ap (element_node node.text node.attributes node.origin node.line) there)
     ∙ ap (λ ns. element_node node.text node.attributes node.origin node.line (place + 1 + size_of c) ∷ ns)
     (opened.1 ∙ sym (append-nil (nodes_of c (place + 1)))) in
-    let all : before ++ nodes_of d place ≡ with_end place nodes =
     ap (λ ns. before ++ ns) (sym element)
     ∙ sym (changed_behind before node inside place (ending (length nodes)) parts.count)
-    ∙ ap (changed_at place (ending (length nodes))) (sym parts.whole) in
-    subst (λ ns. AreOpen ns outer) all (open_more d before outer place (sym parts.count) opened.2)
+    ∙ ap (changed_at place (ending (length nodes))) (sym parts.whole)
+
+-- the innermost element ends behind all that was put
+pub open_closed : (nodes : List Node) (place : ℕ) (outer : List ℕ) → AreOpen nodes (place ∷ outer)
+    → AreOpen (with_end place nodes) outer
+open_closed nodes place outer opened =
+    let parts = parts_at nodes place opened.0 in
+    subst (λ ns. AreOpen ns outer) (nodes_ended nodes place outer opened)
+    (open_more (element_from parts.node (drop (place + 1) nodes) place) (take place nodes) outer place
+    (sym parts.count) opened.2)
 
 -- Lists of nodes
 
@@ -205,6 +248,14 @@ placed_push count (first ∷ nodes) node placed below =
     let parts = and_parts (nat_lt first.origin count) (are_placed count nodes) placed in
     rw (parts.0, placed_push count nodes node parts.1 below) refl
 
+pub placed_parts : (count : ℕ) (front back : List Node) → are_placed count (front ++ back) ≡ true
+    → (are_placed count front ≡ true) × (are_placed count back ≡ true)
+placed_parts count [] back placed = (refl, placed)
+placed_parts count (node ∷ front) back placed =
+    let parts = and_parts (nat_lt node.origin count) (are_placed count (front ++ back)) placed in
+    let more = placed_parts count front back parts.1 in
+    (rw (parts.0, more.0) refl, more.1)
+
 pub placed_among_more : (count more : ℕ) (nodes : List Node) → count ≤ more → are_placed count nodes ≡ true
     → are_placed more nodes ≡ true
 placed_among_more count more [] grows placed = refl
@@ -227,57 +278,3 @@ places_among_more count more (place ∷ places) grows placed =
     let parts = and_parts (nat_lt place count) (are_places count places) placed in
     let below : place < more = omega (arith, ltb-true place count parts.0) in
     rw (lt-ltb place more below, places_among_more count more places grows parts.1) refl
-
--- The maker's fields
-
--- there are more names
-pub made_among_more : (names more : List (List ℕ)) (nodes : List Node) (hrefs opened : List ℕ)
-    → length names ≤ length more → IsMade (made_of names nodes hrefs opened) → IsMade (made_of more nodes hrefs opened)
-made_among_more names more nodes hrefs opened grows made = record {
-  tree = made.tree;
-  small = made.small;
-  placed = placed_among_more (length names) (length more) nodes grows made.placed;
-  each = made.each;
-  hrefs = places_among_more (length names) (length more) hrefs grows made.hrefs;
-}
-
--- a node is put, which holds nothing
-pub made_put : (names : List (List ℕ)) (nodes : List Node) (hrefs opened : List ℕ) (was : Made) (node : Node)
-    (href : ℕ) → made_of names nodes hrefs opened ≡ was → IsMade (made_of names nodes hrefs opened)
-    → nodes_of (leaf_of node) (length was.nodes) ≡ node ∷ [] → length was.nodes + 1 < 2 ^ 32
-    → node.origin < length was.names → href < length was.names
-    → IsMade (made_of names (nodes ++ node ∷ []) (hrefs ++ href ∷ []) opened)
-made_put names nodes hrefs opened was node href view made leaf room origin below =
-    let count : length was.nodes ≡ length nodes = ap (λ (m : Made). length m.nodes) (sym view) in
-    let among : length was.names ≡ length names = ap (λ (m : Made). length m.names) (sym view) in
-    record {
-      tree = open_leaf (leaf_of node) node nodes (reverse opened)
-          (subst (λ n. nodes_of (leaf_of node) n ≡ node ∷ []) count leaf) made.tree;
-      small = omega (arith, length_push nodes node, count, room);
-      placed = placed_push (length names) nodes node made.placed (omega (arith, among, origin));
-      each = omega (arith, length_push nodes node, length_push hrefs href, made.each);
-      hrefs = places_push (length names) hrefs href made.hrefs (omega (arith, among, below));
-    }
-
--- the innermost element is taken from those that are open, and ends
-pub made_closed : (names : List (List ℕ)) (nodes : List Node) (hrefs opened outer : List ℕ) (place : ℕ)
-    → IsMade (made_of names nodes hrefs opened) → opened ≡ outer ++ place ∷ []
-    → IsMade (made_of names (with_end place nodes) hrefs outer)
-made_closed names nodes hrefs opened outer place made popped =
-    let places : reverse opened ≡ place ∷ reverse outer =
-    ap reverse popped ∙ reverse-append outer (place ∷ []) in
-    let count = length-changed nodes place (ending (length nodes)) in
-    record {
-      tree = open_closed nodes place (reverse outer) (subst (AreOpen nodes) places made.tree);
-      small = omega (arith, count, made.small);
-      placed = placed_ended (length names) (length nodes) place nodes made.placed;
-      each = made.each ∙ sym count;
-      hrefs = made.hrefs;
-    }
-
--- and stands among the nodes
-pub made_inside : (names : List (List ℕ)) (nodes : List Node) (hrefs opened outer : List ℕ) (place : ℕ)
-    → IsMade (made_of names nodes hrefs opened) → opened ≡ outer ++ place ∷ [] → place < length nodes
-made_inside names nodes hrefs opened outer place made popped =
-    open_inside nodes place (reverse outer)
-    (subst (AreOpen nodes) (ap reverse popped ∙ reverse-append outer (place ∷ [])) made.tree)

@@ -1,50 +1,153 @@
 -- The places of names.
-use Rattle.std.specs.Prelude.{◌≡◌, ◌<◌, ◌≤◌, ℕ, Bool, true, false, List, [], ◌∷◌, ◌++◌, length, Some, IfSome}
-use Rattle.std.proofs.Common.{ap, arith, Ordering, Less, Equal, Greater, cond}
-use Rattle.std.proofs.lemmas.List.{length_push}
-use Rattle.std.specs.BTreeMap.{insert_entry}
-use Rattle.std.specs.Map.{lookup}
-use Rattle.std.specs.Ordering.{match_ordering}
-use Rattle.doc_maker.specs.Made.{AreBelow}
+use Rattle.std.specs.Prelude.{◌≡◌, ◌<◌, ℕ, zero, suc, Bool, true, false, List, [], ◌∷◌, ◌++◌, Option, Some, None, IfSome, cond, length, slice_get}
+use Rattle.std.specs.BTreeMap.{is_at}
+use Rattle.std.specs.Cmp.Lexicographic.{slice_cmp}
+use Rattle.std.specs.Ordering.{is_eq, nat_cmp}
+use Rattle.std.proofs.Common.{◌⊎◌, inl, inr, Ordering, Less, Equal, Greater, refl, sym, ◌∙◌, ap, subst, arith, append_assoc}
+use Rattle.std.proofs.lemmas.List.{append-nil}
+use Rattle.std.proofs.lemmas.Option.{none-some, same_Some}
+use Rattle.dita_doc.proofs.NameOrder.{equal_itself, same_from_equal}
+use Rattle.readers.specs.Named.{name_at}
+use Rattle.doc_maker.specs.Origins.{ArePlaces, EachOnce, IsAbsent, Longer, place_in}
 
--- the place that a name has
-pub below_found : (count : ℕ) (test : List ℕ → Bool) (all : List (List ℕ × ℕ)) → AreBelow count all
-    → IfSome (lookup test all) (λ place. place < count)
-below_found count test [] below = tt
-below_found count test (entry ∷ more) below = by_test (below_found count test more below.1) (test entry.0)
+-- More names
+
+pub longer_same : (names : List (List ℕ)) → Longer names names
+longer_same names = record { more = []; is = sym (append-nil names) }
+
+pub longer_more : (names longer longest : List (List ℕ)) → Longer names longer → Longer longer longest
+    → Longer names longest
+longer_more names longer longest one two = record {
+  more = one.more ++ two.more;
+  is = two.is ∙ ap (λ ns. ns ++ two.more) one.is ∙ append_assoc names one.more two.more;
+}
+
+-- a name stays at its place
+pub stays_in_front : (names more : List (List ℕ)) (place : ℕ) (name : List ℕ) → slice_get names place ≡ Some name
+    → slice_get (names ++ more) place ≡ Some name
+stays_in_front [] more place name is = absurd (none-some name is)
+stays_in_front (first ∷ names) more zero name is = is
+stays_in_front (first ∷ names) more (suc place) name is = stays_in_front names more place name is
+
+pub stays : (names longer : List (List ℕ)) (place : ℕ) (name : List ℕ) → Longer names longer
+    → slice_get names place ≡ Some name → slice_get longer place ≡ Some name
+stays names longer place name grown is =
+    subst (λ ns. slice_get ns place ≡ Some name) (sym grown.is) (stays_in_front names grown.more place name is)
+
+named_in_front : (names more : List (List ℕ)) (place : ℕ) → place < length names
+    → name_at (names ++ more) place ≡ name_at names place
+named_in_front [] more place inside = absurd (omega arith)
+named_in_front (first ∷ names) more zero inside = refl
+named_in_front (first ∷ names) more (suc place) inside = named_in_front names more place (omega arith)
+
+pub named_still : (names longer : List (List ℕ)) (place : ℕ) → Longer names longer → place < length names
+    → name_at longer place ≡ name_at names place
+named_still names longer place grown inside =
+    ap (λ ns. name_at ns place) grown.is ∙ named_in_front names grown.more place inside
+
+-- One name more
+
+pub last_of_pushed : {X : Type 0} (all : List X) (last : X) → slice_get (all ++ last ∷ []) (length all) ≡ Some last
+last_of_pushed [] last = refl
+last_of_pushed (first ∷ all) last = last_of_pushed all last
+
+-- it is the name that stands at a place, or another stood there before
+among_pushed : (names : List (List ℕ)) (name other : List ℕ) (place : ℕ)
+    → slice_get (names ++ name ∷ []) place ≡ Some other
+    → (slice_get names place ≡ Some other) ⊎ ((name ≡ other) × (length names ≡ place))
+among_pushed [] name other zero is = inr (same_Some name other is, refl)
+among_pushed [] name other (suc place) is = absurd (none-some other is)
+among_pushed (first ∷ names) name other zero is = inl is
+among_pushed (first ∷ names) name other (suc place) is = next (among_pushed names name other place is)
   where
-    by_test : IfSome (lookup test more) (λ place. place < count) → (told : Bool)
-        → IfSome (cond told (Some entry.1) (lookup test more)) (λ place. place < count)
-    by_test behind true = below.0
-    by_test behind false = behind
+    next : (slice_get names place ≡ Some other) ⊎ ((name ≡ other) × (length names ≡ place))
+        → (slice_get names place ≡ Some other) ⊎ ((name ≡ other) × (suc (length names) ≡ suc place))
+    next (inl there) = inl there
+    next (inr new) = inr (new.0, ap suc new.1)
 
--- one name more
-pub below_put : (count : ℕ) (order : List ℕ → List ℕ → Ordering) (name : List ℕ) (place : ℕ)
-    (all : List (List ℕ × ℕ)) → AreBelow count all → place < count → AreBelow count (insert_entry order all name place)
-below_put count order name place [] below is = (is, tt)
-below_put count order name place (entry ∷ more) below is =
-    by_order (below_put count order name place more below.1 is) (order name entry.0)
+equal_test : (o : Ordering) → is_eq o ≡ true → o ≡ Equal
+equal_test Equal same = refl
+equal_test Less same = cc
+equal_test Greater same = cc
+
+at_same : (name other : List ℕ) → is_at (slice_cmp nat_cmp name) other ≡ true → name ≡ other
+at_same name other is = same_from_equal name other (equal_test (slice_cmp nat_cmp name other) is)
+
+at_itself : (name : List ℕ) → is_at (slice_cmp nat_cmp name) name ≡ true
+at_itself name = ap is_eq (equal_itself name)
+
+-- the table tells its place, and of other names what it told before
+pub places_put : (names : List (List ℕ)) (name : List ℕ) (old new : List (List ℕ × ℕ)) → ArePlaces names old
+    → IsAbsent names name → ((other : List ℕ) → place_in new other
+    ≡ cond (is_at (slice_cmp nat_cmp name) other) (Some (length names)) (place_in old other))
+    → ArePlaces (names ++ name ∷ []) new
+places_put names name old new are absent put = record { told = told; stands = stands }
   where
-    by_order : AreBelow count (insert_entry order more name place) → (o : Ordering) → AreBelow count (match_ordering o ((name, place) ∷ entry ∷ more)
-        ((entry.0, place) ∷ more) (entry ∷ insert_entry order more name place))
-    by_order behind Less = (is, below)
-    by_order behind Equal = (is, below.1)
-    by_order behind Greater = (below.0, behind)
+    here : (other : List ℕ) → is_at (slice_cmp nat_cmp name) other ≡ true → place_in new other ≡ Some (length names)
+    here other is = put other ∙ ap (λ test. cond test (Some (length names)) (place_in old other)) is
 
--- the names only grow
-pub below_more : (count more : ℕ) (all : List (List ℕ × ℕ)) → count ≤ more → AreBelow count all → AreBelow more all
-below_more count more [] grows below = tt
-below_more count more (entry ∷ all) grows below = (omega (arith, below.0), below_more count more all grows below.1)
+    apart : (other : List ℕ) → is_at (slice_cmp nat_cmp name) other ≡ false → place_in new other ≡ place_in old other
+    apart other is = put other ∙ ap (λ test. cond test (Some (length names)) (place_in old other)) is
 
-pub below_push : (names more : List (List ℕ)) (name : List ℕ) (all : List (List ℕ × ℕ)) → more ≡ names ++ name ∷ []
-    → AreBelow (length names) all → AreBelow (length more) all
-below_push names more name all is below =
-    below_more (length names) (length more) all (omega (arith, ap length is, length_push names name)) below
+    told_before : (other : List ℕ) (place : ℕ) → slice_get names place ≡ Some other → (test : Bool)
+        → is_at (slice_cmp nat_cmp name) other ≡ test → place_in new other ≡ Some place
+    told_before other place there true is =
+        absurd (absent place (there ∙ ap Some (sym (at_same name other is))))
+    told_before other place there false is = apart other is ∙ are.told other place there
 
--- one name more, with its place
-pub below_push_put : (order : List ℕ → List ℕ → Ordering) (names more : List (List ℕ)) (name key : List ℕ) (place : ℕ)
-    (all : List (List ℕ × ℕ)) → more ≡ names ++ name ∷ [] → place ≡ length names → AreBelow (length names) all
-    → AreBelow (length more) (insert_entry order all key place)
-below_push_put order names more name key place all is at below =
-    below_put (length more) order key place all (below_push names more name all is below)
-    (omega (arith, ap length is, length_push names name, at))
+    told_by : (other : List ℕ) (place : ℕ)
+        → (slice_get names place ≡ Some other) ⊎ ((name ≡ other) × (length names ≡ place))
+        → place_in new other ≡ Some place
+    told_by other place (inl there) = told_before other place there (is_at (slice_cmp nat_cmp name) other) refl
+    told_by other place (inr last) = subst (λ n. place_in new n ≡ Some place) last.0
+        (here name (at_itself name) ∙ ap Some last.1)
+
+    told : (other : List ℕ) (place : ℕ) → slice_get (names ++ name ∷ []) place ≡ Some other
+        → place_in new other ≡ Some place
+    told other place is = told_by other place (among_pushed names name other place is)
+
+    stands_by : (other : List ℕ) (place : ℕ) → place_in new other ≡ Some place → (test : Bool)
+        → is_at (slice_cmp nat_cmp name) other ≡ test → slice_get (names ++ name ∷ []) place ≡ Some other
+    stands_by other place is true same =
+        let at : length names ≡ place = same_Some (length names) place (sym (here other same) ∙ is) in
+        ap (slice_get (names ++ name ∷ [])) (sym at) ∙ last_of_pushed names name ∙ ap Some (at_same name other same)
+    stands_by other place is false same =
+        stays_in_front names (name ∷ []) place other (are.stands other place (sym (apart other same) ∙ is))
+
+    stands : (other : List ℕ) (place : ℕ) → place_in new other ≡ Some place
+        → slice_get (names ++ name ∷ []) place ≡ Some other
+    stands other place is = stands_by other place is (is_at (slice_cmp nat_cmp name) other) refl
+
+-- the name that is put is a copy, and stands behind the others
+pub places_pushed : (names more : List (List ℕ)) (name key copy : List ℕ) (place : ℕ) (old new : List (List ℕ × ℕ))
+    → ArePlaces names old → IsAbsent names name → key ≡ name → copy ≡ name → more ≡ names ++ copy ∷ []
+    → place ≡ length names → ((other : List ℕ) → place_in new other
+    ≡ cond (is_at (slice_cmp nat_cmp key) other) (Some place) (place_in old other)) → ArePlaces more new
+places_pushed names more name key copy place old new are absent of_key of_copy is at put =
+    subst (λ ns. ArePlaces ns new) (sym (is ∙ ap (λ n. names ++ n ∷ []) of_copy))
+    (places_put names name old new are absent (λ other. put other
+    ∙ ap (λ n. cond (is_at (slice_cmp nat_cmp n) other) (Some place) (place_in old other)) of_key
+    ∙ ap (λ n. cond (is_at (slice_cmp nat_cmp name) other) (Some n) (place_in old other)) at))
+
+-- and has this place
+pub pushed_at : (names more : List (List ℕ)) (name copy : List ℕ) (place : ℕ) → copy ≡ name
+    → more ≡ names ++ copy ∷ [] → place ≡ length names → slice_get more place ≡ Some name
+pushed_at names more name copy place of_copy is at =
+    ap (λ ns. slice_get ns place) is ∙ ap (slice_get (names ++ copy ∷ [])) at ∙ last_of_pushed names copy
+    ∙ ap Some of_copy
+
+-- Looking a name up
+
+pub found_stands : (names : List (List ℕ)) (table : List (List ℕ × ℕ)) (name : List ℕ) (found : Option ℕ)
+    → ArePlaces names table → found ≡ place_in table name → IfSome found (λ place. slice_get names place ≡ Some name)
+found_stands names table name None are is = tt
+found_stands names table name (Some place) are is = are.stands name place (sym is)
+
+pub missing_absent : (names : List (List ℕ)) (table : List (List ℕ × ℕ)) (name : List ℕ) → ArePlaces names table
+    → place_in table name ≡ None → IsAbsent names name
+missing_absent names table name are none place is = none-some place (sym none ∙ are.told name place is)
+
+-- no name stands at two places, since the table tells one
+pub once_by_table : (names : List (List ℕ)) (table : List (List ℕ × ℕ)) → ArePlaces names table → EachOnce names
+once_by_table names table are name one other here there =
+    same_Some one other (sym (are.told name one here) ∙ are.told name other there)

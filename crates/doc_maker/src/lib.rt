@@ -1,7 +1,8 @@
 //! Documents made node by node.
 //!
-//! What is used above it: what a `DocMaker` gives at its end is a document, whatever was put into
-//! it: its nodes are the preorder of a tree, and their origins are among its names.
+//! What is used above it: what a `DocMaker` gives at its end is the document of what was put into
+//! it, each node with the document that it was written in, and resolved content also with the
+//! document of each href.
 #![tactic(auto)]
 
 mod maker;

@@ -1,8 +1,11 @@
 //! The maker of documents.
 
-ghost use Rattle.std.specs.Prelude.{◌≡◌, ◌+◌, ◌<◌, ◌^◌, [], ◌∷◌, length, drop, IfOk, OnOk};
-ghost use Rattle.dita_doc.specs.Tree as tree_spec;
-ghost use Rattle.doc_maker.specs.Made as spec;
+ghost use Rattle.std.specs.Prelude.{◌≡◌, ◌+◌, ◌<◌, ◌^◌, [], ◌∷◌, ◌++◌, length, IfOk, OnErr, OnOk};
+ghost use Rattle.doc_maker.specs.Building as spec;
+ghost use Rattle.doc_maker.specs.Made as made_spec;
+ghost use Rattle.doc_maker.specs.Origins as origins_spec;
+ghost use Rattle.map_spec.specs.Written as written_spec;
+ghost use Rattle.readers.specs.Named as named_spec;
 
 use crate::origins::Origins;
 use dita_doc::{Attribute, Doc, Fault, List, Name, NoMemory, Node, NodeKind, Resolved, Text};
@@ -25,18 +28,20 @@ pub struct DocMaker {
 }
 
 impl Model for DocMaker {
-    ghost use Rattle.doc_maker.specs.Made as made_spec;
+    ghost use Rattle.doc_maker.specs.Made as fields_spec;
 
-    ghost Value = { made_spec.Made };
+    ghost Value = { fields_spec.Made };
 
-    ghost view = { λ m. made_spec.made_of m.origins m.nodes.items m.hrefs.items m.opened.items };
+    ghost view = { λ m. fields_spec.made_of m.origins m.nodes.items m.hrefs.items m.opened.items };
 
-    ghost invariant = { λ m. made_spec.IsMade
-        (made_spec.made_of m.origins m.nodes.items m.hrefs.items m.opened.items) };
+    ghost invariant = { λ m. fields_spec.IsMade
+        (fields_spec.made_of m.origins m.nodes.items m.hrefs.items m.opened.items) };
 }
 
 impl DocMaker {
-    pub fn new(alloc: Global) -> Self {
+    pub fn new(alloc: Global) -> Self
+        ensures { made_spec.building result ≡ spec.nothing }
+    {
         DocMaker {
             origins: Origins::new(alloc),
             nodes: Vec::new(alloc),
@@ -47,32 +52,38 @@ impl DocMaker {
 
     /// How many nodes were put.
     pub fn count(&self) -> usize
-        ensures { result ≡ length self.now.nodes }
+        ensures { result ≡ spec.count (made_spec.building self.now) }
     {
         self.nodes.len()
     }
 
     /// How many elements are open.
     pub fn depth(&self) -> usize
-        ensures { result ≡ length self.now.opened }
+        ensures { result ≡ spec.depth (made_spec.building self.now) }
     {
         self.opened.len()
     }
 
     /// Puts a text that was written in the document of this name. It is out of memory if there are
     /// 2^32 - 1 nodes.
-    pub fn put_chars(&mut self, alloc: Global, text: Text, origin: &Name) -> Result<(), NoMemory> {
-        let origin = self.origins.place(origin)?;
-        let end = self.next_end()?;
+    pub fn put_chars(&mut self, alloc: Global, text: Text, origin: &Name) -> Result<(), NoMemory>
+        ensures put { OnOk result (made_spec.building self.new
+            ≡ spec.behind (made_spec.building self.old)
+            (written_spec.Chars text origin.now written_spec.End)) }
+        ensures failed { OnErr result (made_spec.building self.new ≡ made_spec.building self.old) }
+    {
+        let home = self.origins.place(origin)?;
+        let end = next_end(self.nodes.len())?;
         let node = Node {
             kind: NodeKind::Chars,
             text,
             attributes: List::new(alloc),
-            origin,
+            origin: home,
             line: 0,
             end,
         };
-        self.put(node, origin)
+        put(&mut self.nodes, &mut self.hrefs, node, home)?;
+        Ok(())
     }
 
     /// Opens an element of this name, which was written in a line of the document `origin`, and its
@@ -84,26 +95,37 @@ impl DocMaker {
         origin: &Name,
         line: u32,
         href_doc: &Name,
-    ) -> Result<(), NoMemory> {
-        let origin = self.origins.place(origin)?;
+    ) -> Result<(), NoMemory>
+        ensures opened { OnOk result (made_spec.building self.new
+            ≡ spec.opened (made_spec.building self.old)
+            (spec.element name attributes origin.now line href_doc.now)) }
+        ensures failed { OnErr result (made_spec.building self.new ≡ made_spec.building self.old) }
+    {
+        let home = self.origins.place(origin)?;
         let href = self.origins.place(href_doc)?;
-        let end = self.next_end()?;
+        let place = self.nodes.len();
+        let end = next_end(place)?;
         let node = Node {
             kind: NodeKind::Element,
             text: name,
             attributes,
-            origin,
+            origin: home,
             line,
             end,
         };
-        self.put(node, href)?;
         self.opened.push(end - 1)?;
-        Ok(())
+        match put(&mut self.nodes, &mut self.hrefs, node, href) {
+            Ok(()) => Ok(()),
+            Err(stop) => {
+                self.opened.pop();
+                Err(stop)
+            }
+        }
     }
 
     /// Closes the element opened last that is open, if one is. It takes no memory.
     pub fn close(&mut self)
-        ensures { self.new.opened ≡ drop 1 self.old.opened }
+        ensures { made_spec.building self.new ≡ spec.closed (made_spec.building self.old) }
     {
         if let Some(place) = self.opened.pop() {
             set_end(&mut self.nodes, place as usize);
@@ -111,7 +133,11 @@ impl DocMaker {
     }
 
     /// The document, with all elements closed. It takes no memory.
-    pub fn finish(self) -> Doc {
+    pub fn finish(self) -> Doc
+        ensures content { named_spec.named_tree result ≡ spec.own_hrefs
+            (spec.whole (made_spec.building self)) }
+        ensures once { origins_spec.EachOnce result.origins }
+    {
         let mut maker = self;
         maker.close_all();
         let DocMaker { origins, nodes, .. } = maker;
@@ -122,7 +148,13 @@ impl DocMaker {
     }
 
     /// The same as resolved content, of which so many nodes were resolved.
-    pub fn finish_resolved(self, count: u32, faults: List<Fault>) -> Resolved {
+    pub fn finish_resolved(self, count: u32, faults: List<Fault>) -> Resolved
+        ensures content { made_spec.resolved_tree result
+            ≡ spec.whole (made_spec.building self) }
+        ensures once { origins_spec.EachOnce result.doc.origins }
+        ensures count { result.count ≡ count }
+        ensures faults { result.faults ≡ faults }
+    {
         let mut maker = self;
         maker.close_all();
         let DocMaker {
@@ -143,38 +175,39 @@ impl DocMaker {
     }
 
     fn close_all(&mut self)
-        ensures { self.new.opened ≡ [] }
+        ensures { made_spec.building self.new
+            ≡ spec.Top (spec.whole (made_spec.building self.old)) }
     {
         while self.depth() > 0 {
             self.close();
         }
     }
+}
 
-    // The place behind a node that is put next and holds nothing.
-    fn next_end(&self) -> Result<u32, NoMemory>
-        ensures end { IfOk result (λ end. end ≡ length self.now.nodes + 1) }
-    {
-        if self.nodes.len() >= NODE_LIMIT {
-            return Err(NoMemory);
-        }
-        Ok(self.nodes.len() as u32 + 1)
+// The place behind a node that is put behind so many and holds nothing.
+fn next_end(count: usize) -> Result<u32, NoMemory>
+    ensures end { IfOk result (λ end. end ≡ count + 1) }
+    ensures small { IfOk result (λ end. end < 2 ^ 32) }
+{
+    if count >= NODE_LIMIT {
+        return Err(NoMemory);
     }
+    Ok(count as u32 + 1)
+}
 
-    // Puts a node that holds nothing, with the origin of its href. Without memory nothing is put.
-    fn put(&mut self, node: Node, href: u32) -> Result<(), NoMemory>
-        requires leaf { tree_spec.nodes_of (spec.leaf_of node) (length self.old.nodes) ≡ node ∷ [] }
-        requires room { length self.old.nodes + 1 < 2 ^ 32 }
-        requires origin { node.origin < length self.old.names }
-        requires href { href < length self.old.names }
-        ensures { OnOk result (self.new ≡ spec.with_node node href self.old) }
-    {
-        self.hrefs.push(href)?;
-        match self.nodes.push(node) {
-            Ok(()) => Ok(()),
-            Err(_) => {
-                self.hrefs.pop();
-                Err(NoMemory)
-            }
+// Puts a node behind the others, with the origin of its href. Without memory nothing is put.
+fn put(nodes: &mut Vec<Node>, hrefs: &mut Vec<u32>, node: Node, href: u32) -> Result<(), NoMemory>
+    ensures nodes { OnOk result (nodes.new.items ≡ nodes.old.items ++ node ∷ []) }
+    ensures hrefs { OnOk result (hrefs.new.items ≡ hrefs.old.items ++ href ∷ []) }
+    ensures no_nodes { OnErr result (nodes.new.items ≡ nodes.old.items) }
+    ensures no_hrefs { OnErr result (hrefs.new.items ≡ hrefs.old.items) }
+{
+    hrefs.push(href)?;
+    match nodes.push(node) {
+        Ok(()) => Ok(()),
+        Err(_) => {
+            hrefs.pop();
+            Err(NoMemory)
         }
     }
 }
@@ -183,7 +216,7 @@ impl DocMaker {
 fn set_end(nodes: &mut Vec<Node>, place: usize)
     requires inside { place < length nodes.old.items }
     requires room { length nodes.old.items < 2 ^ 32 }
-    ensures { nodes.new.items ≡ spec.with_end place nodes.old.items }
+    ensures { nodes.new.items ≡ made_spec.with_end place nodes.old.items }
 {
     let end = nodes.len() as u32;
     nodes[place].end = end;

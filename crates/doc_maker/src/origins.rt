@@ -1,6 +1,7 @@
 //! The documents in which nodes were written.
 
-ghost use Rattle.std.specs.Prelude.{◌≡◌, ◌<◌, ◌≤◌, [], length, IfOk, IfSome};
+ghost use Rattle.std.specs.Prelude.{◌≡◌, [], slice_get, Some, IfNone, IfOk, IfSome, OnErr};
+ghost use Rattle.doc_maker.specs.Origins as spec;
 
 use dita_doc::{List, Name, NoMemory};
 use std::alloc::Global;
@@ -10,24 +11,24 @@ use std::marker::Model;
 // The most names.
 const ORIGIN_LIMIT: usize = u32::MAX as usize;
 
-// Names, each of which has a place among them.
+// Names, each once, with their places.
 #[derive(Debug, Drop)]
 pub(crate) struct Origins {
-    names: List<Name>,
+    names: Vec<Name>,
     places: BTreeMap<Name, u32>,
     // The place that was asked for last. The nodes of one document mostly stand together.
     last: u32,
 }
 
 impl Model for Origins {
-    ghost use Rattle.std.specs.Prelude.{List, ℕ, length};
-    ghost use Rattle.doc_maker.specs.Made as made_spec;
+    ghost use Rattle.std.specs.Prelude.{List, ℕ};
+    ghost use Rattle.doc_maker.specs.Origins as origins_spec;
 
     ghost Value = { List (List ℕ) };
 
-    ghost view = { λ o. o.names };
+    ghost view = { λ o. o.names.items };
 
-    ghost invariant = { λ o. made_spec.AreBelow (length o.names) o.places.entries };
+    ghost invariant = { λ o. origins_spec.ArePlaces o.names.items o.places.entries };
 }
 
 impl Origins {
@@ -35,7 +36,7 @@ impl Origins {
         ensures { result ≡ [] }
     {
         Origins {
-            names: List::new(alloc),
+            names: Vec::new(alloc),
             places: BTreeMap::new(alloc),
             last: 0,
         }
@@ -43,8 +44,8 @@ impl Origins {
 
     // The place of a name, which is put behind the others if it is new.
     pub fn place(&mut self, name: &Name) -> Result<u32, NoMemory>
-        ensures place { IfOk result (λ place. place < length self.new) }
-        ensures grows { length self.old ≤ length self.new }
+        ensures place { IfOk result (λ place. slice_get self.new place ≡ Some name.now) }
+        ensures grows { spec.Longer self.old self.new }
     {
         let place = match self.find(name) {
             Some(place) => place,
@@ -55,20 +56,24 @@ impl Origins {
     }
 
     // The place of a name that is there.
-    #[tactic(auto, using(crate::proofs::OriginLaws::below_found))]
     fn find(&self, name: &Name) -> Option<u32>
-        ensures { IfSome result (λ place. place < length self.now) }
+        ensures place { IfSome result (λ place. slice_get self.now place ≡ Some name.now) }
+        ensures absent { IfNone result (spec.IsAbsent self.now name.now) }
     {
-        if self.names.as_slice().get(self.last as usize) == Some(name) {
-            return Some(self.last);
+        if let Some(last) = self.names.as_slice().get(self.last as usize) {
+            if last == name {
+                return Some(self.last);
+            }
         }
         self.places.get(name).copied()
     }
 
-    // Puts a name behind the others.
+    // Puts a name behind the others. Without memory they stay as they were.
     fn put(&mut self, name: &Name) -> Result<u32, NoMemory>
-        ensures place { IfOk result (λ place. place < length self.new) }
-        ensures grows { length self.old ≤ length self.new }
+        requires absent { spec.IsAbsent self.old name.now }
+        ensures place { IfOk result (λ place. slice_get self.new place ≡ Some name.now) }
+        ensures grows { spec.Longer self.old self.new }
+        ensures failed { OnErr result (self.new ≡ self.old) }
     {
         if self.names.len() >= ORIGIN_LIMIT {
             return Err(NoMemory);
@@ -76,14 +81,21 @@ impl Origins {
         let place = self.names.len() as u32;
         let key = name.clone()?;
         self.names.push(name.clone()?)?;
-        self.places.insert(key, place)?;
+        match self.places.insert(key, place) {
+            Ok(_) => {}
+            Err(_) => {
+                self.names.pop();
+                return Err(NoMemory);
+            }
+        }
         Ok(place)
     }
 
     pub fn into_names(self) -> List<Name>
-        ensures { result ≡ self }
+        ensures names { result ≡ self }
+        ensures once { spec.EachOnce result }
     {
         let Origins { names, .. } = self;
-        names
+        List::from_vec(names)
     }
 }

@@ -1,22 +1,18 @@
-use Rattle.std.proofs.Common.{◌≡◌, sym, subst, length, rules, ◌++◌, ◌∷◌, []}
-use Rattle.std.specs.Cmp.Lexicographic.{slice_cmp}
-use Rattle.std.specs.Ordering.{nat_cmp}
-use Rattle.doc_maker.specs.Made.{AreBelow}
-use Rattle.doc_maker.proofs.OriginLaws.{below_push, below_push_put}
+use Rattle.std.proofs.Common.{◌≡◌, length, rules, subst, sym}
+use Rattle.doc_maker.specs.Origins as spec
+use Rattle.doc_maker.proofs.OriginLaws.{places_pushed, pushed_at}
 use Rattle.doc_maker.proofs.origins.Origins.put.Goals as goal
 
-pub invariant_of-self-in_err-insert : goal.invariant_of-self-in_err-insert
-invariant_of-self-in_err-insert c =
-    let more : c.push.new.self ≡ c.self.inside.names ++ c.in_ok-clone.field-0 ∷ [] = search rules in
-    let same : c.insert.new.self.entries ≡ c.self.inside.places.entries = search rules in
-    subst (AreBelow (length c.push.new.self)) (sym same)
-    (below_push c.self.inside.names c.push.new.self c.in_ok-clone.field-0 c.self.inside.places.entries more
-    c.self.invariant)
+pub invariant_of-self-in-Ok : goal.invariant_of-self-in-Ok
+invariant_of-self-in-Ok c =
+    let at : c.len-place.result ≡ length c.self.inside.names.items = search rules in
+    places_pushed c.self.inside.names.items c.push.new.self.items c.args.name.now c.in_ok-key.key c.in_ok-clone.field-0
+    c.len-place.result c.self.inside.places.entries c.insert.new.self.entries c.self.invariant
+    (subst (λ ns. spec.IsAbsent ns c.args.name.now) (sym c.self.view_is) c.requires.absent)
+    c.in_ok-key.ensures.cases c.in_ok-clone.ensures.cases c.in_ok-push.ensures.items at c.in-Ok.ensures.updates.0
 
-pub invariant_of-self-2 : goal.invariant_of-self-2
-invariant_of-self-2 c =
-    let more : c.push.new.self ≡ c.self.inside.names ++ c.in_ok-clone.field-0 ∷ [] = search rules in
-    let place : c.len-place.result ≡ length c.self.inside.names = search rules in
-    subst (AreBelow (length c.push.new.self)) (sym c.in_ok-insert.ensures.entries)
-    (below_push_put (slice_cmp nat_cmp) c.self.inside.names c.push.new.self c.in_ok-clone.field-0 c.in_ok-key.key
-    c.len-place.result c.self.inside.places.entries more place c.self.invariant)
+pub returns-clause-place : goal.returns-clause-place
+returns-clause-place c =
+    let at : c.len-place.result ≡ length c.self.inside.names.items = search rules in
+    pushed_at c.self.inside.names.items c.push.new.self.items c.args.name.now c.in_ok-clone.field-0 c.len-place.result
+    c.in_ok-clone.ensures.cases c.in_ok-push.ensures.items at
