@@ -1,9 +1,9 @@
 //! What is found once for all pages of a build.
 
-use crate::page_table::PageTable;
 use crate::push_memo::PushMemo;
 use dita_doc::{NoMemory, Plan};
 use key_layer::KeyMemo;
+use page_table::PageTable;
 use readers::Reader;
 use std::alloc::Global;
 

@@ -10,7 +10,6 @@ mod faults;
 mod gathered;
 mod ground;
 mod hrefs;
-mod page_table;
 mod parts;
 mod plan_asker;
 mod push_memo;

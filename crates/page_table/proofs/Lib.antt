@@ -1,0 +1,3 @@
+mod KeyLaws
+mod PlaceLaws
+mod PageLaws
