@@ -13,3 +13,11 @@ pub mod FileLaws
 pub mod AimLaws
 pub mod GatherLaws
 pub mod UntouchedLaws
+pub mod MakingLaws
+pub mod EachLaws
+pub mod OwnLaws
+pub mod GivenLaws
+pub mod SameLaws
+pub mod GroupLaws
+pub mod AskedLaws
+pub mod AllowedLaws

@@ -6,3 +6,4 @@ pub mod Targets
 pub mod Gathered
 pub mod Into
 pub mod Sources
+pub mod Making

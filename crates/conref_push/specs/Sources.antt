@@ -1,5 +1,5 @@
 -- The documents that pushes come from, as they were asked for (own).
-use Rattle.std.specs.Prelude.{◌≡◌, ℕ, List, Option, IsTrue, is_some}
+use Rattle.std.specs.Prelude.{◌≡◌, ℕ, List, Option, IsTrue, is_some, option_map}
 use Rattle.std.specs.BTreeMap as tree
 use Rattle.std.specs.Cmp.Lexicographic.{slice_cmp}
 use Rattle.std.specs.Ordering.{nat_cmp}
@@ -8,9 +8,11 @@ use Rattle.std.specs.declared.sync.Arc.{Arc}
 use Rattle.conref_push.specs.Targets.{AreKnown}
 use Rattle.conref_push.specs.declared.sources.PushSources.{PushSources}
 use Rattle.dita_doc.specs.declared.doc.Doc.{Doc}
+use Rattle.map_spec.specs.Written.{written_in}
 use Rattle.reader_spec.specs.World.{World}
-use Rattle.readers.specs.Founded.{is_among}
-use Rattle.readers.specs.Told.{tree_found}
+use Rattle.readers.specs.Founded.{AreAllowed, is_among}
+use Rattle.readers.specs.Named.{names_of_found}
+use Rattle.readers.specs.Told.{Told, tree_found}
 
 abbrev pub IsSource : World → List ℕ → Option (Arc Doc Global) → Type 0
 IsSource world name found = world name ≡ tree_found found
@@ -20,3 +22,10 @@ pub record AreSources (world : World) (names : List (List ℕ)) (sources : PushS
   pub known : AreKnown (IsSource world) sources.docs
   pub each : (name : List ℕ) → IsTrue (is_among names name)
       → IsTrue (is_some (tree.get (slice_cmp nat_cmp) sources.docs name))
+
+-- the names that the document gives which was found under a name are allowed
+abbrev pub IsGiven : List (List ℕ) → List Told → List ℕ → Option (Arc Doc Global) → Type 0
+IsGiven roots ts name found = AreAllowed roots ts (names_of_found (option_map (written_in name) (tree_found found)))
+
+abbrev pub AreGiven : List (List ℕ) → List Told → PushSources → Type 0
+AreGiven roots ts sources = AreKnown (IsGiven roots ts) sources.docs

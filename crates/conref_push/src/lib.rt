@@ -1,9 +1,8 @@
 //! Pushes of content: what goes into a document from others, the faults of pushing elements, and
 //! the document with its pushes.
 //!
-//! What is used above it: the table of all pushes of some documents, and what goes into each of
-//! them, exactly as the definition says. Of the document with its pushes it is only said which
-//! documents are asked for.
+//! What is used above it: the table of all pushes of some documents, what goes into each of them,
+//! and the document with its pushes, each exactly as the definition says.
 #![tactic(auto)]
 
 mod acts;
@@ -17,6 +16,6 @@ mod table;
 mod target_docs;
 
 pub use acts::acts_in;
-pub use pushed_doc::pushed;
+pub use pushed_doc::{ask_pushed, pushed};
 pub use special::is_special;
 pub use table::{PushTable, pushes_into};

@@ -13,7 +13,7 @@ ghost use Rattle.page_spec.specs.Pushes.{AllPushes};
 ghost use Rattle.reader_spec.specs.World.{World};
 ghost use Rattle.readers.specs.Documents as documents_spec;
 ghost use Rattle.readers.specs.Documents.{AsksOnly};
-ghost use Rattle.readers.specs.Founded.{Grows, StaysFounded};
+ghost use Rattle.readers.specs.Founded.{AreAllowed, Grows, IsFounded, StaysFounded};
 ghost use Rattle.readers.specs.Told.{Agrees};
 
 use crate::acts::acts_in;
@@ -44,6 +44,9 @@ impl PushTable {
     ) -> Result<PushTable, NoMemory>
         ensures known { (world : World) → Agrees world (R.told reader.new)
             → IfOk result (λ table. spec.IsPushTable world documents.now table) }
+        ensures allowed { IfOk result (λ table. (roots : List (List ℕ))
+            → IsFounded roots (R.told reader.new)
+            → AreAllowed roots (R.told reader.new) documents.now) }
         ensures stand { R.stand reader.new ≡ R.stand reader.old }
         ensures founded { StaysFounded documents.now (R.told reader.old) (R.told reader.new) }
         ensures asks { AsksOnly aimed_spec.push_targets documents.now (R.told reader.old)
@@ -124,6 +127,8 @@ impl PushTable {
             → OnOk result (gathered_spec.IsGathered world
             (pushes_spec.all_pushes world (documents ++ name.now ∷ []))
             (spec.acts_among world (documents ++ name.now ∷ [])) targets.new self.new) }
+        ensures allowed { (roots : List (List ℕ)) → IsFounded roots (R.told reader.new)
+            → OnOk result (AreAllowed roots (R.told reader.new) (name.now ∷ [])) }
         ensures stand { R.stand reader.new ≡ R.stand reader.old }
         ensures founded { StaysFounded (name.now ∷ []) (R.told reader.old) (R.told reader.new) }
         ensures asks { AsksOnly aimed_spec.push_targets (name.now ∷ []) (R.told reader.old)

@@ -1,5 +1,6 @@
 use Rattle.std.proofs.Common.{sym}
 use Rattle.readers.proofs.GrowthLaws.{told_answer}
+use Rattle.conref_push.proofs.AskedLaws.{given_put}
 use Rattle.conref_push.proofs.SourceLaws.{sources_more, sources_put}
 use Rattle.conref_push.proofs.sources.PushSources.ask.Goals as goal
 
@@ -12,3 +13,9 @@ returns-clause-known g c = λ world names agrees are.
     sources_put world names c.args.name.now c.in_ok-clone.field-0 c.in_ok-doc.doc c.args.self.now
     (record { docs = c.insert.new.self }) c.in_ok-insert.ensures.updates.0 c.in_ok-clone.ensures.cases
     (told_answer world _ _ _ c.in_ok-doc.ensures.told agrees) are
+
+pub returns-clause-given : goal.returns-clause-given
+returns-clause-given g c = λ roots are.
+    given_put roots _ _ c.args.name.now c.in_ok-clone.field-0 c.in_ok-doc.doc c.args.self.now
+    (record { docs = c.insert.new.self }) c.in_ok-insert.ensures.updates.0 c.in_ok-clone.ensures.cases
+    c.in_ok-doc.ensures.grows c.in_ok-doc.ensures.told are

@@ -1,9 +1,10 @@
 use Rattle.std.proofs.Common.{◌∙◌, refl, take}
 use Rattle.readers.proofs.DocumentLaws.{asks_after, asks_same}
-use Rattle.readers.proofs.FoundedLaws.{stays_after, stays_one, stays_same}
+use Rattle.readers.proofs.FoundedLaws.{none_allowed, stays_after, stays_one, stays_same}
 use Rattle.readers.proofs.GrowthLaws.{agrees_before, grows_same, grows_trans}
 use Rattle.conref_push.specs.Aimed.{push_targets}
 use Rattle.conref_push.proofs.AimLaws.{asks_item, item_among}
+use Rattle.conref_push.proofs.AllowedLaws.{allowed_all, allowed_next}
 use Rattle.conref_push.proofs.GatherLaws.{gathered_next, gathered_none, gathered_table}
 use Rattle.conref_push.proofs.table.PushTable.of.Goals as goal
 
@@ -11,6 +12,7 @@ pub loop-name-init : goal.loop-name-init
 loop-name-init g c = record {
   known = λ world agrees. gathered_none world c.new-targets.result c.empty-table.result c.new-targets.ensures.docs
       c.new-targets.ensures.replaced c.empty-table.ensures.entries c.empty-table.ensures.faults;
+  allowed = λ roots founded. none_allowed roots _;
   stand = refl;
   founded = stays_same _ _ _ refl;
   asks = asks_same push_targets _ _ _ refl;
@@ -28,6 +30,9 @@ loop-name-preserved g c =
           c.loop-name-test.true c.name-item.is
           (c.in_ok-put_document.ensures.known world (take at documents) agrees
           (c.loop-name.invariant.known world (agrees_before world _ _ c.in_ok-put_document.ensures.grows agrees)));
+      allowed = λ roots founded. allowed_next roots _ _ documents at c.name-item.result c.loop-name-test.true
+          c.name-item.is c.in_ok-put_document.ensures.grows (c.loop-name.invariant.allowed roots)
+          (c.in_ok-put_document.ensures.allowed roots) founded;
       stand = c.in_ok-put_document.ensures.stand ∙ c.loop-name.invariant.stand;
       founded = stays_after documents _ _ _ c.loop-name.invariant.grows c.loop-name.invariant.founded
           (stays_one c.name-item.result documents _ _ among c.in_ok-put_document.ensures.founded);
@@ -56,3 +61,8 @@ pub returns-clause-known : goal.returns-clause-known
 returns-clause-known g c = λ world agrees.
     gathered_table world c.args.documents.now c.loop-name.name-index c.loop-name.targets c.loop-name.table
     c.loop-name-test.false (c.loop-name.invariant.known world agrees)
+
+pub returns-clause-allowed : goal.returns-clause-allowed
+returns-clause-allowed g c = λ roots founded.
+    allowed_all roots _ c.args.documents.now c.loop-name.name-index c.loop-name-test.false
+    (c.loop-name.invariant.allowed roots founded)

@@ -2,11 +2,12 @@ use Rattle.std.proofs.Common.{◌∷◌, ◌∙◌, Some, ap, sym}
 use Rattle.dita_doc.specs.Tree.{tree_of}
 use Rattle.dita_doc.specs.declared.doc.Doc.{Doc}
 use Rattle.page_spec.specs.Pushes.{all_pushes}
-use Rattle.readers.proofs.GrowthLaws.{agrees_before, told_answer}
+use Rattle.readers.proofs.GrowthLaws.{agrees_before, grows_same, told_answer}
 use Rattle.readers.specs.Told.{document, tree_found}
 use Rattle.topic_find.proofs.TableLaws.{on_ok}
 use Rattle.conref_push.specs.Table.{acts_among}
 use Rattle.conref_push.proofs.AimLaws.{asks_put, stays_put}
+use Rattle.conref_push.proofs.AllowedLaws.{asked_allowed, on_any}
 use Rattle.conref_push.proofs.GatherLaws.{gathered_more, gathered_same}
 use Rattle.conref_push.proofs.table.PushTable.put_document.Goals as goal
 
@@ -40,3 +41,12 @@ pub returns-in-None-clause-known : goal.returns-in-None-clause-known
 returns-in-None-clause-known g c = λ world documents agrees gathered.
     gathered_same world documents c.args.name.now c.args.targets.now c.args.self.now
     (told_answer world _ _ _ c.in_ok-doc.ensures.told agrees ∙ ap tree_found c.in-None.is) gathered
+
+pub returns-in-Some-clause-allowed : goal.returns-in-Some-clause-allowed
+returns-in-Some-clause-allowed g c = λ roots founded.
+    on_any _ c.put_all.result (asked_allowed roots c.args.name.now _ _ _ _ c.in_ok-doc.ensures.told
+    c.put_all.ensures.grows founded)
+
+pub returns-in-None-clause-allowed : goal.returns-in-None-clause-allowed
+returns-in-None-clause-allowed g c = λ roots founded.
+    asked_allowed roots c.args.name.now _ _ _ _ c.in_ok-doc.ensures.told (grows_same _) founded

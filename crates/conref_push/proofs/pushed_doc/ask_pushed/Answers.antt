@@ -1,0 +1,23 @@
+use Rattle.std.proofs.Common.{subst}
+use Rattle.conref_push.specs.Making.{AreAsked}
+use Rattle.conref_push.proofs.AskedLaws.{asked_given, asked_same}
+use Rattle.conref_push.proofs.pushed_doc.ask_pushed.Goals as goal
+
+pub returns-clause-fixed : goal.returns-clause-fixed
+returns-clause-fixed g c = λ world other agrees also.
+    let name = c.args.doc.now in
+    let found = c.in_ok-ask_all.field-0 in
+    asked_same world other name c.args.pushes.now found
+    (subst (λ pushes. AreAsked world name pushes found) c.as_slice.ensures
+    (c.in_ok-ask_all.ensures.known world agrees))
+    (subst (λ pushes. AreAsked other name pushes found) c.as_slice.ensures
+    (c.in_ok-ask_all.ensures.known other also))
+
+pub returns-clause-given : goal.returns-clause-given
+returns-clause-given g c = λ world roots agrees.
+    let name = c.args.doc.now in
+    let found = c.in_ok-ask_all.field-0 in
+    asked_given world roots (g.R.Reader.told c.ask_all.new.reader) name c.args.pushes.now found
+    (subst (λ pushes. AreAsked world name pushes found) c.as_slice.ensures
+    (c.in_ok-ask_all.ensures.known world agrees))
+    (c.in_ok-ask_all.ensures.given roots)

@@ -1,0 +1,41 @@
+use Rattle.std.proofs.Common.{◌∙◌, Some, ap, subst, sym}
+use Rattle.std.specs.Arc.{arc_value}
+use Rattle.dita_doc.specs.Tree.{tree_of}
+use Rattle.dita_doc.specs.declared.doc.Doc.{Doc}
+use Rattle.map_spec.specs.Written.{written_in}
+use Rattle.page_spec.specs.Pushes.{pushed_from}
+use Rattle.readers.specs.Founded.{AreAllowed}
+use Rattle.readers.specs.Named.{names_of_found}
+use Rattle.conref_push.specs.Into.{froms}
+use Rattle.conref_push.specs.Making.{AreAsked, AreGroups}
+use Rattle.conref_push.specs.Sources.{AreSources}
+use Rattle.conref_push.proofs.AskedLaws.{asked_given, none_asked, some_asked}
+use Rattle.conref_push.proofs.pushed_doc.pushed_doc.Goals as goal
+
+pub returns-clause-known : goal.returns-clause-known
+returns-clause-known g c = λ world agrees.
+    let name = c.args.doc.now in
+    let pushes = c.args.pushes.now in
+    let asked = subst (AreAsked world name c.as_slice.result.now) c.in-Some.is
+    (c.in_ok-found.ensures.known world agrees) in
+    ap (λ nodes. Some nodes) (c.in_ok-made.ensures world pushes (record {
+      groups = subst (λ some. AreGroups some c.in_ok-by_place.by_place) c.as_slice-2.ensures c.in_ok-by_place.ensures;
+      sources = subst (λ some. AreSources world (froms some) c.in-Some.sources) c.as_slice.ensures asked.1;
+    }) ∙ ap (λ (doc : Doc). pushed_from world pushes 0 (written_in name (tree_of doc.nodes))) c.deref.ensures)
+    ∙ some_asked world name pushes (tree_of (arc_value c.in-Some.found).nodes) asked.0
+
+pub returns-clause-given : goal.returns-clause-given
+returns-clause-given g c = λ world roots agrees.
+    let name = c.args.doc.now in
+    let pushes = c.args.pushes.now in
+    let ts = g.R.Reader.told c.ask_all.new.reader in
+    subst (λ found. AreAllowed roots ts (names_of_found found)) (sym (returns-clause-known g c world agrees))
+    (asked_given world roots ts name pushes c.in_ok-found.field-0
+    (subst (λ some. AreAsked world name some c.in_ok-found.field-0) c.as_slice.ensures
+    (c.in_ok-found.ensures.known world agrees)) (c.in_ok-found.ensures.given roots))
+
+pub returns-in_default-clause-known : goal.returns-in_default-clause-known
+returns-in_default-clause-known g c = λ world agrees.
+    none_asked world c.args.doc.now c.args.pushes.now
+    (subst (AreAsked world c.args.doc.now c.as_slice.result.now) c.in_default.is
+    (c.in_ok-found.ensures.known world agrees))
