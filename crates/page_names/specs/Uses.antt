@@ -10,6 +10,7 @@ use Rattle.map_spec.specs.Pages as pages_spec
 use Rattle.map_spec.specs.Pages.{aim_at, fault_of_use, faults_at, first_uses, is_normal, is_page_kind, use_at, used_at}
 use Rattle.map_spec.specs.Scopes.{places}
 use Rattle.map_spec.specs.Titles.{kind_in}
+use Rattle.map_spec.specs.Written.{Whole}
 use Rattle.plan_nodes.specs.Carried.{CarryScopes, CarryValues}
 use Rattle.plan_nodes.specs.Preorder.{HasParentsBefore}
 use Rattle.reader_spec.specs.World.{World}
@@ -19,6 +20,9 @@ use Rattle.page_names.specs.declared.uses.Uses.{Uses}
 
 abbrev pub Nodes : Type 0
 Nodes = List PlanNode
+
+abbrev pub Wholes : Type 0
+Wholes = List (Option Whole)
 
 abbrev pub Texts : Type 0
 Texts = List (List ℕ)

@@ -1,6 +1,6 @@
 //! What the nodes of a map lead to and use, and what was met on the way.
 
-ghost use Rattle.std.specs.Prelude.{◌≡◌, ◌+◌, ◌++◌, ◌&&◌, [], ◌∷◌, IfOk, OnOk, Some, bytes_eq, codes, length, map, slice_get, if◌then◌else◌, None};
+ghost use Rattle.std.specs.Prelude.{◌≡◌, ◌+◌, ◌++◌, ◌&&◌, [], ◌∷◌, ℕ, IfOk, OnOk, Some, bytes_eq, codes, length, map, slice_get, if◌then◌else◌, None};
 ghost use Rattle.std.specs.Option.{option_copied, option_to_list};
 ghost use Rattle.map_spec.specs.Cascade as cascade_spec;
 ghost use Rattle.map_spec.specs.Pages as pages_spec;
@@ -20,7 +20,7 @@ ghost use Rattle.readers.specs.Told.{Agrees};
 use crate::aim::{cascaded_value, is_reference, target_of};
 use crate::documents::Documents;
 use crate::page_uses::PageUses;
-use dita_doc::{DocKind, Fault, FaultCode, List, Name, NoMemory, PlanNode, Target};
+use dita_doc::{DocKind, Fault, FaultCode, List, Name, NoMemory, Node, PlanNode, Target};
 use plan_nodes::{Homes, fault_of, in_tables};
 use readers::Keys;
 use std::alloc::Global;
@@ -199,16 +199,26 @@ fn aim<K: Keys>(
     ensures asks { AsksOnly documents_spec.nothing [] (K.told asker.old) (K.told asker.new) }
     ensures grows { Grows (K.told asker.old) (K.told asker.new) }
 {
-    let copy_to = homes.value(at, "copy-to");
+    let element = homes.element(at);
+    let copy_to = value_in(element, "copy-to");
     append_value(alloc, node, FaultCode::CopyTo, copy_to, faults)?;
-    let chunk = homes.value(at, "chunk");
+    let chunk = value_in(element, "chunk");
     append_value(alloc, node, FaultCode::Chunk, chunk, faults)?;
     if !is_reference(node.kind) {
         return Ok(Target::Nothing);
     }
-    let keyref = homes.value(at, "keyref");
-    let href = homes.value(at, "href");
+    let keyref = value_in(element, "keyref");
+    let href = value_in(element, "href");
     target_of(alloc, asker, node, keyref, href, faults)
+}
+
+// The value of an attribute of a node's element, if there is one that has it.
+fn value_in<'e>(element: Option<&'e Node>, name: &str) -> Option<&'e str>
+    ensures { (homes : spec.Wholes) (at : ℕ) → home_spec.found_in (home_spec.doc_of homes at)
+        element.entry ≡ home_spec.element_at homes at
+        → option_copied result ≡ home_spec.value_at homes at name.now }
+{
+    element?.value_of(name)
 }
 
 // Appends the fault of an attribute that is passed over, if it is written.

@@ -11,8 +11,8 @@ returns-then-not-is_reference-clause-known g c = λ world nodes agrees keys home
     let at = c.args.at in
     let node = c.args.node.now in
     let met = ignored_met world node c.args.faults.now c.append_value.new.faults c.append_value-2.new.faults _ _
-    (value_there world nodes at node c.args.homes.now (codes "copy-to") _ homes there c.value-copy_to.ensures)
-    (value_there world nodes at node c.args.homes.now (codes "chunk") _ homes there c.value-chunk.ensures)
+    (value_there world nodes at node c.args.homes.now (codes "copy-to") _ homes there (c.value_in-copy_to.ensures c.args.homes.now c.args.at c.element-element.ensures))
+    (value_there world nodes at node c.args.homes.now (codes "chunk") _ homes there (c.value_in-chunk.ensures c.args.homes.now c.args.at c.element-element.ensures))
     c.in_ok-append_value.ensures c.in_ok-append_value-2.ensures in
     met_before (aim_of world nodes at node) _ (ignored_at world node) c.args.faults.now c.append_value-2.new.faults
     c.append_value-2.new.faults met
@@ -25,14 +25,14 @@ returns-clause-known g c = λ world nodes agrees keys homes there carries.
     let at = c.args.at in
     let node = c.args.node.now in
     let met = ignored_met world node c.args.faults.now c.append_value.new.faults c.append_value-2.new.faults _ _
-    (value_there world nodes at node c.args.homes.now (codes "copy-to") _ homes there c.value-copy_to.ensures)
-    (value_there world nodes at node c.args.homes.now (codes "chunk") _ homes there c.value-chunk.ensures)
+    (value_there world nodes at node c.args.homes.now (codes "copy-to") _ homes there (c.value_in-copy_to.ensures c.args.homes.now c.args.at c.element-element.ensures))
+    (value_there world nodes at node c.args.homes.now (codes "chunk") _ homes there (c.value_in-chunk.ensures c.args.homes.now c.args.at c.element-element.ensures))
     c.in_ok-append_value.ensures c.in_ok-append_value-2.ensures in
     met_first (ignored_at world node) _ (aim_of world nodes at node) c.target_of.result c.args.faults.now
     c.append_value-2.new.faults c.target_of.new.faults met
     (attributes_aim world nodes at node _ _
-    (value_there world nodes at node c.args.homes.now (codes "keyref") _ homes there c.value-keyref.ensures)
-    (value_there world nodes at node c.args.homes.now (codes "href") _ homes there c.value-href.ensures)
+    (value_there world nodes at node c.args.homes.now (codes "keyref") _ homes there (c.value_in-keyref.ensures c.args.homes.now c.args.at c.element-element.ensures))
+    (value_there world nodes at node c.args.homes.now (codes "href") _ homes there (c.value_in-href.ensures c.args.homes.now c.args.at c.element-element.ensures))
     ∙ reference_aim world nodes at node c.is_reference.result c.is_reference.ensures c.if-not-is_reference.false)
     (c.target_of.ensures.known world nodes at agrees keys carries)
 
@@ -42,4 +42,4 @@ returns-then-not-is_reference-clause-given g c = λ given. nothing_named _ _ ref
 pub returns-clause-given : goal.returns-clause-given
 returns-clause-given g c = λ given.
     c.target_of.ensures.given (subst (IsGiven (g.K.Reader.told c.args.asker.now) c.args.node.now.doc)
-    (sym c.value-href.ensures) given)
+    (sym (c.value_in-href.ensures c.args.homes.now c.args.at c.element-element.ensures)) given)
