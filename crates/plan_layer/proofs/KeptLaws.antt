@@ -1,0 +1,52 @@
+-- Documents that are kept while readers come and go: what is told again fixes such a document, so that it is that of each
+-- world that agrees.
+use Rattle.std.specs.Prelude.{◌≡◌, ℕ, List, Option, option_map}
+use Rattle.std.specs.declared.alloc.Global.{Global}
+use Rattle.std.specs.declared.sync.Arc.{Arc}
+use Rattle.std.proofs.Common.{sym, ap, subst, ◌∙◌}
+use Rattle.conref_push.specs.Into.{pushed_by}
+use Rattle.conref_push.proofs.UntouchedLaws.{pushed_as}
+use Rattle.dita_doc.specs.declared.content.PushList.{PushList}
+use Rattle.dita_doc.specs.declared.doc.Doc.{Doc}
+use Rattle.map_spec.specs.Written.{Written}
+use Rattle.page_spec.specs.Pushes.{pushed, pushes_into}
+use Rattle.plan_layer.specs.Made.{AreKept, IsKept}
+use Rattle.plan_layer.specs.declared.docs.PushedDocs.{PushedDocs}
+use Rattle.plan_layer.proofs.MadeLaws.{touched_known}
+use Rattle.reader_spec.specs.World.{World}
+use Rattle.readers.specs.Founded.{AreAllowed}
+use Rattle.readers.specs.Named.{named_tree, names_of_found}
+use Rattle.readers.specs.Setting.{Stand}
+use Rattle.readers.specs.Told.{Told, doc_of}
+
+pub kept_shared : (world : World) (documents : List (List ℕ)) (name : List ℕ) (found copy : Option (Arc Doc Global))
+    → doc_of copy ≡ doc_of found → IsKept world documents name found → IsKept world documents name copy
+kept_shared world documents name found copy same is = ap (option_map named_tree) same ∙ is
+
+pub kept_made : (world : World) (documents documents' : List (List ℕ)) (name : List ℕ)
+    (found copy : Option (Arc Doc Global)) → documents' ≡ documents → doc_of copy ≡ doc_of found
+    → IsKept world documents name found → IsKept world documents' name copy
+kept_made world documents documents' name found copy plan same is =
+    subst (λ ds. IsKept world ds name copy) (sym plan) (kept_shared world documents name found copy same is)
+
+-- the reader below still stands on the same world
+pub kept_still : (old new : Stand) (documents : List (List ℕ)) (docs : PushedDocs) → new ≡ old
+    → AreKept old.world documents docs → AreKept new.world documents docs
+kept_still old new documents docs same = subst (λ (s : Stand). AreKept s.world documents docs) (sym same)
+
+module _ (own : World) (documents : List (List ℕ)) (name : List ℕ) (list : PushList) (named : Option Written) where
+  kept_by : pushes_into own documents name ≡ list → named ≡ pushed own documents name
+      → named ≡ pushed_by own list.pushes name
+  kept_by told is = is ∙ sym (pushed_as own documents name list.pushes (ap (λ (l : PushList). l.pushes) told))
+
+  pub kept_known : (world : World) → pushes_into own documents name ≡ list → pushes_into world documents name ≡ list
+      → pushed_by own list.pushes name ≡ pushed_by world list.pushes name → named ≡ pushed own documents name
+      → named ≡ pushed world documents name
+  kept_known world own_told told fixed is =
+      touched_known world documents name list named told (kept_by own_told is ∙ fixed)
+
+  pub kept_given : (roots : List (List ℕ)) (ts : List Told) → pushes_into own documents name ≡ list
+      → named ≡ pushed own documents name → AreAllowed roots ts (names_of_found (pushed_by own list.pushes name))
+      → AreAllowed roots ts (names_of_found named)
+  kept_given roots ts own_told is =
+      subst (λ nodes. AreAllowed roots ts (names_of_found nodes)) (sym (kept_by own_told is))

@@ -1,0 +1,199 @@
+-- Documents that were made with the pushes into them: how they are made, and that they stay right as more is told.
+use Rattle.std.specs.Prelude.{◌≡◌, ℕ, Bool, true, false, not, List, [], ◌∷◌, ◌⊎◌, Option, Some, None, IfSome, IsTrue, cond, drop, bytes_eq, option_map}
+use Rattle.std.specs.BTreeMap as tree
+use Rattle.std.specs.Arc.{arc_value}
+use Rattle.std.specs.Borrow.{Bor}
+use Rattle.std.specs.Cmp.Lexicographic.{slice_cmp}
+use Rattle.std.specs.Option.{option_copied, option_map_or}
+use Rattle.std.specs.Ordering.{is_eq, nat_cmp}
+use Rattle.std.specs.declared.alloc.Global.{Global}
+use Rattle.std.specs.declared.sync.Arc.{Arc}
+use Rattle.std.proofs.Common.{refl, sym, ap, subst, ◌∙◌}
+use Rattle.std.proofs.Math.Logic.{⊎_elim}
+use Rattle.std.proofs.lemmas.Bool.{false≢true, or_cases, or_left, or_right}
+use Rattle.conref_push.specs.Acting.{any_acts}
+use Rattle.conref_push.specs.Into.{docs_of, froms, named_doc, pushed_by}
+use Rattle.conref_push.specs.Table.{is_touched}
+use Rattle.conref_push.specs.Targets.{AreKnown}
+use Rattle.conref_push.proofs.DocLaws.{IsPut}
+use Rattle.conref_push.proofs.UntouchedLaws.{pushed_as, untouched}
+use Rattle.dita_doc.proofs.NameOrder.{equal_itself}
+use Rattle.dita_doc.specs.Tree.{tree_of}
+use Rattle.dita_doc.specs.declared.content.PushList.{PushList}
+use Rattle.dita_doc.specs.declared.doc.Doc.{Doc}
+use Rattle.map_spec.specs.Written.{Written, document, written_in}
+use Rattle.page_spec.specs.Pushes as page
+use Rattle.page_spec.specs.Pushes.{pushed, pushed_from}
+use Rattle.plan_layer.specs.Made.{ArePushed, IsPushed, under}
+use Rattle.plan_layer.specs.declared.memo.PushedMemo.{PushedMemo}
+use Rattle.plan_layer.proofs.DocLaws.{found_named}
+use Rattle.reader_spec.specs.World.{World}
+use Rattle.readers.specs.Documents.{AsksOnly, nothing, of_pushes}
+use Rattle.readers.specs.Founded.{AreAllowed, Grows, StaysFounded, is_allowed, is_among, names_given}
+use Rattle.readers.specs.Named.{named_found, named_tree, names_of_found}
+use Rattle.readers.specs.Noted.{told_of, told_onto}
+use Rattle.readers.specs.Setting.{Setting}
+use Rattle.readers.specs.Told as told_spec
+use Rattle.readers.specs.Told.{Told, Agrees, Holds, doc_of, tree_found}
+use Rattle.readers.specs.declared.questions.Note.{Note}
+use Rattle.readers.proofs.DocumentLaws.{asks_none, asks_then, covers_nothing, follows_may, may_ask_before}
+use Rattle.readers.proofs.FoundedLaws.{given_allowed, stays_then, stays_told}
+use Rattle.readers.proofs.GrowthLaws.{agrees_before, are_allowed_before, grows_one}
+use Rattle.readers.proofs.LayerLaws.{grows_put, grows_tried}
+
+-- A document is its own pushed document
+
+not_true : (b : Bool) → not b ≡ true → b ≡ false
+not_true true is = cc
+not_true false is = refl
+
+pub itself_quiet : (world : World) (documents : List (List ℕ)) (name : List ℕ) (found : Option (Arc Doc Global))
+    (stored : Arc Doc Global) (read : Doc) (acting : Bool) → found ≡ Some stored → world name ≡ tree_found found
+    → read ≡ arc_value stored → false ≡ is_touched world documents name
+    → acting ≡ any_acts (written_in name (tree_of read.nodes)) → not acting ≡ true
+    → pushed world documents name ≡ document world name
+itself_quiet world documents name found stored read acting is there same touches acts quiet =
+    let tree_is : world name ≡ Some (tree_of read.nodes) =
+    there ∙ ap tree_found is ∙ ap (λ (d : Doc). Some (tree_of d.nodes)) (sym same) in
+    untouched world documents name (sym touches)
+    (ap (λ tree. option_map_or any_acts (option_map (written_in name) tree) false) tree_is ∙ sym acts
+    ∙ not_true acting quiet)
+
+pub itself_known : (world : World) (documents : List (List ℕ)) (name : List ℕ) (found : Option (Arc Doc Global))
+    → world name ≡ tree_found found → IfSome (doc_of found) (λ (stored : Doc). stored.origins ≡ name ∷ [])
+    → pushed world documents name ≡ document world name → named_found found ≡ pushed world documents name
+itself_known world documents name found there one same =
+    found_named name found one ∙ ap (option_map (written_in name)) (sym there) ∙ sym same
+
+-- its references are those of the document that was told
+pub itself_given : (roots : List (List ℕ)) (name : List ℕ) (found : Option (Arc Doc Global)) (old new : List Told)
+    → new ≡ told_spec.document name (tree_found found) ∷ old
+    → IfSome (doc_of found) (λ (stored : Doc). stored.origins ≡ name ∷ [])
+    → AreAllowed roots new (names_of_found (named_found found))
+itself_given roots name found old new told one =
+    subst (λ nodes. AreAllowed roots new (names_of_found nodes)) (sym (found_named name found one))
+    (given_allowed roots (told_spec.document name (tree_found found)) old new told)
+
+-- It is made with pushes that were told
+
+pub made_given : (roots : List (List ℕ)) (told : List Told) (found : Option Doc) (made : Doc) (stored : Arc Doc Global)
+    → found ≡ Some made → arc_value stored ≡ made → AreAllowed roots told (names_of_found (named_doc found))
+    → AreAllowed roots told (names_of_found (named_found (Some stored)))
+made_given roots told found made stored is same given =
+    subst (λ (d : Doc). AreAllowed roots told (names_of_found (named_doc (Some d)))) (sym same)
+    (subst (λ (o : Option Doc). AreAllowed roots told (names_of_found (named_doc o))) is given)
+
+pub touched_known : (world : World) (documents : List (List ℕ)) (name : List ℕ) (list : PushList)
+    (named : Option Written) → page.pushes_into world documents name ≡ list
+    → named ≡ pushed_by world list.pushes name → named ≡ pushed world documents name
+touched_known world documents name list named told is =
+    is ∙ pushed_as world documents name list.pushes (ap (λ (l : PushList). l.pushes) told)
+
+module _ (documents : List (List ℕ)) (name : List ℕ) (list : PushList) where
+  pub touched_founded : (old between new : List Told) → between ≡ told_spec.pushes documents name list ∷ old
+      → StaysFounded (docs_of name list.pushes) between new → StaysFounded (name ∷ []) old new
+  touched_founded old between new told stays =
+      let t = told_spec.pushes documents name list in
+      stays_then (name ∷ []) (docs_of name list.pushes) old between new (stays_told t (name ∷ []) old between refl told)
+      (λ roots allowed. record {
+        each = λ m among. ⊎_elim
+            (λ here. (are_allowed_before roots old between (name ∷ []) (grows_one t old between told) allowed).each m
+            (or_left (bytes_eq name m) false here))
+            (λ there. (given_allowed roots t old between told).each m there)
+            (or_cases (bytes_eq name m) (is_among (froms list.pushes) m) among);
+      }) stays
+
+  pub touched_asks : (old between new : List Told) → between ≡ told_spec.pushes documents name list ∷ old
+      → AsksOnly nothing [] old between → AsksOnly nothing (docs_of name list.pushes) between new
+      → AsksOnly of_pushes (name ∷ []) old new
+  touched_asks old between new told first asks =
+      let t = told_spec.pushes documents name list in
+      asks_then of_pushes nothing (name ∷ []) (docs_of name list.pushes) old between new
+      (λ rule covers. covers_nothing rule) (asks_none of_pushes (name ∷ []) old between first)
+      (λ rule roots covers may. record {
+        each = λ m among. ⊎_elim
+            (λ here. may_ask_before rule roots old between m (grows_one t old between told)
+            (may.each m (or_left (bytes_eq name m) false here)))
+            (λ there. (follows_may rule of_pushes roots t old between covers told).each m there)
+            (or_cases (bytes_eq name m) (is_among (froms list.pushes) m) among);
+      }) asks
+
+-- Those that were made
+
+pub pushed_shared : (told : List Told) (documents : List (List ℕ)) (name : List ℕ) (found copy : Option (Arc Doc Global))
+    → doc_of copy ≡ doc_of found → IsPushed told documents name found → IsPushed told documents name copy
+pushed_shared told documents name found copy same is =
+    let named_same : named_found copy ≡ named_found found = ap (option_map named_tree) same in
+    record {
+      known = λ world agrees. named_same ∙ is.known world agrees;
+      given = λ roots. subst (λ nodes. AreAllowed roots told (names_of_found nodes)) (sym named_same) (is.given roots);
+    }
+
+pub pushed_made : (told : List Told) (documents documents' : List (List ℕ)) (name : List ℕ)
+    (found copy : Option (Arc Doc Global)) → documents' ≡ documents → doc_of copy ≡ doc_of found
+    → ((world : World) → Agrees world told → named_found found ≡ pushed world documents name)
+    → ((roots : List (List ℕ)) → AreAllowed roots told (names_of_found (named_found found)))
+    → IsPushed told documents' name copy
+pushed_made told documents documents' name found copy plan same known given =
+    subst (λ ds. IsPushed told ds name copy) (sym plan)
+    (pushed_shared told documents name found copy same (record { known = known; given = given }))
+
+pub known_found : (P : List ℕ → Option (Arc Doc Global) → Type 0)
+    (docs : tree.BTreeMap (List ℕ) (Option (Arc Doc Global))) (name : List ℕ)
+    (result : Option (Bor (Option (Arc Doc Global))))
+    → option_copied result ≡ tree.get (slice_cmp nat_cmp) docs name → AreKnown P docs
+    → IfSome result (λ found. P name found.now)
+known_found P docs name None is known = tt
+known_found P docs name (Some found) is known = known name found.now (sym is)
+
+pub put_under : (old new : tree.BTreeMap (List ℕ) (Option (Arc Doc Global))) (name key : List ℕ)
+    (found : Option (Arc Doc Global)) → IsPut old new key found → key ≡ name → under new name ≡ Some found
+put_under old new name key found put same = subst (λ n. under new n ≡ Some found) same
+    (put key ∙ ap (λ test. cond (is_eq test) (Some found) (under old key)) (equal_itself key))
+
+pub pushed_more : (documents : List (List ℕ)) (memo : PushedMemo) (old new : List Told) → Grows old new
+    → ArePushed old documents memo → ArePushed new documents memo
+pushed_more documents memo old new grows pushed = λ name found is.
+    let before = pushed name found is in record {
+      known = λ world agrees. before.known world (agrees_before world old new grows agrees);
+      given = λ roots. are_allowed_before roots old new _ grows (before.given roots);
+    }
+
+allowed_behind : (roots : List (List ℕ)) (t put : Told) (older : List Told) (m : List ℕ) → names_given put ≡ []
+    → IsTrue (is_allowed roots (put ∷ older) m) → IsTrue (is_allowed roots (t ∷ older) m)
+allowed_behind roots t put older m none allowed = or_right (is_among (names_given t) m) _ (⊎_elim
+    (λ here. absurd (false≢true (subst (λ names. IsTrue (is_among names m)) none here))) (λ behind. behind)
+    (or_cases (is_among (names_given put) m) (is_allowed roots older m) allowed))
+
+-- a question that told nothing gets its answer
+pushed_settled : (documents : List (List ℕ)) (memo : PushedMemo) (t put : Told) (older : List Told)
+    → ((world : World) → Holds world put) → names_given put ≡ [] → ArePushed (put ∷ older) documents memo
+    → ArePushed (t ∷ older) documents memo
+pushed_settled documents memo t put older holds none pushed = λ name found is.
+    let before = pushed name found is in record {
+      known = λ world agrees. before.known world (holds world, agrees.1);
+      given = λ roots. record {
+        each = λ m among. allowed_behind roots t put older m none ((before.given roots).each m among);
+      };
+    }
+
+module _ (setting : Setting) (start : List Told) (documents : List (List ℕ)) (memo : PushedMemo) where
+  pub memo_put : (note : Note) (notes notes' : List Note) → notes' ≡ note ∷ notes
+      → ArePushed (told_onto setting start notes) documents memo
+      → ArePushed (told_onto setting start notes') documents memo
+  memo_put note notes notes' is = pushed_more documents memo _ _ (grows_put setting start note notes notes' is)
+
+  pub memo_tried : (note : Note) (notes notes' : List Note) → (notes' ≡ notes) ⊎ (notes' ≡ note ∷ notes)
+      → ArePushed (told_onto setting start notes) documents memo
+      → ArePushed (told_onto setting start notes') documents memo
+  memo_tried note notes notes' either = pushed_more documents memo _ _ (grows_tried setting start note notes notes' either)
+
+  pub memo_settled : (put note : Note) (older notes notes' : List Note) → notes ≡ put ∷ older
+      → notes' ≡ note ∷ drop 1 notes → ((world : World) → Holds world (told_of setting put))
+      → names_given (told_of setting put) ≡ [] → ArePushed (told_onto setting start notes) documents memo
+      → ArePushed (told_onto setting start notes') documents memo
+  memo_settled put note older notes notes' was is holds none pushed =
+      subst (λ ns. ArePushed (told_onto setting start ns) documents memo)
+      (sym (is ∙ ap (λ ns. note ∷ drop 1 ns) was))
+      (pushed_settled documents memo (told_of setting note) (told_of setting put) (told_onto setting start older) holds none
+      (subst (λ ns. ArePushed (told_onto setting start ns) documents memo) was pushed))

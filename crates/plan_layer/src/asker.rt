@@ -1,0 +1,61 @@
+//! The calls of the layer as a reader that knows a plan.
+
+use crate::layer::PlanLayer;
+use crate::made::{GivesTouched, TellsPushes, kept_pushed, made_pushed, with_pushes};
+use crate::notes::{page_note, pushes_note};
+use dita_doc::{Context, Doc, Name, NoMemory, PushList};
+use readers::{Asker, Keys, Since, share};
+use std::alloc::Global;
+use std::sync::Arc;
+
+impl<'r, 'q, 'm, 'd, 'n, K: Keys, S: Since> TellsPushes for PlanLayer<'r, 'q, 'm, 'd, 'n, K, S> {
+    fn tell_pushes(&mut self, alloc: Global, name: &Name) -> Result<PushList, NoMemory> {
+        let answer = self.table.pushes_into(alloc, name)?;
+        // The question is kept with an answer of its own.
+        let note = pushes_note(name, self.table.pushes_into(alloc, name)?)?;
+        self.asked.begin(note)?;
+        Ok(answer)
+    }
+}
+
+impl<'r, 'q, 'm, 'd, 'n, K: Keys, S: Since> GivesTouched for PlanLayer<'r, 'q, 'm, 'd, 'n, K, S> {
+    fn touched(&mut self, alloc: Global, name: &Name) -> Result<Option<Arc<Doc>>, NoMemory> {
+        if let Some(kept) = self.docs.find(name) {
+            let copy = share(kept)?;
+            return kept_pushed(alloc, self, name, copy);
+        }
+        let made = with_pushes(alloc, self, name)?;
+        let kept = share(&made)?;
+        self.docs.put(name, kept)?;
+        Ok(made)
+    }
+}
+
+impl<'r, 'q, 'm, 'd, 'n, K: Keys, S: Since> Asker for PlanLayer<'r, 'q, 'm, 'd, 'n, K, S> {
+    fn pushes(&mut self, alloc: Global, name: &Name) -> Result<PushList, NoMemory> {
+        self.tell_pushes(alloc, name)
+    }
+
+    fn pushed(&mut self, alloc: Global, name: &Name) -> Result<Option<Arc<Doc>>, NoMemory> {
+        if let Some(known) = self.memo.find(name) {
+            return Ok(share(known)?);
+        }
+        let table = self.table;
+        let made = made_pushed(alloc, self, table, name)?;
+        let copy = share(&made)?;
+        self.memo.put(name, copy)?;
+        Ok(made)
+    }
+
+    fn page_of(
+        &mut self,
+        alloc: Global,
+        name: &Name,
+        context: &Context,
+    ) -> Result<Option<u32>, NoMemory> {
+        let place = self.places.find(alloc, name, &context.page)?;
+        let note = page_note(alloc, name, context, place)?;
+        self.asked.begin(note)?;
+        Ok(place)
+    }
+}

@@ -1,0 +1,71 @@
+//! Questions for pushes and for pages, with their answers.
+
+ghost use Rattle.std.specs.Prelude.{◌≡◌, IfOk};
+ghost use Rattle.readers.specs.Noted as noted_spec;
+ghost use Rattle.readers.specs.Setting.{Setting};
+ghost use Rattle.readers.specs.Told as told_spec;
+
+use dita_doc::{Answered, Asked, Context, Name, NoMemory, PageId, PushList, Question};
+use plan_nodes::{copy_affixes, copy_names};
+use readers::Note;
+use std::alloc::{AllocError, Global};
+
+// The question for the pushes into a document.
+pub(crate) fn pushes_note(name: &Name, answer: PushList) -> Result<Note, NoMemory>
+    ensures { IfOk result (λ note. (setting : Setting) → noted_spec.told_of setting note
+        ≡ told_spec.pushes setting.documents name.now answer) }
+{
+    let PushList { pushes, faults } = answer;
+    Ok(Note::Answer(Asked {
+        question: Question::Pushes(name.clone()?),
+        answered: Answered::Pushes(pushes, faults),
+    }))
+}
+
+// The question for the page of a document.
+pub(crate) fn page_note(
+    alloc: Global,
+    name: &Name,
+    context: &Context,
+    place: Option<u32>,
+) -> Result<Note, NoMemory>
+    ensures { IfOk result (λ note. (setting : Setting) → noted_spec.told_of setting note
+        ≡ told_spec.page_of setting.pages name.now context.now.page place) }
+{
+    let context = copy_context(alloc, context)?;
+    Ok(Note::Answer(Asked {
+        question: Question::PageOf(name.clone()?, context),
+        answered: Answered::PageOf(place),
+    }))
+}
+
+fn copy_context(alloc: Global, context: &Context) -> Result<Context, AllocError>
+    ensures { IfOk result (λ copy. copy ≡ context.now) }
+{
+    Ok(Context {
+        map: context.map.clone()?,
+        val: copy_if(&context.val)?,
+        page: copy_page(alloc, &context.page)?,
+        name: context.name.clone()?,
+    })
+}
+
+fn copy_if(name: &Option<Name>) -> Result<Option<Name>, AllocError>
+    ensures { IfOk result (λ copy. copy ≡ name.now) }
+{
+    match name {
+        Some(name) => Ok(Some(name.clone()?)),
+        None => Ok(None),
+    }
+}
+
+fn copy_page(alloc: Global, page: &PageId) -> Result<PageId, AllocError>
+    ensures { IfOk result (λ copy. copy ≡ page.now) }
+{
+    Ok(PageId {
+        doc: page.doc.clone()?,
+        scope: page.scope,
+        filters: copy_names(alloc, page.filters.as_slice())?,
+        affixes: copy_affixes(alloc, page.affixes.as_slice())?,
+    })
+}
