@@ -1,10 +1,12 @@
 //! The body of a page.
 
-use askers::Asker;
+ghost use Rattle.std.specs.Prelude.{◌≡◌};
+
 use conref_pull::{Tables, resolve_page_with};
 use dita_doc::{Context, Fault, Html, List, NoMemory, PageLink, Plan, Resolved};
 use doc_elements::append_faults;
 use html_blocks::body_html;
+use readers::Asker;
 use std::alloc::Global;
 use xref_links::{AnchorsMade, anchors};
 
@@ -17,7 +19,9 @@ pub(crate) fn page_body<A: Asker>(
     plan: &Plan,
     context: &Context,
     behind: List<Fault>,
-) -> Result<(Html, List<PageLink>), NoMemory> {
+) -> Result<(Html, List<PageLink>), NoMemory>
+    ensures stand { A.stand asker.new ≡ A.stand asker.old }
+{
     let resolved = resolve_page_with(alloc, asker, content, context)?;
     let made = anchors(alloc, asker, plan, context, &resolved)?;
     let body = body_html(alloc, &resolved, &made.anchors)?;

@@ -2,7 +2,7 @@
 //! contents page, and all of them together.
 //!
 //! What is used above it: `clean`. It is proved safe and to return.
-#![tactic(auto)]
+#![tactic(auto, using(crate::proofs::Putting::putting))]
 
 mod body;
 mod build_tables;
@@ -10,12 +10,13 @@ mod faults;
 mod gathered;
 mod ground;
 mod hrefs;
+mod over_keys;
+mod over_plan;
 mod parts;
-mod plan_asker;
-mod push_memo;
 mod root;
 mod single_parts;
 mod whole_build;
+mod works;
 
 pub use single_parts::{page, toc};
 pub use whole_build::clean;

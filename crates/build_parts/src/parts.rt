@@ -1,18 +1,19 @@
 //! The parts of a build that has a plan: its pages, and the contents page.
 
-use crate::body::{no_html, page_body};
+ghost use Rattle.std.specs.Prelude.{◌≡◌, IfOk};
+ghost use Rattle.build_parts.specs.Tables.{AreTables};
+ghost use Rattle.readers.specs.Founded.{Grows};
+
+use crate::body::no_html;
 use crate::build_tables::BuildTables;
 use crate::ground::Ground;
-use crate::hrefs::hrefs_once;
-use crate::plan_asker::PlanAsker;
-use crate::root::root_of;
+use crate::over_plan::over_plan;
+use crate::works::{ContentsWork, LinksWork, PageWork};
 use conref_pull::Tables;
-use dita_doc::{Fault, Html, List, NoMemory, PageLink, Text};
-use html_page::page_html;
+use dita_doc::{Fault, Html, List, NoMemory};
 use node_links::NodeLinks;
-use readers::{Reader, Titles};
-use std::alloc::{AllocError, Global};
-use toc_page::contents;
+use readers::Keys;
+use std::alloc::Global;
 
 /// A build that has a plan, with what was found once for all its parts.
 #[derive(Drop)]
@@ -24,14 +25,17 @@ pub(crate) struct Parts<'p> {
 }
 
 impl<'p> Parts<'p> {
-    pub fn of<T: Titles>(
+    pub fn of<K: Keys>(
         alloc: Global,
-        reader: &mut T,
+        keys: &mut K,
         ground: Ground<'p>,
-    ) -> Result<Parts<'p>, NoMemory> {
+    ) -> Result<Parts<'p>, NoMemory>
+        ensures tables { IfOk result (λ parts. AreTables (K.told keys.new) (K.stand keys.new).world
+            parts.ground.plan.now.documents parts.ground.plan.now.pages parts.tables) }
+    {
         let plan = ground.plan;
-        let mut tables = BuildTables::of(alloc, reader, plan)?;
-        let links = node_links(alloc, reader, ground, &mut tables)?;
+        let mut tables = BuildTables::of(alloc, keys, plan)?;
+        let links = over_plan(alloc, keys, plan, &mut tables, LinksWork { plan })?;
         Ok(Parts {
             ground,
             tables,
@@ -47,70 +51,39 @@ impl<'p> Parts<'p> {
 
     /// The page of this index, with the faults of its content and, behind them, these. A page that is
     /// not there, or whose document is not stored, is empty.
-    pub fn page<T: Titles>(
+    pub fn page<K: Keys>(
         &mut self,
         alloc: Global,
-        reader: &mut T,
+        keys: &mut K,
         index: u32,
         behind: List<Fault>,
-    ) -> Result<Html, NoMemory> {
+    ) -> Result<Html, NoMemory>
+        requires tables { AreTables (K.told keys.old) (K.stand keys.old).world
+            self.old.ground.plan.now.documents self.old.ground.plan.now.pages self.old.tables }
+        ensures tables { AreTables (K.told keys.new) (K.stand keys.new).world
+            self.new.ground.plan.now.documents self.new.ground.plan.now.pages self.new.tables }
+    {
         let ground = self.ground;
-        let plan = ground.plan;
-        let Some(page) = plan.pages.as_slice().get(index as usize) else {
+        let Some(page) = ground.plan.pages.as_slice().get(index as usize) else {
             return Ok(no_html(alloc));
         };
-        let Some(doc) = reader.doc(alloc, &page.id.doc)? else {
-            return Ok(no_html(alloc));
-        };
-        let Some(root) = root_of(&doc) else {
-            return Ok(no_html(alloc));
-        };
-        let context = ground.context_of(alloc, page)?;
-        let mut asker = PlanAsker {
-            lower: reader,
+        let work = PageWork {
             ground,
-            known: &mut self.tables,
+            page,
+            index,
+            links: &self.links,
+            content: &mut self.content,
+            behind,
         };
-        let content = &mut self.content;
-        let (body, own) = page_body(alloc, &mut asker, content, plan, &context, behind)?;
-        let of_nodes = self.links.of_page(alloc, &mut asker, plan, index)?;
-        let links = hrefs_once(alloc, joined(of_nodes, own)?)?;
-        let title = asker.title(alloc, &page.id.doc, &Text::new(alloc))?;
-        page_html(alloc, &page.id.doc, root.line, &title, &body, &links)
+        over_plan(alloc, keys, ground.plan, &mut self.tables, work)
     }
 
     /// The contents page, with the faults of all pushes.
-    pub fn contents<T: Titles>(&mut self, alloc: Global, reader: &mut T) -> Result<Html, NoMemory> {
-        let ground = self.ground;
-        let mut asker = PlanAsker {
-            lower: reader,
-            ground,
-            known: &mut self.tables,
-        };
-        contents(alloc, &mut asker, ground.plan)
+    pub fn contents<K: Keys>(&mut self, alloc: Global, keys: &mut K) -> Result<Html, NoMemory>
+        requires tables { AreTables (K.told keys.old) (K.stand keys.old).world
+            self.old.ground.plan.now.documents self.old.ground.plan.now.pages self.old.tables }
+    {
+        let plan = self.ground.plan;
+        over_plan(alloc, keys, plan, &mut self.tables, ContentsWork { plan })
     }
-}
-
-// The links of a plan's collections and relationship tables.
-fn node_links<T: Titles>(
-    alloc: Global,
-    reader: &mut T,
-    ground: Ground<'_>,
-    tables: &mut BuildTables,
-) -> Result<NodeLinks, NoMemory> {
-    let mut asker = PlanAsker {
-        lower: reader,
-        ground,
-        known: tables,
-    };
-    NodeLinks::of(alloc, &mut asker, ground.plan)
-}
-
-// The first links, and behind them the others.
-fn joined(first: List<PageLink>, others: List<PageLink>) -> Result<List<PageLink>, AllocError> {
-    let mut links = first;
-    for link in others.into_vec() {
-        links.push(link)?;
-    }
-    Ok(links)
 }

@@ -1,14 +1,17 @@
 //! The build of a map over stored sources.
 
+ghost use Rattle.build_parts.specs.Tables.{AreTables};
+
 use crate::faults::copy_faults;
 use crate::gathered::Gathered;
-use crate::ground::{Ground, NodeTables};
+use crate::ground::Ground;
+use crate::over_keys::{KeyWork, over_keys};
 use crate::parts::Parts;
 use build_plan::{Planned, planned};
 use clean_build::Clean;
-use dita_doc::{List, Name, NoMemory, Plan, Sources, Stop, Text};
+use dita_doc::{List, Name, NoMemory, PagePlan, Sources, Stop, Text};
 use plan_nodes::place_of;
-use readers::{KnownTitles, SourceReader};
+use readers::{Keys, KnownTitles, SourceReader};
 use std::alloc::{AllocError, Global};
 
 /// The build of a map, with a DITAVAL or without: each page of its plan, the contents page, and the
@@ -20,50 +23,72 @@ pub fn clean(
     map: &Name,
     val: Option<&Name>,
 ) -> Result<Clean, NoMemory> {
-    let known = KnownTitles::new(alloc, sources);
-    let mut reader = SourceReader::new(alloc, known);
+    let mut reader = SourceReader::new(alloc, KnownTitles::new(alloc, sources));
     let Planned { plan, homes, table } = match planned(alloc, &mut reader, map, val) {
         Ok(planned) => planned,
         Err(Stop::Fault(stop)) => return Ok(Clean::Stopped(stop)),
         Err(Stop::NoMemory) => return Err(NoMemory),
     };
-    let nodes = NodeTables { table, homes };
     let ground = Ground {
         map,
         val,
         plan: &plan,
-        nodes: &nodes,
     };
-    let mut parts = Parts::of(alloc, &mut reader, ground)?;
-    let mut gathered = Gathered::new(alloc);
-    gathered.put_faults(alloc, copy_faults(alloc, plan.faults.as_slice())?)?;
-    // These are faults of each page, so a plan without pages has none of them.
-    if !plan.pages.is_empty() {
-        gathered.put_faults(alloc, copy_faults(alloc, parts.row_faults())?)?;
-    }
-    let (_, known) = reader.into_asked();
-    put_parts(alloc, known, &plan, &mut parts, &mut gathered)?;
-    gathered.finish(alloc)
+    over_keys(
+        alloc,
+        &mut reader,
+        &plan.nodes,
+        &homes,
+        &table,
+        WholeWork { ground },
+    )
 }
 
-// Puts each page, and the contents page last. The reader of each part has no question of those
-// before.
-fn put_parts(
+// All parts of a build.
+#[derive(Clone, Copy)]
+struct WholeWork<'p> {
+    ground: Ground<'p>,
+}
+
+impl<'p> KeyWork for WholeWork<'p> {
+    type Made = Clean;
+
+    fn run<K: Keys>(self, alloc: Global, keys: &mut K) -> Result<Clean, NoMemory> {
+        let plan = self.ground.plan;
+        let mut parts = Parts::of(alloc, keys, self.ground)?;
+        let mut gathered = Gathered::new(alloc);
+        gathered.put_faults(alloc, copy_faults(alloc, plan.faults.as_slice())?)?;
+        // These are faults of each page, so a plan without pages has none of them.
+        if !plan.pages.is_empty() {
+            gathered.put_faults(alloc, copy_faults(alloc, parts.row_faults())?)?;
+        }
+        put_parts(
+            alloc,
+            keys,
+            plan.pages.as_slice(),
+            &mut parts,
+            &mut gathered,
+        )?;
+        gathered.finish(alloc)
+    }
+}
+
+// Puts each page, and the contents page last.
+fn put_parts<K: Keys>(
     alloc: Global,
-    known: KnownTitles<'_>,
-    plan: &Plan,
+    keys: &mut K,
+    pages: &[PagePlan],
     parts: &mut Parts<'_>,
     gathered: &mut Gathered,
-) -> Result<(), NoMemory> {
-    let mut known = known;
-    for (index, page) in plan.pages.as_slice().iter().enumerate() {
-        let mut reader = SourceReader::new(alloc, known);
-        let html = parts.page(alloc, &mut reader, place_of(index)?, List::new(alloc))?;
+) -> Result<(), NoMemory>
+    requires tables { AreTables (K.told keys.old) (K.stand keys.old).world
+        parts.old.ground.plan.now.documents parts.old.ground.plan.now.pages parts.old.tables }
+{
+    for (index, page) in pages.iter().enumerate() {
+        let html = parts.page(alloc, keys, place_of(index)?, List::new(alloc))?;
         gathered.put(alloc, page.name.clone()?, html)?;
-        (_, known) = reader.into_asked();
     }
-    let mut reader = SourceReader::new(alloc, known);
-    let html = parts.contents(alloc, &mut reader)?;
+    let html = parts.contents(alloc, keys)?;
     gathered.put(alloc, contents_name(alloc)?, html)
 }
 

@@ -1,1 +1,17 @@
+pub mod AmongLaws
+pub mod FindLaws
+pub mod JudgeLaws
+pub mod KnownLaws
+pub mod LabelLaws
+pub mod LinkLaws
+pub mod MergeLaws
+pub mod OriginLaws
+pub mod PartLaws
+pub mod RuleLaws
+pub mod ShownLaws
 pub mod SizeLaws
+pub mod StandLaws
+pub mod StepLaws
+pub mod TableLaws
+pub mod Telling
+pub mod TypeLaws

@@ -1,15 +1,18 @@
 //! The calls that resolve content.
 
+ghost use Rattle.std.specs.Prelude.{◌≡◌};
+ghost use Rattle.readers.specs.Founded.{Grows};
+
 use crate::resolver::{At, Resolver, TOO_MANY, TooMany};
 use crate::rules::PageRules;
 use crate::standing::Standing;
 use crate::tables::Tables;
-use askers::Asker;
 use dita_doc::{
     Context, Doc, Fault, FaultCode, List, NoMemory, Node, NodeKind, Resolved, Siblings, Stop,
 };
 use doc_elements::fault_at;
 use doc_maker::DocMaker;
+use readers::Asker;
 use std::alloc::Global;
 
 // How deep an element may stand whose reference is followed.
@@ -17,35 +20,47 @@ const DEPTH_LIMIT: usize = 256;
 
 /// The content that stands in the place of one node of a page's document, where it stands. With
 /// more than 262,144 nodes there is none, and one fault at the root of the document as stored.
+#[tactic(auto, using(crate::proofs::Telling::telling))]
 pub fn resolve<A: Asker>(
     alloc: Global,
     asker: &mut A,
     context: &Context,
     place: u32,
-) -> Result<Resolved, NoMemory> {
+) -> Result<Resolved, NoMemory>
+    ensures stand { A.stand asker.new ≡ A.stand asker.old }
+    ensures grows { Grows (A.told asker.old) (A.told asker.new) }
+{
     let mut tables = Tables::new(alloc);
     resolve_with(alloc, asker, &mut tables, context, place)
 }
 
 /// The content of a page: of all roots of its document, of which pushes can make several or none.
 /// With more than 262,144 nodes there is none, and one fault at the root of the document as stored.
+#[tactic(auto, using(crate::proofs::Telling::telling))]
 pub fn resolve_page<A: Asker>(
     alloc: Global,
     asker: &mut A,
     context: &Context,
-) -> Result<Resolved, NoMemory> {
+) -> Result<Resolved, NoMemory>
+    ensures stand { A.stand asker.new ≡ A.stand asker.old }
+    ensures grows { Grows (A.told asker.old) (A.told asker.new) }
+{
     let mut tables = Tables::new(alloc);
     resolve_page_with(alloc, asker, &mut tables, context)
 }
 
 /// The same as `resolve`, by tables that are kept for all pages of the plan.
+#[tactic(auto, using(crate::proofs::Telling::telling))]
 pub fn resolve_with<A: Asker>(
     alloc: Global,
     asker: &mut A,
     tables: &mut Tables,
     context: &Context,
     place: u32,
-) -> Result<Resolved, NoMemory> {
+) -> Result<Resolved, NoMemory>
+    ensures stand { A.stand asker.new ≡ A.stand asker.old }
+    ensures grows { Grows (A.told asker.old) (A.told asker.new) }
+{
     let Some(doc) = asker.pushed(alloc, &context.page.doc)? else {
         return Ok(nothing(alloc));
     };
@@ -59,23 +74,21 @@ pub fn resolve_with<A: Asker>(
         links: 0,
         is_range: false,
     };
-    let done = match Siblings::element_at(&doc, place) {
-        Some((node, inside)) => resolver.element(asker, &mut tables.places, node, inside, at),
-        None => match doc.nodes.as_slice().get(place as usize) {
-            Some(node) => resolver.put_chars(&doc, node),
-            None => Ok(()),
-        },
-    };
+    let done = resolver.node_at(asker, &mut tables.places, &doc, place, at);
     finish(alloc, asker, context, resolver, done)
 }
 
 /// The same as `resolve_page`, by tables that are kept for all pages of the plan.
+#[tactic(auto, using(crate::proofs::Telling::telling))]
 pub fn resolve_page_with<A: Asker>(
     alloc: Global,
     asker: &mut A,
     tables: &mut Tables,
     context: &Context,
-) -> Result<Resolved, NoMemory> {
+) -> Result<Resolved, NoMemory>
+    ensures stand { A.stand asker.new ≡ A.stand asker.old }
+    ensures grows { Grows (A.told asker.old) (A.told asker.new) }
+{
     let Some(doc) = asker.pushed(alloc, &context.page.doc)? else {
         return Ok(nothing(alloc));
     };
@@ -91,13 +104,17 @@ pub fn resolve_page_with<A: Asker>(
     finish(alloc, asker, context, resolver, done)
 }
 
+#[tactic(auto, using(crate::proofs::Telling::telling))]
 fn finish<A: Asker>(
     alloc: Global,
     asker: &mut A,
     context: &Context,
     resolver: Resolver<'_>,
     done: Result<(), Stop<TooMany>>,
-) -> Result<Resolved, NoMemory> {
+) -> Result<Resolved, NoMemory>
+    ensures stand { A.stand asker.new ≡ A.stand asker.old }
+    ensures grows { Grows (A.told asker.old) (A.told asker.new) }
+{
     match done {
         Ok(()) => Ok(resolver.finish()),
         Err(Stop::Fault(TooMany)) => too_many(alloc, asker, context),
@@ -110,11 +127,11 @@ fn nothing(alloc: Global) -> Resolved {
 }
 
 // No content, with the fault of too much of it.
-fn too_many<A: Asker>(
-    alloc: Global,
-    asker: &mut A,
-    context: &Context,
-) -> Result<Resolved, NoMemory> {
+#[tactic(auto, using(crate::proofs::Telling::telling))]
+fn too_many<A: Asker>(alloc: Global, asker: &mut A, context: &Context) -> Result<Resolved, NoMemory>
+    ensures stand { A.stand asker.new ≡ A.stand asker.old }
+    ensures grows { Grows (A.told asker.old) (A.told asker.new) }
+{
     let mut faults: List<Fault> = List::new(alloc);
     if let Some(doc) = asker.doc(alloc, &context.page.doc)? {
         if let Some(root) = root_of(&doc) {

@@ -1,12 +1,32 @@
 //! The targets that references name.
 
+ghost use Rattle.std.specs.Prelude.{◌≡◌, [], ◌∷◌, List, Some, IfOk};
+ghost use Rattle.std.specs.Arc.{arc_value};
+ghost use Rattle.std.specs.Option.{option_copied, unwrap_or};
+ghost use Rattle.dita_doc.specs.declared.content.Rule.{Rule};
+ghost use Rattle.dita_doc.specs.declared.plan.PageId.{PageId};
+ghost use Rattle.page_spec.specs.Content as content_spec;
+ghost use Rattle.page_spec.specs.Content.{Setting};
+ghost use Rattle.reader_spec.specs.World.{World};
+ghost use Rattle.readers.specs.Documents as documents_spec;
+ghost use Rattle.readers.specs.Documents.{AsksOnly};
+ghost use Rattle.readers.specs.Founded.{Grows, StaysFounded};
+ghost use Rattle.readers.specs.Named as named_spec;
+ghost use Rattle.readers.specs.Told.{Agrees};
+ghost use Rattle.conref_pull.specs.Found as found_spec;
+ghost use Rattle.conref_pull.specs.Setting as setting_spec;
+ghost use Rattle.conref_pull.specs.Tables.{AreTables};
+
 use crate::reference::{Sought, if_read, is_same_topic, reference_in};
 use crate::resolver::Resolver;
 use crate::tables::PlaceTables;
-use askers::Asker;
-use dita_doc::{Doc, FaultCode, KeyAnswer, Name, NoMemory, Node, Target, Text};
+use dita_doc::{
+    Context, Doc, Fault, FaultCode, KeyAnswer, List, Name, NoMemory, Node, Reference, Target, Text,
+};
 use doc_elements::append_faults;
 use href_text::join_name;
+use readers::Asker;
+use std::alloc::Global;
 use std::sync::Arc;
 use targets::split_key;
 
@@ -27,8 +47,15 @@ struct Keyed<'a> {
 }
 
 impl<'a> Resolver<'a> {
+    ghost use Rattle.std.specs.Prelude.{◌≡◌, ◌++◌, [], ◌∷◌, IfOk, OnOk};
+    ghost use Rattle.doc_elements.specs.Walk as walk_spec;
+    ghost use Rattle.readers.specs.Founded.{Grows};
+    ghost use Rattle.conref_pull.specs.Found as found_spec;
+    ghost use Rattle.conref_pull.specs.Sought as sought_spec;
+
     // The target that an element refers to, by its key, or where that fails by its value; a fault,
     // if it can't be found.
+    #[tactic(auto, using(crate::proofs::Telling::telling))]
     pub(crate) fn find<'b, A: Asker>(
         &mut self,
         asker: &mut A,
@@ -37,22 +64,22 @@ impl<'a> Resolver<'a> {
         element: &Node,
         sought: Sought<'b>,
         topic: &str,
-    ) -> Result<Option<Found<'b>>, NoMemory> {
-        let mut is_defined = false;
-        if let Some(keyref) = sought.conkeyref {
-            let keyed = self.find_by_key(asker, places, keyref)?;
-            is_defined = keyed.is_defined;
-            if keyed.found.is_some() {
-                return Ok(keyed.found);
-            }
+    ) -> Result<Option<Found<'b>>, NoMemory>
+        ensures stand { A.stand asker.new ≡ A.stand asker.old }
+        ensures grows { Grows (A.told asker.old) (A.told asker.new) }
+    {
+        let alloc = self.alloc;
+        let context = self.context;
+        let faults = &mut self.faults;
+        let keyed = find_by_key(alloc, asker, places, faults, context, sought.conkeyref)?;
+        if keyed.found.is_some() {
+            return Ok(keyed.found);
         }
-        if let Some(conref) = sought.conref {
-            let found = self.find_by_value(asker, places, origin, conref, topic)?;
-            if found.is_some() {
-                return Ok(found);
-            }
+        let found = find_by_value(alloc, asker, places, context, origin, sought.conref, topic)?;
+        if found.is_some() {
+            return Ok(found);
         }
-        self.push_missing(origin, element, sought, is_defined)?;
+        self.push_missing(origin, element, sought, keyed.is_defined)?;
         Ok(None)
     }
 
@@ -64,102 +91,192 @@ impl<'a> Resolver<'a> {
         element: &Node,
         sought: Sought<'_>,
         is_defined: bool,
-    ) -> Result<(), NoMemory> {
-        if let Some(conref) = sought.conref {
-            return self.push_fault(origin, element, FaultCode::ConrefMissing, conref);
+    ) -> Result<(), NoMemory>
+        ensures { OnOk result (self.new ≡ record self.old {
+          faults = self.old.faults
+              ++ found_spec.missing_by (walk_spec.element_of origin.now element.now)
+              (sought_spec.sought_shown sought.entry) is_defined ∷ [];
+        }) }
+    {
+        if sought.conref.is_some() || is_defined {
+            let value = sought.conref.or(sought.conkeyref).unwrap_or("");
+            return self.push_fault(origin, element, FaultCode::ConrefMissing, value);
         }
-        let keyref = sought.conkeyref.unwrap_or("");
-        if is_defined {
-            return self.push_fault(origin, element, FaultCode::ConrefMissing, keyref);
-        }
-        let (key, _) = split_key(keyref);
+        let (key, _) = split_key(sought.conkeyref.unwrap_or(""));
         self.push_fault(origin, element, FaultCode::KeyUndefined, key)
     }
+}
 
-    // What a key reference names, with the faults of its key: the element of its id, else the one
-    // that the key's own reference names.
-    fn find_by_key<'b, A: Asker>(
-        &mut self,
-        asker: &mut A,
-        places: &mut PlaceTables,
-        keyref: &'b str,
-    ) -> Result<Keyed<'b>, NoMemory> {
-        let (key, id) = split_key(keyref);
-        let text = Text::from_str(self.alloc, key)?;
-        let answer = asker.key(self.alloc, self.context.page.scope, &text)?;
-        let KeyAnswer {
-            node,
-            target,
-            faults,
-            ..
-        } = answer;
-        append_faults(&mut self.faults, faults)?;
-        let is_defined = node.is_some();
-        let found = match target {
-            Target::Local(name, reference) => {
-                let element = match id {
-                    Some(id) => Text::from_str(self.alloc, id)?,
-                    None => reference.element.clone()?,
-                };
-                self.find_in(asker, places, name, &reference.topic, &element, keyref)?
-            }
-            _other => None,
-        };
-        Ok(Keyed { found, is_defined })
-    }
+// What a key reference names, with the faults of its key: the element of its id, else the one that
+// the key's own reference names.
+#[tactic(auto, using(crate::proofs::Telling::telling))]
+fn find_by_key<'b, A: Asker>(
+    alloc: Global,
+    asker: &mut A,
+    places: &mut PlaceTables,
+    faults: &mut List<Fault>,
+    context: &Context,
+    conkeyref: Option<&'b str>,
+) -> Result<Keyed<'b>, NoMemory>
+    ensures stand { A.stand asker.new ≡ A.stand asker.old }
+    ensures grows { Grows (A.told asker.old) (A.told asker.new) }
+{
+    let Some(keyref) = conkeyref else {
+        return Ok(Keyed {
+            found: None,
+            is_defined: false,
+        });
+    };
+    let (key, id) = split_key(keyref);
+    let text = Text::from_str(alloc, key)?;
+    let KeyAnswer {
+        node,
+        target,
+        faults: key_faults,
+        ..
+    } = asker.key(alloc, context.page.scope, &text)?;
+    append_faults(faults, key_faults)?;
+    Ok(Keyed {
+        found: find_target(alloc, asker, places, target, id, keyref)?,
+        is_defined: node.is_some(),
+    })
+}
 
-    // What a value names that was written in the document of this name. `#./element` means the
-    // page's document, and in it the topic where the element stands now.
-    fn find_by_value<'b, A: Asker>(
-        &mut self,
-        asker: &mut A,
-        places: &mut PlaceTables,
-        origin: &Name,
-        conref: &'b str,
-        topic: &str,
-    ) -> Result<Option<Found<'b>>, NoMemory> {
-        let Some(reference) = reference_in(self.alloc, conref)? else {
-            return Ok(None);
-        };
-        if is_same_topic(&reference) {
-            let name = self.context.page.doc.clone()?;
-            let topic = Text::from_str(self.alloc, topic)?;
-            return self.find_in(asker, places, name, &topic, &reference.element, conref);
+// The element that a key's target names, by an id in place of that of its reference.
+#[tactic(auto, using(crate::proofs::Telling::telling))]
+fn find_target<'b, A: Asker>(
+    alloc: Global,
+    asker: &mut A,
+    places: &mut PlaceTables,
+    target: Target,
+    id: Option<&str>,
+    keyref: &'b str,
+) -> Result<Option<Found<'b>>, NoMemory>
+    ensures stand { A.stand asker.new ≡ A.stand asker.old }
+    ensures grows { Grows (A.told asker.old) (A.told asker.new) }
+{
+    match target {
+        Target::Local(name, reference) => {
+            let Reference { topic, element, .. } = reference;
+            let element = element_named(alloc, id, element)?;
+            find_in(alloc, asker, places, name, &topic, &element, keyref)
         }
-        let Some(name) = if_read(join_name(self.alloc, origin, &reference.file))? else {
-            return Ok(None);
-        };
-        self.find_in(
+        _ => Ok(None),
+    }
+}
+
+fn element_named(alloc: Global, id: Option<&str>, other: Text) -> Result<Text, NoMemory>
+    ensures { IfOk result (λ element. element ≡ unwrap_or (option_copied id.entry) other) }
+{
+    match id {
+        Some(id) => Ok(Text::from_str(alloc, id)?),
+        None => Ok(other),
+    }
+}
+
+// What a value names that was written in the document of this name. `#./element` means the page's
+// document, and in it the topic where the element stands now.
+#[tactic(auto, using(crate::proofs::Telling::telling))]
+fn find_by_value<'b, A: Asker>(
+    alloc: Global,
+    asker: &mut A,
+    places: &mut PlaceTables,
+    context: &Context,
+    origin: &Name,
+    conref: Option<&'b str>,
+    topic: &str,
+) -> Result<Option<Found<'b>>, NoMemory>
+    ensures stand { A.stand asker.new ≡ A.stand asker.old }
+    ensures grows { Grows (A.told asker.old) (A.told asker.new) }
+{
+    let Some(conref) = conref else {
+        return Ok(None);
+    };
+    let Some(reference) = reference_in(alloc, conref)? else {
+        return Ok(None);
+    };
+    if is_same_topic(&reference) {
+        let name = context.page.doc.clone()?;
+        let topic = Text::from_str(alloc, topic)?;
+        return find_in(
+            alloc,
             asker,
             places,
             name,
-            &reference.topic,
+            &topic,
             &reference.element,
             conref,
-        )
+        );
     }
+    let Some(name) = if_read(join_name(alloc, origin, &reference.file))? else {
+        return Ok(None);
+    };
+    find_in(
+        alloc,
+        asker,
+        places,
+        name,
+        &reference.topic,
+        &reference.element,
+        conref,
+    )
+}
 
-    // The element of a document that a fragment names.
-    fn find_in<'b, A: Asker>(
-        &mut self,
-        asker: &mut A,
-        places: &mut PlaceTables,
-        name: Name,
-        topic: &Text,
-        element: &Text,
-        value: &'b str,
-    ) -> Result<Option<Found<'b>>, NoMemory> {
-        let Some(doc) = asker.pushed(self.alloc, &name)? else {
-            return Ok(None);
-        };
-        let Some(place) = places.find(self.alloc, &name, &doc, topic, element)? else {
-            return Ok(None);
-        };
-        Ok(Some(Found {
+// The element of a document that a fragment names.
+#[tactic(auto, using(crate::proofs::Telling::telling))]
+fn find_in<'b, A: Asker>(
+    alloc: Global,
+    asker: &mut A,
+    places: &mut PlaceTables,
+    name: Name,
+    topic: &Text,
+    element: &Text,
+    value: &'b str,
+) -> Result<Option<Found<'b>>, NoMemory>
+    ensures known { (world : World) (page : PageId) (rules : List (List Rule))
+        → Agrees world (A.told asker.new)
+        → AreTables (setting_spec.documents_in world (A.stand asker.old).setting) places.old
+        → IfOk result (λ found. found_spec.IsSearch
+        (setting_spec.documents_in world (A.stand asker.old).setting)
+        (content_spec.found_in (setting_spec.setting_of world (A.stand asker.old).setting page rules)
+        name topic.now element.now) value.now places.new found) }
+    ensures stand { A.stand asker.new ≡ A.stand asker.old }
+    ensures founded { StaysFounded (name ∷ []) (A.told asker.old) (A.told asker.new) }
+    ensures asks { AsksOnly documents_spec.of_pushes (name ∷ []) (A.told asker.old)
+        (A.told asker.new) }
+    ensures grows { Grows (A.told asker.old) (A.told asker.new) }
+{
+    let stored = asker.pushed(alloc, &name)?;
+    match stored {
+        None => Ok(None),
+        Some(doc) => found_in(alloc, places, name, doc, topic, element, value),
+    }
+}
+
+// The same of a document with its pushes.
+fn found_in<'b>(
+    alloc: Global,
+    places: &mut PlaceTables,
+    name: Name,
+    doc: Arc<Doc>,
+    topic: &Text,
+    element: &Text,
+    value: &'b str,
+) -> Result<Option<Found<'b>>, NoMemory>
+    ensures { (setting : Setting) → AreTables setting.pushed places.old
+        → setting.pushed name ≡ Some (named_spec.named_tree (arc_value doc))
+        → IfOk result (λ found. found_spec.IsSearch setting.pushed
+        (content_spec.found_in setting name topic.now element.now) value.now places.new found) }
+{
+    let tree: &Doc = &doc;
+    let found = places.find(alloc, &name, tree, topic, element)?;
+    match found {
+        None => Ok(None),
+        Some(place) => Ok(Some(Found {
             name,
             doc,
             place,
             value,
-        }))
+        })),
     }
 }

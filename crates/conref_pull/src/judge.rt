@@ -1,9 +1,24 @@
 //! The judging of elements.
 
+ghost use Rattle.std.specs.Prelude.{◌≡◌, ◌++◌, OnOk};
+ghost use Rattle.std.specs.List.{list_any};
+ghost use Rattle.ditaval_rules.specs.Verdict as verdict_spec;
+ghost use Rattle.doc_elements.specs.Walk as walk_spec;
+ghost use Rattle.map_spec.specs.Judged as judged_spec;
+ghost use Rattle.conref_pull.specs.Judging as judging_spec;
+
 use crate::resolver::Resolver;
-use dita_doc::{Attribute, FaultCode, List, Name, NoMemory, Node};
+use dita_doc::{Attribute, Fault, FaultCode, List, Name, NoMemory, Node};
+use doc_elements::fault_at;
+use std::alloc::Global;
 
 impl<'a> Resolver<'a> {
+    ghost use Rattle.std.specs.Prelude.{◌≡◌, ◌++◌, IfOk, OnOk};
+    ghost use Rattle.doc_elements.specs.Walk as walk_spec;
+    ghost use Rattle.map_spec.specs.Judged as judged_spec;
+    ghost use Rattle.conref_pull.specs.Judging as judging_spec;
+    ghost use Rattle.conref_pull.specs.Rules as rules_spec;
+
     // Whether an element goes that has these attributes. A value of groups counts as absent, with a
     // fault.
     pub(crate) fn is_excluded(
@@ -11,27 +26,75 @@ impl<'a> Resolver<'a> {
         origin: &Name,
         element: &Node,
         attributes: &List<Attribute>,
-    ) -> Result<bool, NoMemory> {
-        let mut is_judged = false;
-        for attribute in attributes.as_slice() {
-            let name = attribute.name.as_str();
-            if !is_conditional(name) {
-                continue;
-            }
-            if attribute.value.as_bytes().contains(&b'(') {
-                self.push_fault(origin, element, FaultCode::GroupValue, name)?;
-            } else {
-                is_judged = true;
-            }
-        }
-        if !is_judged {
+    ) -> Result<bool, NoMemory>
+        ensures state { OnOk result (self.new ≡ record self.old {
+          faults = self.old.faults
+              ++ judged_spec.group_faults (judging_spec.with_attributes attributes.now
+              (walk_spec.element_of origin.now element.now));
+        }) }
+        ensures goes { IfOk result (λ goes. goes
+            ≡ rules_spec.some_exclude self.old.rules attributes.now) }
+    {
+        append_group_faults(self.alloc, &mut self.faults, origin, element, attributes)?;
+        if !has_judged(attributes) {
             return Ok(false);
         }
         self.rules.exclude(self.alloc, attributes)
     }
 }
 
-fn is_conditional(name: &str) -> bool {
+// Appends a fault for each conditional attribute whose value has groups.
+fn append_group_faults(
+    alloc: Global,
+    faults: &mut List<Fault>,
+    origin: &Name,
+    element: &Node,
+    attributes: &List<Attribute>,
+) -> Result<(), NoMemory>
+    ensures { OnOk result (faults.new ≡ faults.old
+        ++ judged_spec.group_faults (judging_spec.with_attributes attributes.now
+        (walk_spec.element_of origin.now element.now))) }
+{
+    for attribute in attributes.as_slice() {
+        if is_group(attribute) {
+            let name = attribute.name.as_str();
+            faults.push(fault_at(alloc, origin, element, FaultCode::GroupValue, name)?)?;
+        }
+    }
+    Ok(())
+}
+
+// Whether one of these attributes can exclude an element.
+fn has_judged(attributes: &List<Attribute>) -> bool
+    ensures { result ≡ list_any judging_spec.is_judged attributes.now }
+{
+    attributes
+        .as_slice()
+        .iter()
+        .any(|attribute| is_judged(attribute))
+}
+
+fn is_judged(attribute: &Attribute) -> bool
+    ensures { result ≡ judging_spec.is_judged attribute.now }
+{
+    is_conditional(attribute.name.as_str()) && !is_grouped(attribute)
+}
+
+fn is_group(attribute: &Attribute) -> bool
+    ensures { result ≡ judged_spec.is_group attribute.now }
+{
+    is_conditional(attribute.name.as_str()) && is_grouped(attribute)
+}
+
+fn is_grouped(attribute: &Attribute) -> bool
+    ensures { result ≡ verdict_spec.is_grouped attribute.now.value }
+{
+    attribute.value.as_bytes().contains(&b'(')
+}
+
+fn is_conditional(name: &str) -> bool
+    ensures { result ≡ verdict_spec.is_conditional name.now }
+{
     matches!(
         name,
         "audience" | "platform" | "product" | "otherprops" | "props" | "deliveryTarget"

@@ -13,6 +13,7 @@ mod find;
 mod judge;
 mod merge;
 mod origin;
+mod place;
 mod ranges;
 mod reference;
 mod resolver;

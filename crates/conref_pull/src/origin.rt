@@ -1,8 +1,56 @@
 //! Where nodes were written.
 
-use dita_doc::{Doc, Name, Node};
+ghost use Rattle.std.specs.Prelude.{◌≡◌, ℕ, true, slice_get};
+ghost use Rattle.std.specs.Option.{option_copied};
+ghost use Rattle.dita_doc.specs.Siblings as siblings_spec;
+ghost use Rattle.dita_doc.specs.Tree as tree_spec;
+ghost use Rattle.dita_doc.specs.Tree.{Content};
+ghost use Rattle.conref_pull.specs.Parts as parts_spec;
+ghost use Rattle.conref_pull.specs.Origin as origin_spec;
+
+use dita_doc::{Doc, Name, Node, Siblings};
+
+// An element where it stands: the name of the document in which it was written, its node, and what
+// it holds.
+#[derive(Clone, Copy)]
+pub(crate) struct Whole<'a> {
+    pub origin: &'a Name,
+    pub node: &'a Node,
+    pub inside: Siblings<'a>,
+}
+
+// The element at this place of a document.
+pub(crate) fn whole_at(doc: &Doc, place: u32) -> Option<Whole<'_>>
+    ensures { (part : Content) → parts_spec.IsPart (tree_spec.tree_of doc.now.nodes) place part
+        → origin_spec.begins_element part ≡ true
+        → origin_spec.whole_shown result ≡ origin_spec.first_whole doc.now.origins part }
+{
+    match Siblings::element_at(doc, place) {
+        None => None,
+        Some((node, inside)) => whole_of(doc, node, inside),
+    }
+}
+
+// An element of a document with the name of its origin.
+fn whole_of<'a>(doc: &'a Doc, node: &'a Node, inside: Siblings<'a>) -> Option<Whole<'a>>
+    ensures { (place : ℕ) (part : Content) → siblings_spec.IsElementAt doc.now place node.now inside.entry
+        → parts_spec.IsPart (tree_spec.tree_of doc.now.nodes) place part
+        → origin_spec.begins_element part ≡ true
+        → origin_spec.whole_shown result ≡ origin_spec.first_whole doc.now.origins part }
+{
+    match origin_of(doc, node) {
+        None => None,
+        Some(origin) => Some(Whole {
+            origin,
+            node,
+            inside,
+        }),
+    }
+}
 
 // The name of the document in which a node of this document was written.
-pub(crate) fn origin_of<'a>(doc: &'a Doc, node: &Node) -> Option<&'a Name> {
+pub(crate) fn origin_of<'a>(doc: &'a Doc, node: &Node) -> Option<&'a Name>
+    ensures { option_copied result ≡ slice_get doc.now.origins node.now.origin }
+{
     doc.origins.as_slice().get(node.origin as usize)
 }

@@ -1,5 +1,14 @@
 //! The references of elements, as they are written.
 
+ghost use Rattle.std.specs.Prelude.{◌≡◌, ℕ, List, IfOk};
+ghost use Rattle.href_text.specs.Reference as reference_spec;
+ghost use Rattle.map_spec.specs.Target as target_spec;
+ghost use Rattle.page_spec.specs.Content as content_spec;
+ghost use Rattle.page_spec.specs.Pushes as pushes_spec;
+ghost use Rattle.doc_elements.specs.Walk as walk_spec;
+ghost use Rattle.targets.specs.Named as named_spec;
+ghost use Rattle.conref_pull.specs.Sought as sought_spec;
+
 use dita_doc::{NoMemory, Node, Reference, Stop, Text};
 use href_text::{RefFault, read_reference};
 use std::alloc::Global;
@@ -13,18 +22,14 @@ pub(crate) struct Sought<'a> {
 
 impl<'a> Sought<'a> {
     // The reference of an element, if it has one.
-    pub(crate) fn by(element: &'a Node) -> Option<Sought<'a>> {
-        let mut sought = Sought {
-            conref: None,
-            conkeyref: None,
+    pub(crate) fn by(element: &'a Node) -> Option<Sought<'a>>
+        ensures { (name : List ℕ) → sought_spec.sought_found result ≡ sought_spec.if_reference
+            (content_spec.sought_by (walk_spec.element_of name element.now)) }
+    {
+        let sought = Sought {
+            conref: element.value_of("conref"),
+            conkeyref: element.value_of("conkeyref"),
         };
-        for attribute in element.attributes.as_slice() {
-            match attribute.name.as_str() {
-                "conref" => sought.conref = Some(attribute.value.as_str()),
-                "conkeyref" => sought.conkeyref = Some(attribute.value.as_str()),
-                _ => {}
-            }
-        }
         if sought.conref.is_none() && sought.conkeyref.is_none() {
             return None;
         }
@@ -33,13 +38,18 @@ impl<'a> Sought<'a> {
 }
 
 // The reference that a value is, if it can be read.
-pub(crate) fn reference_in(alloc: Global, value: &str) -> Result<Option<Reference>, NoMemory> {
+pub(crate) fn reference_in(alloc: Global, value: &str) -> Result<Option<Reference>, NoMemory>
+    ensures { IfOk result (λ reference. reference
+        ≡ target_spec.if_read (reference_spec.reference_of value.now)) }
+{
     let text = Text::from_str(alloc, value)?;
     if_read(read_reference(alloc, &text))
 }
 
 // What was read, if it was.
-pub(crate) fn if_read<T: Drop>(read: Result<T, Stop<RefFault>>) -> Result<Option<T>, NoMemory> {
+pub(crate) fn if_read<T: Drop>(read: Result<T, Stop<RefFault>>) -> Result<Option<T>, NoMemory>
+    ensures { IfOk result (λ value. named_spec.IsIfRead value read) }
+{
     match read {
         Ok(value) => Ok(Some(value)),
         Err(Stop::Fault(_)) => Ok(None),
@@ -48,6 +58,8 @@ pub(crate) fn if_read<T: Drop>(read: Result<T, Stop<RefFault>>) -> Result<Option
 }
 
 // `#./element` names the topic where the reference is used.
-pub(crate) fn is_same_topic(reference: &Reference) -> bool {
+pub(crate) fn is_same_topic(reference: &Reference) -> bool
+    ensures { result ≡ pushes_spec.is_same_topic reference.now }
+{
     reference.file.is_empty() && reference.topic.as_str() == "." && !reference.element.is_empty()
 }

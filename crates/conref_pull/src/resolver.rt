@@ -1,7 +1,9 @@
 //! The state of a page that is being resolved.
 
-use crate::chain::Place;
+ghost use Rattle.std.specs.Prelude.{◌≡◌, ◌+◌, ◌++◌, [], ◌∷◌, OnOk};
+
 use crate::origin::origin_of;
+use crate::place::Place;
 use crate::rules::PageRules;
 use dita_doc::{Context, Doc, Fault, FaultCode, List, Name, NoMemory, Node, Resolved, Stop};
 use doc_elements::fault_at;
@@ -44,6 +46,11 @@ pub(crate) struct Resolver<'a> {
 }
 
 impl<'a> Resolver<'a> {
+    ghost use Rattle.std.specs.Prelude.{◌≡◌, ◌+◌, ◌++◌, [], ◌∷◌, IfOk, OnOk};
+    ghost use Rattle.doc_elements.specs.Walk as walk_spec;
+    ghost use Rattle.map_spec.specs.Elements as elements_spec;
+    ghost use Rattle.conref_pull.specs.Count as count_spec;
+
     pub(crate) fn new(
         alloc: Global,
         context: &'a Context,
@@ -73,7 +80,9 @@ impl<'a> Resolver<'a> {
     }
 
     // Counts a node, unless it is one too many.
-    pub(crate) fn count_one(&mut self) -> Result<(), Stop<TooMany>> {
+    pub(crate) fn count_one(&mut self) -> Result<(), Stop<TooMany>>
+        ensures { count_spec.IsCounted result self.old self.new }
+    {
         if self.count >= COUNT_LIMIT {
             return Err(Stop::Fault(TooMany));
         }
@@ -98,7 +107,13 @@ impl<'a> Resolver<'a> {
         element: &Node,
         code: FaultCode,
         detail: &str,
-    ) -> Result<(), NoMemory> {
+    ) -> Result<(), NoMemory>
+        ensures { OnOk result (self.new ≡ record self.old {
+          faults = self.old.faults
+              ++ elements_spec.fault_at (walk_spec.element_of origin.now element.now) code detail.now
+              ∷ [];
+        }) }
+    {
         let fault = fault_at(self.alloc, origin, element, code, detail)?;
         Ok(self.faults.push(fault)?)
     }

@@ -1,5 +1,11 @@
 //! What is kept for all pages of a plan.
 
+ghost use Rattle.std.specs.Prelude.{◌≡◌, Some, IfOk, OnOk, slice_get};
+ghost use Rattle.readers.specs.Named as named_spec;
+ghost use Rattle.topic_find.specs.Walk as walk_spec;
+ghost use Rattle.conref_pull.specs.Tables as tables_spec;
+ghost use Rattle.conref_pull.specs.Tables.{Documents};
+
 use crate::rules::RuleLists;
 use dita_doc::{Doc, Name, NoMemory, NodeKind, Text};
 use std::alloc::Global;
@@ -16,7 +22,15 @@ pub struct Tables {
 }
 
 impl Tables {
-    pub fn new(alloc: Global) -> Self {
+    ghost use Rattle.reader_spec.specs.World.{World};
+    ghost use Rattle.conref_pull.specs.Rules as rules_spec;
+    ghost use Rattle.conref_pull.specs.Tables as tables_spec;
+    ghost use Rattle.conref_pull.specs.Tables.{Documents};
+
+    pub fn new(alloc: Global) -> Self
+        ensures rules { (world : World) → rules_spec.AreRules world result.rules }
+        ensures places { (documents : Documents) → tables_spec.AreTables documents result.places }
+    {
         Tables {
             rules: RuleLists::new(alloc),
             places: PlaceTables::new(alloc),
@@ -33,7 +47,9 @@ pub(crate) struct PlaceTables {
 }
 
 impl PlaceTables {
-    fn new(alloc: Global) -> Self {
+    fn new(alloc: Global) -> Self
+        ensures { (documents : Documents) → tables_spec.AreTables documents result }
+    {
         PlaceTables {
             targets: BTreeMap::new(alloc),
             ends: BTreeMap::new(alloc),
@@ -48,13 +64,21 @@ impl PlaceTables {
         doc: &Doc,
         topic: &Text,
         element: &Text,
-    ) -> Result<Option<u32>, NoMemory> {
+    ) -> Result<Option<u32>, NoMemory>
+        ensures found { (documents : Documents) → tables_spec.AreTables documents self.old
+            → documents name.now ≡ Some (named_spec.named_tree doc.now)
+            → IfOk result (λ found. found ≡ walk_spec.target_place
+            (named_spec.named_tree doc.now) topic.now element.now) }
+        ensures known { (documents : Documents) → tables_spec.AreTables documents self.old
+            → documents name.now ≡ Some (named_spec.named_tree doc.now)
+            → OnOk result (tables_spec.AreTables documents self.new) }
+    {
         if let Some(table) = self.targets.get(name) {
             return table.find(alloc, topic, element);
         }
         let table = TargetTable::of(alloc, doc)?;
         let found = table.find(alloc, topic, element)?;
-        let _ = self.targets.insert(name.clone()?, table)?;
+        self.targets.insert(name.clone()?, table)?;
         Ok(found)
     }
 
@@ -67,13 +91,19 @@ impl PlaceTables {
         place: u32,
     ) -> Result<Option<u32>, NoMemory> {
         if let Some(ends) = self.ends.get(name) {
-            return Ok(ends.get(place as usize).copied());
+            return Ok(end_at(ends.as_slice(), place));
         }
         let ends = ends_in(alloc, doc)?;
-        let end = ends.get(place as usize).copied();
-        let _ = self.ends.insert(name.clone()?, ends)?;
+        let end = end_at(ends.as_slice(), place);
+        self.ends.insert(name.clone()?, ends)?;
         Ok(end)
     }
+}
+
+fn end_at(ends: &[u32], place: u32) -> Option<u32>
+    ensures { result ≡ slice_get ends.now place }
+{
+    ends.get(place as usize).copied()
 }
 
 // For each node of a document the place behind the last of its siblings; for a root the greatest.

@@ -1,22 +1,44 @@
 //! Elements by their types.
 
+ghost use Rattle.std.specs.Prelude.{◌≡◌, ℕ, List};
+ghost use Rattle.dita_doc.specs.ClassValue as class_value_spec;
+ghost use Rattle.doc_elements.specs.Walk as walk_spec;
+ghost use Rattle.page_spec.specs.Pushes as pushes_spec;
+
 use dita_doc::{Node, split_word};
-use doc_elements::tokens_of;
+use doc_elements::{has_types, tokens_of};
 
 // Whether an element is of the type of another, or of one that specializes it. One without a class
 // that can be read is neither.
-pub(crate) fn is_special(special: &Node, base: &Node) -> bool {
-    let mut own = tokens_of(special);
-    let mut rest = tokens_of(base);
-    if rest.is_empty() {
+pub(crate) fn is_special(special: &Node, base: &Node) -> bool
+    ensures { (name other : List ℕ) → result ≡ pushes_spec.is_special
+        (walk_spec.element_of name special.now) (walk_spec.element_of other base.now) }
+{
+    if !has_types(special) {
         return false;
     }
-    while let Some((token, more)) = split_word(rest) {
-        match split_word(own) {
-            Some((first, others)) if first == token => own = others,
-            _ => return false,
+    if !has_types(base) {
+        return false;
+    }
+    begins_with(tokens_of(special), tokens_of(base))
+}
+
+// Whether the words of a text begin with those of another.
+fn begins_with(text: &[u8], first: &[u8]) -> bool
+    ensures { result ≡ pushes_spec.begins_with (class_value_spec.words_of text.now)
+        (class_value_spec.words_of first.now) }
+{
+    let mut own = text;
+    let mut wanted = first;
+    while let Some((word, more)) = split_word(wanted) {
+        let Some((own_word, own_more)) = split_word(own) else {
+            return false;
+        };
+        if own_word != word {
+            return false;
         }
-        rest = more;
+        own = own_more;
+        wanted = more;
     }
     true
 }

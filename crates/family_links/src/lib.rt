@@ -2,11 +2,12 @@
 //! page of a family to all others.
 //!
 //! What is used above it: `Collections`, made once for a plan, and `by_families`, which makes the
-//! links of one page alone. It is proved safe and to return.
+//! links of one page alone, each exactly as the definition says.
 #![tactic(auto)]
 
 mod families;
 mod groups;
+mod lists;
 mod sequences;
 mod table;
 

@@ -2,8 +2,8 @@
 //! in which each other page stands once.
 //!
 //! What is used above it: `LinkNodes`, which asks for the page of each node once, and `LinkList`,
-//! to which the links by collections and by relationship tables are appended. It is proved safe and
-//! to return.
+//! to which the links by collections and by relationship tables are appended. Their clauses say
+//! what the definition `Links` of `page_spec` says of one node, and of the links of one page.
 #![tactic(auto)]
 
 mod link_list;

@@ -1,8 +1,22 @@
 //! The nodes that links go from and to.
 
-use askers::Asker;
+ghost use Rattle.std.specs.Prelude.{◌≡◌, ◌&&◌, [], ◌∷◌, ℕ, IfOk, slice_get};
+ghost use Rattle.std.specs.Option.{option_copied};
+ghost use Rattle.dita_doc.specs.ClassValue.{value_of};
+ghost use Rattle.dita_doc.specs.declared.plan.Plan as plan_spec;
+ghost use Rattle.link_groups.specs.LinkNodes as spec;
+ghost use Rattle.map_spec.specs.Pages.{local_name, page_for};
+ghost use Rattle.page_spec.specs.Links as links_spec;
+ghost use Rattle.plan_nodes.specs.Carried.{CarryValues};
+ghost use Rattle.reader_spec.specs.World.{World};
+ghost use Rattle.readers.specs.Documents as documents_spec;
+ghost use Rattle.readers.specs.Documents.{AsksOnly};
+ghost use Rattle.readers.specs.Founded.{Grows, StaysFounded};
+ghost use Rattle.readers.specs.Told.{Agrees};
+
 use dita_doc::{Context, Name, NoMemory, PageId, Plan, PlanNode, Target};
 use plan_nodes::{copy_affixes, copy_names, place_of};
+use readers::Asker;
 use std::alloc::Global;
 use std::collections::BTreeMap;
 
@@ -20,7 +34,9 @@ pub struct LinkNode {
 
 impl LinkNode {
     /// Whether a link may go from this node to the other.
-    pub fn may_link(&self, other: &LinkNode) -> bool {
+    pub fn may_link(&self, other: &LinkNode) -> bool
+        ensures { result ≡ (self.now.is_source && other.now.is_target) }
+    {
         self.is_source && other.is_target
     }
 }
@@ -33,7 +49,9 @@ pub struct LinkNodes {
 
 impl LinkNodes {
     /// No node was asked for.
-    pub fn new(alloc: Global) -> LinkNodes {
+    pub fn new(alloc: Global) -> LinkNodes
+        ensures { (world : World) (plan : plan_spec.Plan) → spec.AreLinkNodes world plan result }
+    {
         LinkNodes {
             known: BTreeMap::new(alloc),
         }
@@ -46,47 +64,146 @@ impl LinkNodes {
         asker: &mut A,
         plan: &Plan,
         at: usize,
-    ) -> Result<Option<LinkNode>, NoMemory> {
-        let (Some(node), Some(Target::Local(name, _))) = (
-            plan.nodes.as_slice().get(at),
-            plan.targets.as_slice().get(at),
-        ) else {
+    ) -> Result<Option<LinkNode>, NoMemory>
+        ensures known { (world : World) → Agrees world (A.told asker.new)
+            → CarryValues world plan.now.nodes
+            → (A.stand asker.old).setting.pages ≡ plan.now.pages
+            → spec.AreLinkNodes world plan.now self.old
+            → IfOk result (λ found. spec.IsLinkNode world plan.now at found self.new) }
+        ensures value { CarryValues (A.stand asker.old).world plan.now.nodes
+            → (A.stand asker.old).setting.pages ≡ plan.now.pages
+            → spec.AreLinkNodes (A.stand asker.old).world plan.now self.old
+            → IfOk result (λ found. spec.IsLinkNode (A.stand asker.old).world plan.now at found
+            self.new) }
+        ensures stand { A.stand asker.new ≡ A.stand asker.old }
+        ensures founded { StaysFounded (spec.plan_names plan.now) (A.told asker.old)
+            (A.told asker.new) }
+        ensures asks { AsksOnly documents_spec.nothing [] (A.told asker.old) (A.told asker.new) }
+        ensures grows { Grows (A.told asker.old) (A.told asker.new) }
+    {
+        self.found(alloc, asker, plan, at)
+    }
+
+    // What `find` says, but of the reader's own world.
+    #[tactic(auto, using(crate::proofs::Walking::walking))]
+    fn found<A: Asker>(
+        &mut self,
+        alloc: Global,
+        asker: &mut A,
+        plan: &Plan,
+        at: usize,
+    ) -> Result<Option<LinkNode>, NoMemory>
+        ensures known { (world : World) → Agrees world (A.told asker.new)
+            → CarryValues world plan.now.nodes
+            → (A.stand asker.old).setting.pages ≡ plan.now.pages
+            → spec.AreLinkNodes world plan.now self.old
+            → IfOk result (λ found. spec.IsLinkNode world plan.now at found self.new) }
+        ensures stand { A.stand asker.new ≡ A.stand asker.old }
+        ensures founded { StaysFounded (spec.plan_names plan.now) (A.told asker.old)
+            (A.told asker.new) }
+        ensures asks { AsksOnly documents_spec.nothing [] (A.told asker.old) (A.told asker.new) }
+        ensures grows { Grows (A.told asker.old) (A.told asker.new) }
+    {
+        let Some(name) = name_at(plan, at) else {
             return Ok(None);
         };
-        let at = place_of(at)?;
-        if let Some(known) = self.known.get(&at) {
+        let Some(node) = node_at(plan, at) else {
+            return Ok(None);
+        };
+        let place = place_of(at)?;
+        if let Some(known) = self.known.get(&place) {
             return Ok(*known);
         }
-        let context = context_of(alloc, node, name)?;
-        let page = asker.page_of(alloc, name, &context)?;
-        let found = page.map(|page| link_node(at, page, node));
-        let _ = self.known.insert(at, found)?;
+        let found = link_node_of(alloc, asker, place, node, name)?;
+        let _ = self.known.insert(place, found)?;
         Ok(found)
     }
 }
 
-fn link_node(at: u32, page: u32, node: &PlanNode) -> LinkNode {
+// The document to which the node at this place leads, if it is local.
+fn name_at(plan: &Plan, at: usize) -> Option<&Name>
+    ensures { option_copied result ≡ local_name (links_spec.target_of plan.now at) }
+{
+    match plan.targets.as_slice().get(at) {
+        Some(Target::Local(name, _)) => Some(name),
+        _ => None,
+    }
+}
+
+fn node_at(plan: &Plan, at: usize) -> Option<&PlanNode>
+    ensures { option_copied result ≡ slice_get plan.now.nodes at }
+{
+    plan.nodes.as_slice().get(at)
+}
+
+// Asks for the page of a node that leads to this document.
+#[tactic(auto, using(crate::proofs::Walking::walking))]
+fn link_node_of<A: Asker>(
+    alloc: Global,
+    asker: &mut A,
+    at: u32,
+    node: &PlanNode,
+    name: &Name,
+) -> Result<Option<LinkNode>, NoMemory>
+    ensures known { (world : World) → Agrees world (A.told asker.new)
+        → IfOk result (λ found. found ≡ spec.link_node_of (page_for (A.stand asker.old).setting.pages
+        name.now (links_spec.context_of node.now name.now)) at node.now) }
+    ensures stand { A.stand asker.new ≡ A.stand asker.old }
+    ensures founded { StaysFounded (name.now ∷ []) (A.told asker.old) (A.told asker.new) }
+    ensures asks { AsksOnly documents_spec.nothing [] (A.told asker.old) (A.told asker.new) }
+    ensures grows { Grows (A.told asker.old) (A.told asker.new) }
+{
+    let context = context_of(alloc, node, name)?;
+    let page = asker.page_of(alloc, name, &context)?;
+    Ok(link_node(at, page, node))
+}
+
+fn link_node(at: u32, page: Option<u32>, node: &PlanNode) -> Option<LinkNode>
+    ensures { result ≡ spec.link_node_of page at node.now }
+{
+    let page = page?;
     let linking = linking_of(node);
-    LinkNode {
+    Some(LinkNode {
         at,
         page,
-        is_source: linking == "normal" || linking == "sourceonly",
-        is_target: linking == "normal" || linking == "targetonly",
-    }
+        is_source: is_either(linking, "normal", "sourceonly"),
+        is_target: is_either(linking, "normal", "targetonly"),
+    })
+}
+
+fn is_either(value: &str, one: &str, other: &str) -> bool
+    ensures { result ≡ links_spec.is_one_of (one.now ∷ other.now ∷ []) value.now }
+{
+    value == one || value == other
 }
 
 // The value of `linking` that holds for a node.
-fn linking_of(node: &PlanNode) -> &str {
-    for attribute in node.cascaded.as_slice() {
-        if attribute.name.as_str() == "linking" {
-            return attribute.value.as_str();
-        }
+fn linking_of(node: &PlanNode) -> &str
+    ensures { result.now ≡ spec.linking_of node.now }
+{
+    match carried_value(node, "linking") {
+        Some(linking) => linking,
+        None => "normal",
     }
-    "normal"
+}
+
+// The value of an attribute that a node carries, if it has one.
+fn carried_value<'a>(node: &'a PlanNode, name: &str) -> Option<&'a str>
+    ensures { option_copied result ≡ value_of name.now node.now.cascaded }
+{
+    let attribute = node
+        .cascaded
+        .as_slice()
+        .iter()
+        .find(|attribute| attribute.name.as_str() == name)?;
+    Some(attribute.value.as_str())
 }
 
 // Where a document is used by a node. The page of a document is found by what sets pages apart.
-fn context_of(alloc: Global, node: &PlanNode, name: &Name) -> Result<Context, NoMemory> {
+fn context_of(alloc: Global, node: &PlanNode, name: &Name) -> Result<Context, NoMemory>
+    ensures { IfOk result (λ context.
+        context.page ≡ links_spec.context_of node.now name.now) }
+{
     let page = PageId {
         doc: name.clone()?,
         scope: node.scope,

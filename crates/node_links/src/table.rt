@@ -1,10 +1,22 @@
 //! The table of the links between pages.
 
-use askers::Asker;
+ghost use Rattle.std.specs.Prelude.{◌≡◌, [], IfOk};
+ghost use Rattle.dita_doc.specs.declared.plan.Plan as plan_spec;
+ghost use Rattle.link_groups.specs.LinkNodes as link_nodes_spec;
+ghost use Rattle.node_links.specs.NodeTable as spec;
+ghost use Rattle.reader_spec.specs.World.{World};
+ghost use Rattle.readers.specs.Documents as documents_spec;
+ghost use Rattle.readers.specs.Documents.{AsksOnly};
+ghost use Rattle.readers.specs.Founded as founded_spec;
+ghost use Rattle.readers.specs.Founded.{Grows, StaysFounded};
+ghost use Rattle.readers.specs.Told.{Agrees};
+ghost use Rattle.reltable_links.specs.RowTable as row_table_spec;
+
 use dita_doc::{Fault, List, NoMemory, PageLink, Plan};
 use family_links::Collections;
 use link_groups::{LinkList, LinkNodes};
 use plan_nodes::Homes;
+use readers::Asker;
 use reltable_links::Rows;
 use std::alloc::Global;
 
@@ -18,7 +30,69 @@ pub struct NodeLinks {
 
 impl NodeLinks {
     /// Finds the collections and rows of a plan. Each node in them is asked for its page once.
-    pub fn of<A: Asker>(alloc: Global, asker: &mut A, plan: &Plan) -> Result<NodeLinks, NoMemory> {
+    pub fn of<A: Asker>(alloc: Global, asker: &mut A, plan: &Plan) -> Result<NodeLinks, NoMemory>
+        ensures known { (world : World) → Agrees world (A.told asker.new)
+            → row_table_spec.CanLink world plan.now (A.stand asker.old).setting.pages
+            → IfOk result (spec.AreNodeLinks world plan.now) }
+        ensures value { row_table_spec.CanLink (A.stand asker.old).world plan.now
+            (A.stand asker.old).setting.pages
+            → IfOk result (spec.AreNodeLinks (A.stand asker.old).world plan.now) }
+        ensures stand { A.stand asker.new ≡ A.stand asker.old }
+        ensures founded { StaysFounded (link_nodes_spec.plan_names plan.now) (A.told asker.old)
+            (A.told asker.new) }
+        ensures asks { AsksOnly documents_spec.nothing (founded_spec.homes plan.now.nodes)
+            (A.told asker.old) (A.told asker.new) }
+        ensures grows { Grows (A.told asker.old) (A.told asker.new) }
+    {
+        NodeLinks::found(alloc, asker, plan)
+    }
+
+    /// The links of a page: to those before it, to those behind it, to its siblings and to those
+    /// that are related, each in the order of the nodes linked to. Each href stands once, with its
+    /// first kind, and none leads to the page itself.
+    pub fn of_page<A: Asker>(
+        &self,
+        alloc: Global,
+        asker: &mut A,
+        plan: &Plan,
+        page: u32,
+    ) -> Result<List<PageLink>, NoMemory>
+        ensures known { (world : World) → Agrees world (A.told asker.new)
+            → spec.AreNodeLinks world plan.now self.now
+            → IfOk result (λ links. links ≡ spec.node_links world plan.now page) }
+        ensures value { spec.AreNodeLinks (A.stand asker.old).world plan.now self.now
+            → IfOk result (λ links.
+            links ≡ spec.node_links (A.stand asker.old).world plan.now page) }
+        ensures stand { A.stand asker.new ≡ A.stand asker.old }
+        ensures founded { StaysFounded (link_nodes_spec.plan_names plan.now) (A.told asker.old)
+            (A.told asker.new) }
+        ensures asks { AsksOnly documents_spec.nothing [] (A.told asker.old) (A.told asker.new) }
+        ensures grows { Grows (A.told asker.old) (A.told asker.new) }
+    {
+        self.shown(alloc, asker, plan, page)
+    }
+
+    /// The faults of nodes in rows that have no page, each once. They are faults of every page.
+    pub fn faults(&self) -> &[Fault]
+        ensures { (world : World) (plan : plan_spec.Plan) → spec.AreNodeLinks world plan self.now
+            → result.now ≡ row_table_spec.cell_faults plan }
+    {
+        self.faults.as_slice()
+    }
+
+    // What `of` says, but of the reader's own world.
+    #[tactic(auto, using(crate::proofs::Walking::walking))]
+    fn found<A: Asker>(alloc: Global, asker: &mut A, plan: &Plan) -> Result<NodeLinks, NoMemory>
+        ensures known { (world : World) → Agrees world (A.told asker.new)
+            → row_table_spec.CanLink world plan.now (A.stand asker.old).setting.pages
+            → IfOk result (spec.AreNodeLinks world plan.now) }
+        ensures stand { A.stand asker.new ≡ A.stand asker.old }
+        ensures founded { StaysFounded (link_nodes_spec.plan_names plan.now) (A.told asker.old)
+            (A.told asker.new) }
+        ensures asks { AsksOnly documents_spec.nothing (founded_spec.homes plan.now.nodes)
+            (A.told asker.old) (A.told asker.new) }
+        ensures grows { Grows (A.told asker.old) (A.told asker.new) }
+    {
         let homes = Homes::of(alloc, asker, plan.nodes.as_slice())?;
         let mut link_nodes = LinkNodes::new(alloc);
         let collections = Collections::of(alloc, asker, plan, &homes, &mut link_nodes)?;
@@ -31,24 +105,28 @@ impl NodeLinks {
         })
     }
 
-    /// The links of a page: to those before it, to those behind it, to its siblings and to those
-    /// that are related, each in the order of the nodes linked to. Each href stands once, with its
-    /// first kind, and none leads to the page itself.
-    pub fn of_page<A: Asker>(
+    // What `of_page` says, but of the reader's own world.
+    #[tactic(auto, using(crate::proofs::Walking::walking))]
+    fn shown<A: Asker>(
         &self,
         alloc: Global,
         asker: &mut A,
         plan: &Plan,
         page: u32,
-    ) -> Result<List<PageLink>, NoMemory> {
+    ) -> Result<List<PageLink>, NoMemory>
+        ensures known { (world : World) → Agrees world (A.told asker.new)
+            → spec.AreNodeLinks world plan.now self.now
+            → IfOk result (λ links. links ≡ spec.node_links world plan.now page) }
+        ensures stand { A.stand asker.new ≡ A.stand asker.old }
+        ensures founded { StaysFounded (link_nodes_spec.plan_names plan.now) (A.told asker.old)
+            (A.told asker.new) }
+        ensures asks { AsksOnly documents_spec.nothing [] (A.told asker.old) (A.told asker.new) }
+        ensures grows { Grows (A.told asker.old) (A.told asker.new) }
+    {
         let mut links = LinkList::new(alloc, page);
         self.collections.append(alloc, page, &mut links)?;
         self.rows.append(alloc, page, &mut links)?;
-        links.written(alloc, asker, plan)
-    }
-
-    /// The faults of nodes in rows that have no page, each once. They are faults of every page.
-    pub fn faults(&self) -> &[Fault] {
-        self.faults.as_slice()
+        let shown = links.written(alloc, asker, plan)?;
+        Ok(shown)
     }
 }

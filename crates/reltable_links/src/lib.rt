@@ -2,11 +2,15 @@
 //! in a cell that is a family also to those beside it.
 //!
 //! What is used above it: `Rows`, made once for a plan, and `by_rows`, which makes the links of one
-//! page alone. It is proved safe and to return.
+//! page alone. Their clauses say what the definition `Links` of `page_spec` says of relationship
+//! tables.
 #![tactic(auto)]
 
 mod cells;
+mod faults;
 mod linked;
+mod placed;
+mod standings;
 mod table;
 
 pub use table::{Rows, by_rows};

@@ -1,130 +1,148 @@
 //! The nodes that a page is linked to by rows.
 
-use crate::cells::{Cell, Cells};
+ghost use Rattle.std.specs.Prelude.{◌≡◌, ◌&&◌, ◌||◌, ◌++◌, List, ℕ, Bool, filter, IfOk, OnOk};
+ghost use Rattle.std.specs.List.{list_any};
+ghost use Rattle.std.specs.List.Sorted.{IsNonDecreasingBy};
+ghost use Rattle.dita_doc.specs.declared.content.LinkKind.TheVariants as links_spec;
+ghost use Rattle.link_groups.specs.LinkLists as link_lists_spec;
+ghost use Rattle.link_groups.specs.declared.link_nodes.LinkNode as link_node_spec;
+ghost use Rattle.reltable_links.specs.Linked as spec;
+ghost use Rattle.reltable_links.specs.Standings as standings_spec;
+ghost use Rattle.reltable_links.specs.declared.cells.Cell as cell_spec;
+
+use crate::cells::Cell;
+use crate::placed::below;
+use crate::standings::{Standing, Standings};
 use dita_doc::{LinkKind, NoMemory};
-use link_groups::LinkList;
-use std::alloc::Global;
-use std::collections::BTreeMap;
+use link_groups::{LinkList, LinkNode};
+use std::alloc::{AllocError, Global};
 
-// Where a page stands in a row: one of its cells, and whether it stands in others too.
-#[derive(Clone, Copy, Debug)]
-struct Standing {
-    cell: usize,
-    is_several: bool,
-}
-
-// The places of the nodes below a cell.
-#[derive(Clone, Copy, Debug, PartialEq, Eq, PartialOrd, Ord)]
-struct Range {
-    first: u32,
-    end: u32,
-}
-
-impl Cells {
-    // Appends the links of a page. Cells may stand within one another, so each node of them is gone
-    // over once.
+impl Standings {
+    // Appends the links of a page.
     pub(crate) fn append(
         &self,
         alloc: Global,
+        nodes: &[LinkNode],
         page: u32,
         links: &mut LinkList,
-    ) -> Result<(), NoMemory> {
-        let mut ranges = self.linked_cells(alloc, page)?;
-        ranges.sort_unstable();
-        let mut done = 0;
-        for range in &ranges {
-            self.append_range(range.first.max(done), range.end, links)?;
-            done = range.end.max(done);
-        }
-        Ok(())
-    }
-
-    // Appends links to the pages of the nodes from one place up to another.
-    fn append_range(&self, first: u32, end: u32, links: &mut LinkList) -> Result<(), NoMemory> {
-        let start = self.nodes.partition_point(|node| node.at < first);
-        for node in &self.nodes[start..] {
-            if node.at >= end {
-                return Ok(());
-            }
-            if node.is_target {
-                links.push(LinkKind::Related, node.page)?;
-            }
-        }
+    ) -> Result<(), NoMemory>
+        ensures { (cells : List cell_spec.Cell) (all : link_lists_spec.Links)
+            → standings_spec.AreStandings cells nodes.now self.now
+            → IsNonDecreasingBy (λ (node : link_node_spec.LinkNode). node.at) nodes.now
+            → link_lists_spec.HoldsLinks page all links.old
+            → OnOk result (link_lists_spec.HoldsLinks page
+            (all ++ link_lists_spec.links_to_nodes page links_spec.Related
+            (spec.linked_nodes page cells nodes.now)) links.new) }
+    {
+        let mut linked = self.linked_cells(alloc, page)?;
+        linked.sort_unstable_by_key(|cell| cell.at);
+        append_below(nodes, &linked, links)?;
         Ok(())
     }
 
     // The cells whose nodes a page is linked to.
-    fn linked_cells(&self, alloc: Global, page: u32) -> Result<Vec<Range>, NoMemory> {
-        let mut ranges = Vec::new(alloc);
-        for (row, standing) in &self.rows_of(alloc, page)? {
-            let Some(of_row) = self.rows.get(*row) else {
-                continue;
-            };
-            for place in of_row {
-                if let Some(cell) = self.cells.get(*place)
-                    && (*place != standing.cell || standing.is_several || cell.is_family)
-                {
-                    ranges.push(range_of(cell))?;
-                }
-            }
-        }
-        Ok(ranges)
+    fn linked_cells(&self, alloc: Global, page: u32) -> Result<Vec<Cell>, AllocError>
+        ensures { (test : cell_spec.Cell → Bool) → IfOk result (λ linked.
+            list_any test linked.items ≡ list_any
+            (standings_spec.reached test self.now.rows.entries)
+            (standings_spec.listed page self.now.pages.entries)) }
+    {
+        let mut linked = Vec::new(alloc);
+        self.append_all(self.of_page(page), &mut linked)?;
+        Ok(linked)
     }
 
-    // The rows in which the nodes of a page may link, with where they stand there.
-    fn rows_of(&self, alloc: Global, page: u32) -> Result<BTreeMap<usize, Standing>, NoMemory> {
-        let mut rows = BTreeMap::new(alloc);
-        let Some(of_page) = self.of_pages.get(&page) else {
-            return Ok(rows);
-        };
-        for place in of_page {
-            self.stand(&mut rows, *place)?;
+    fn append_all(&self, standings: &[Standing], linked: &mut Vec<Cell>) -> Result<(), AllocError>
+        ensures { (test : cell_spec.Cell → Bool) → OnOk result (list_any test linked.new.items
+            ≡ (list_any test linked.old.items || list_any
+            (standings_spec.reached test self.now.rows.entries) standings.now)) }
+    {
+        for standing in standings {
+            self.append_row(standing, linked)?;
         }
-        Ok(rows)
+        Ok(())
     }
 
-    // Adds a cell, and all that stand around it.
-    fn stand(&self, rows: &mut BTreeMap<usize, Standing>, place: usize) -> Result<(), NoMemory> {
-        let mut next = Some(place);
-        for _ in 0..self.cells.len() {
-            let Some(place) = next else {
-                return Ok(());
-            };
-            let Some(cell) = self.cells.get(place) else {
-                return Ok(());
-            };
-            if !add(rows, cell.row, place)? {
-                return Ok(());
-            }
-            next = cell.outer;
-        }
+    // Appends the cells of its row that a standing reaches.
+    fn append_row(&self, standing: &Standing, linked: &mut Vec<Cell>) -> Result<(), AllocError>
+        ensures { (test : cell_spec.Cell → Bool) → OnOk result (list_any test linked.new.items
+            ≡ (list_any test linked.old.items
+            || standings_spec.reached test self.now.rows.entries standing.now)) }
+    {
+        append_cells(self.cells_of(standing.row), standing, linked)?;
         Ok(())
     }
 }
 
-// Adds a cell to those of its row in which a page stands. The answer is whether it was not yet
-// there; if there are several, it may have been.
-fn add(rows: &mut BTreeMap<usize, Standing>, row: usize, cell: usize) -> Result<bool, NoMemory> {
-    if let Some(standing) = rows.get_mut(&row) {
-        if standing.cell == cell {
-            return Ok(false);
-        }
-        standing.is_several = true;
-        return Ok(true);
+// Appends those of some cells that a standing reaches.
+fn append_cells(
+    cells: &[Cell],
+    standing: &Standing,
+    linked: &mut Vec<Cell>,
+) -> Result<(), AllocError>
+    ensures { (test : cell_spec.Cell → Bool) → OnOk result (list_any test linked.new.items
+        ≡ (list_any test linked.old.items || list_any (λ (cell : cell_spec.Cell).
+        standings_spec.reaches cell standing.now && test cell) cells.now)) }
+{
+    for cell in cells {
+        append_cell(cell, standing, linked)?;
     }
-    let _ = rows.insert(
-        row,
-        Standing {
-            cell,
-            is_several: false,
-        },
-    )?;
-    Ok(true)
+    Ok(())
 }
 
-fn range_of(cell: &Cell) -> Range {
-    Range {
-        first: cell.first,
-        end: cell.end,
+fn append_cell(cell: &Cell, standing: &Standing, linked: &mut Vec<Cell>) -> Result<(), AllocError>
+    ensures { (test : cell_spec.Cell → Bool) → OnOk result (list_any test linked.new.items
+        ≡ (list_any test linked.old.items
+        || (standings_spec.reaches cell.now standing.now && test cell.now))) }
+{
+    if standing.reaches(cell) {
+        linked.push(*cell)?;
     }
+    Ok(())
+}
+
+// Appends links to the nodes below cells in order. Cells may stand within one another, so each node
+// is gone over once.
+fn append_below(nodes: &[LinkNode], cells: &[Cell], links: &mut LinkList) -> Result<(), NoMemory>
+    ensures { (own : ℕ) (all : link_lists_spec.Links)
+        → IsNonDecreasingBy (λ (node : link_node_spec.LinkNode). node.at) nodes.now
+        → IsNonDecreasingBy (λ (cell : cell_spec.Cell). cell.at) cells.now
+        → link_lists_spec.HoldsLinks own all links.old
+        → OnOk result (link_lists_spec.HoldsLinks own
+        (all ++ link_lists_spec.links_to_nodes own links_spec.Related
+        (filter (spec.is_target_below cells.now) nodes.now)) links.new) }
+{
+    let mut done = 0;
+    for cell in cells {
+        append_targets(below(nodes, cell, done), links)?;
+        done = done.max(cell.end);
+    }
+    Ok(())
+}
+
+// Appends links to the nodes that may be linked to.
+fn append_targets(nodes: &[LinkNode], links: &mut LinkList) -> Result<(), NoMemory>
+    ensures { (own : ℕ) (all : link_lists_spec.Links)
+        → link_lists_spec.HoldsLinks own all links.old
+        → OnOk result (link_lists_spec.HoldsLinks own
+        (all ++ link_lists_spec.links_to_nodes own links_spec.Related
+        (filter spec.is_target nodes.now)) links.new) }
+{
+    for node in nodes {
+        append_target(node, links)?;
+    }
+    Ok(())
+}
+
+fn append_target(node: &LinkNode, links: &mut LinkList) -> Result<(), NoMemory>
+    ensures { (own : ℕ) (all : link_lists_spec.Links)
+        → link_lists_spec.HoldsLinks own all links.old
+        → OnOk result (link_lists_spec.HoldsLinks own
+        (all ++ link_lists_spec.links_to_nodes own links_spec.Related
+        (spec.if_target node.now)) links.new) }
+{
+    if node.is_target {
+        links.push(LinkKind::Related, node.page)?;
+    }
+    Ok(())
 }

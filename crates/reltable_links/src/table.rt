@@ -1,39 +1,80 @@
 //! The links that rows give, and the nodes in them that have no page.
 
+ghost use Rattle.std.specs.Prelude.{◌≡◌, ◌++◌, [], IfOk, OnOk, map};
+ghost use Rattle.dita_doc.specs.declared.content.LinkKind.TheVariants as kinds;
+ghost use Rattle.dita_doc.specs.declared.plan.Plan as plan_spec;
+ghost use Rattle.link_groups.specs.LinkLists as link_lists_spec;
+ghost use Rattle.link_groups.specs.LinkNodes as link_nodes_spec;
+ghost use Rattle.map_spec.specs.Cascade as cascade_spec;
+ghost use Rattle.page_spec.specs.Links as links_spec;
+ghost use Rattle.reader_spec.specs.World.{World};
+ghost use Rattle.readers.specs.Documents as documents_spec;
+ghost use Rattle.readers.specs.Documents.{AsksOnly};
+ghost use Rattle.readers.specs.Founded as founded_spec;
+ghost use Rattle.readers.specs.Founded.{Grows, StaysFounded};
+ghost use Rattle.readers.specs.Told.{Agrees};
+ghost use Rattle.reltable_links.specs.RowTable as spec;
+
 use crate::cells::Cells;
-use askers::Asker;
-use dita_doc::{Fault, FaultCode, List, NoMemory, Plan, Target};
+use crate::faults::{append_below, append_faults};
+use crate::standings::Standings;
+use dita_doc::{Fault, List, NoMemory, Plan};
 use link_groups::{LinkList, LinkNodes, LinksMade};
-use plan_nodes::{Homes, fault_of};
+use plan_nodes::Homes;
+use readers::Asker;
 use std::alloc::Global;
 
 /// The rows of a plan, by the pages that link in them.
 #[derive(Debug, Drop)]
 pub struct Rows {
     cells: Cells,
+    standings: Standings,
 }
 
 impl Rows {
     /// Finds the rows of a plan.
+    #[tactic(auto, using(crate::proofs::Walking::walking))]
     pub fn of<A: Asker>(
         alloc: Global,
         asker: &mut A,
         plan: &Plan,
         homes: &Homes,
         link_nodes: &mut LinkNodes,
-    ) -> Result<Rows, NoMemory> {
-        Ok(Rows {
-            cells: Cells::of(alloc, asker, plan, homes, link_nodes)?,
-        })
+    ) -> Result<Rows, NoMemory>
+        ensures known { (world : World) → Agrees world (A.told asker.new)
+            → spec.CanLink world plan.now (A.stand asker.old).setting.pages
+            → homes.now ≡ map (cascade_spec.whole_at world) plan.now.nodes
+            → link_nodes_spec.AreLinkNodes world plan.now link_nodes.old
+            → IfOk result (λ rows. spec.AreRowsFound world plan.now rows link_nodes.new) }
+        ensures stand { A.stand asker.new ≡ A.stand asker.old }
+        ensures founded { StaysFounded (link_nodes_spec.plan_names plan.now) (A.told asker.old)
+            (A.told asker.new) }
+        ensures asks { AsksOnly documents_spec.nothing [] (A.told asker.old) (A.told asker.new) }
+        ensures grows { Grows (A.told asker.old) (A.told asker.new) }
+    {
+        let cells = Cells::of(alloc, asker, plan, homes, link_nodes)?;
+        let standings = Standings::of(alloc, &cells.cells, &cells.nodes)?;
+        Ok(Rows { cells, standings })
     }
 
     /// Appends the links of a page to those that are related to it.
-    pub fn append(&self, alloc: Global, page: u32, links: &mut LinkList) -> Result<(), NoMemory> {
-        self.cells.append(alloc, page, links)
+    pub fn append(&self, alloc: Global, page: u32, links: &mut LinkList) -> Result<(), NoMemory>
+        ensures { (world : World) (plan : plan_spec.Plan) (all : link_lists_spec.Links)
+            → spec.AreRowsOf world plan self.now
+            → link_lists_spec.HoldsLinks page all links.old
+            → OnOk result (link_lists_spec.HoldsLinks page
+            (all ++ links_spec.links_of_kind world plan page kinds.Related) links.new) }
+    {
+        self.standings
+            .append(alloc, &self.cells.nodes, page, links)?;
+        Ok(())
     }
 
     /// The faults of nodes without a page, in order, each node's once.
-    pub fn faults(&self, alloc: Global, plan: &Plan) -> Result<List<Fault>, NoMemory> {
+    pub fn faults(&self, alloc: Global, plan: &Plan) -> Result<List<Fault>, NoMemory>
+        ensures { (world : World) → spec.AreRowsOf world plan.now self.now
+            → IfOk result (λ faults. faults ≡ spec.cell_faults plan.now) }
+    {
         let mut faults = List::new(alloc);
         append_faults(alloc, plan, &self.cells.lost, &mut faults)?;
         Ok(faults)
@@ -41,40 +82,55 @@ impl Rows {
 
     /// The faults of each row in turn. A node stands in several rows if one stands in a cell of
     /// another, and then has its fault in each.
-    pub fn faults_by_row(&self, alloc: Global, plan: &Plan) -> Result<List<Fault>, NoMemory> {
+    pub fn faults_by_row(&self, alloc: Global, plan: &Plan) -> Result<List<Fault>, NoMemory>
+        ensures { (world : World) → spec.AreRowsOf world plan.now self.now
+            → IfOk result (λ faults. faults ≡ links_spec.row_faults plan.now) }
+    {
         let mut faults = List::new(alloc);
-        let lost = &self.cells.lost;
-        for of_row in &self.cells.rows {
-            for place in of_row {
-                if let Some(cell) = self.cells.cells.get(*place) {
-                    let start = lost.partition_point(|at| *at < cell.first);
-                    let end = lost.partition_point(|at| *at < cell.end);
-                    if let Some(below) = lost.get(start..end) {
-                        append_faults(alloc, plan, below, &mut faults)?;
-                    }
-                }
-            }
-        }
+        self.append_rows(alloc, plan, &self.cells.rows, &mut faults)?;
         Ok(faults)
     }
-}
 
-// Appends the faults of these nodes.
-fn append_faults(
-    alloc: Global,
-    plan: &Plan,
-    lost: &[u32],
-    faults: &mut List<Fault>,
-) -> Result<(), NoMemory> {
-    for at in lost {
-        let at = *at as usize;
-        if let Some(node) = plan.nodes.as_slice().get(at)
-            && let Some(Target::Local(name, _)) = plan.targets.as_slice().get(at)
-        {
-            faults.push(fault_of(alloc, node, FaultCode::LinkNoPage, name.as_str())?)?;
+    fn append_rows(
+        &self,
+        alloc: Global,
+        plan: &Plan,
+        rows: &[u32],
+        faults: &mut List<Fault>,
+    ) -> Result<(), NoMemory>
+        ensures { (world : World) → spec.AreRowsOf world plan.now self.now
+            → OnOk result (faults.new ≡ faults.old
+            ++ spec.faults_of_rows plan.now self.now.cells.cells.items rows.now
+            self.now.cells.lost.items) }
+    {
+        for row in rows {
+            self.append_row(alloc, plan, *row, faults)?;
         }
+        Ok(())
     }
-    Ok(())
+
+    // Appends the faults of a row.
+    fn append_row(
+        &self,
+        alloc: Global,
+        plan: &Plan,
+        row: u32,
+        faults: &mut List<Fault>,
+    ) -> Result<(), NoMemory>
+        ensures { (world : World) → spec.AreRowsOf world plan.now self.now
+            → OnOk result (faults.new ≡ faults.old
+            ++ spec.faults_of_row plan.now self.now.cells.cells.items self.now.cells.lost.items
+            row) }
+    {
+        append_below(
+            alloc,
+            plan,
+            self.standings.cells_of(row),
+            &self.cells.lost,
+            faults,
+        )?;
+        Ok(())
+    }
 }
 
 /// The links of a page by the relationship tables of its plan. The faults are those of all rows,
@@ -84,7 +140,41 @@ pub fn by_rows<A: Asker>(
     asker: &mut A,
     plan: &Plan,
     page: u32,
-) -> Result<LinksMade, NoMemory> {
+) -> Result<LinksMade, NoMemory>
+    ensures known { (world : World) → Agrees world (A.told asker.new)
+        → spec.CanLink world plan.now (A.stand asker.old).setting.pages
+        → IfOk result (spec.AreRowLinks world plan.now page) }
+    ensures value { spec.CanLink (A.stand asker.old).world plan.now
+        (A.stand asker.old).setting.pages
+        → IfOk result (spec.AreRowLinks (A.stand asker.old).world plan.now page) }
+    ensures stand { A.stand asker.new ≡ A.stand asker.old }
+    ensures founded { StaysFounded (link_nodes_spec.plan_names plan.now) (A.told asker.old)
+        (A.told asker.new) }
+    ensures asks { AsksOnly documents_spec.nothing (founded_spec.homes plan.now.nodes)
+        (A.told asker.old) (A.told asker.new) }
+    ensures grows { Grows (A.told asker.old) (A.told asker.new) }
+{
+    rows_linked(alloc, asker, plan, page)
+}
+
+// What `by_rows` says, but of the reader's own world.
+#[tactic(auto, using(crate::proofs::Walking::walking))]
+fn rows_linked<A: Asker>(
+    alloc: Global,
+    asker: &mut A,
+    plan: &Plan,
+    page: u32,
+) -> Result<LinksMade, NoMemory>
+    ensures known { (world : World) → Agrees world (A.told asker.new)
+        → spec.CanLink world plan.now (A.stand asker.old).setting.pages
+        → IfOk result (spec.AreRowLinks world plan.now page) }
+    ensures stand { A.stand asker.new ≡ A.stand asker.old }
+    ensures founded { StaysFounded (link_nodes_spec.plan_names plan.now) (A.told asker.old)
+        (A.told asker.new) }
+    ensures asks { AsksOnly documents_spec.nothing (founded_spec.homes plan.now.nodes)
+        (A.told asker.old) (A.told asker.new) }
+    ensures grows { Grows (A.told asker.old) (A.told asker.new) }
+{
     let homes = Homes::of(alloc, asker, plan.nodes.as_slice())?;
     let mut link_nodes = LinkNodes::new(alloc);
     let rows = Rows::of(alloc, asker, plan, &homes, &mut link_nodes)?;

@@ -1,9 +1,11 @@
 //! The items, each with its label and its link.
 
+ghost use Rattle.std.specs.Prelude.{◌≡◌};
+ghost use Rattle.readers.specs.Founded.{Grows};
+
 use crate::keys::is_keyed;
 use crate::list::OpenItems;
 use crate::titles::navtitle_of;
-use askers::Asker;
 use dita_doc::{
     Attribute, Context, Name, NoMemory, PageId, Plan, PlanKind, PlanNode, Target, Text,
     append_html, append_html_value,
@@ -11,6 +13,7 @@ use dita_doc::{
 use html_page::append_anchor;
 use key_scopes::ScopeTable;
 use plan_nodes::{Homes, copy_affixes, copy_names};
+use readers::Asker;
 use std::alloc::{AllocError, Global};
 
 /// A plan with the elements of its nodes, its keys if they are needed, and for each node whether it
@@ -24,12 +27,16 @@ pub(crate) struct Toc<'a> {
 }
 
 /// Appends the list of the items, if there are any.
+#[tactic(auto, using(crate::proofs::Walking::walking))]
 pub(crate) fn append_items<A: Asker>(
     alloc: Global,
     asker: &mut A,
     toc: Toc<'_>,
     out: &mut Text,
-) -> Result<(), NoMemory> {
+) -> Result<(), NoMemory>
+    ensures stand { A.stand asker.new ≡ A.stand asker.old }
+    ensures grows { Grows (A.told asker.old) (A.told asker.new) }
+{
     let mut open = OpenItems::new(alloc);
     for (at, node) in toc.plan.nodes.as_slice().iter().enumerate().skip(1) {
         if !may_be_item(toc, at, node) {
@@ -94,6 +101,7 @@ fn is_conditional(name: &str) -> bool {
 
 // The label of an item. The title that the node says of itself counts if it is locked, or if the
 // target is no document of ours.
+#[tactic(auto, using(crate::proofs::Walking::walking))]
 fn label_of<A: Asker>(
     alloc: Global,
     asker: &mut A,
@@ -101,7 +109,10 @@ fn label_of<A: Asker>(
     at: usize,
     node: &PlanNode,
     navtitle: Text,
-) -> Result<Text, NoMemory> {
+) -> Result<Text, NoMemory>
+    ensures stand { A.stand asker.new ≡ A.stand asker.old }
+    ensures grows { Grows (A.told asker.old) (A.told asker.new) }
+{
     let target = toc.plan.targets.as_slice().get(at);
     if !navtitle.is_empty() && (!is_local(target) || is_locked(toc, at)) {
         return Ok(navtitle);
@@ -138,13 +149,17 @@ fn file_label(
 }
 
 // What an item leads to: the page of its document, or a target that is no document of ours.
+#[tactic(auto, using(crate::proofs::Walking::walking))]
 fn href_of<A: Asker>(
     alloc: Global,
     asker: &mut A,
     toc: Toc<'_>,
     at: usize,
     node: &PlanNode,
-) -> Result<Option<Text>, NoMemory> {
+) -> Result<Option<Text>, NoMemory>
+    ensures stand { A.stand asker.new ≡ A.stand asker.old }
+    ensures grows { Grows (A.told asker.old) (A.told asker.new) }
+{
     match toc.plan.targets.as_slice().get(at) {
         Some(Target::Local(name, _)) => page_href(alloc, asker, toc.plan, node, name),
         Some(Target::File(name, rest)) => Ok(Some(file_href(alloc, name, rest)?)),
@@ -160,13 +175,17 @@ fn file_href(alloc: Global, name: &Name, rest: &Text) -> Result<Text, NoMemory> 
 }
 
 // The name of the page that a document has for a node, if it has one.
+#[tactic(auto, using(crate::proofs::Walking::walking))]
 fn page_href<A: Asker>(
     alloc: Global,
     asker: &mut A,
     plan: &Plan,
     node: &PlanNode,
     name: &Name,
-) -> Result<Option<Text>, NoMemory> {
+) -> Result<Option<Text>, NoMemory>
+    ensures stand { A.stand asker.new ≡ A.stand asker.old }
+    ensures grows { Grows (A.told asker.old) (A.told asker.new) }
+{
     let context = context_of(alloc, plan, node, name)?;
     let Some(page) = asker.page_of(alloc, name, &context)? else {
         return Ok(None);

@@ -7,11 +7,13 @@
 
 mod hrefs;
 mod image;
+mod keyed;
 mod lead;
 mod link;
-mod linker;
+mod made;
+mod page;
 mod types;
 mod walk;
 
-pub use linker::AnchorsMade;
+pub use made::AnchorsMade;
 pub use walk::anchors;

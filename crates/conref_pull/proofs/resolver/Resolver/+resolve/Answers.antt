@@ -4,16 +4,16 @@ use Rattle.dita_doc.specs.Tree.{size_of}
 use Rattle.conref_pull.proofs.SizeLaws.{around, behind, size_bound}
 use Rattle.conref_pull.proofs.resolver.Resolver.+resolve.Goals as goal
 
-pub range-element-requires : goal.range-element-requires
-range-element-requires g t c =
-    let bound = size_bound c.in-Some-element_at.inside in
+pub node_at-element-requires : goal.node_at-element-requires
+node_at-element-requires g t c =
+    let bound = size_bound c.in-Some.inside in
     let links = c.args.at.links in
-    let smaller : around links + 8 * size_of (content c.in-Some-element_at.inside) + 4 < behind links = omega arith in
+    let smaller : around links + 8 * size_of (content c.in-Some.inside) + 4 < behind links = omega arith in
     search rules
 
 pub merged-siblings-requires : goal.merged-siblings-requires
 merged-siblings-requires g t c =
-    let bound = size_bound c.in-Some.inside in
+    let bound = size_bound c.in-Some.target.inside in
     let links = c.args.chain.now.end in
-    let smaller : around links + 8 * size_of (content c.in-Some.inside) + 1 < behind links = omega arith in
+    let smaller : around links + 8 * size_of (content c.in-Some.target.inside) + 1 < behind links = omega arith in
     search rules

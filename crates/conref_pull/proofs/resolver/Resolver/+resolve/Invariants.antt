@@ -1,6 +1,7 @@
-use Rattle.std.proofs.Common.{◌+◌, ◌*◌, ◌≤◌}
+use Rattle.std.proofs.Common.{◌≡◌, ◌+◌, ◌*◌, ◌≤◌}
 use Rattle.dita_doc.specs.Siblings.{content}
 use Rattle.dita_doc.specs.Tree.{size_of}
+use Rattle.readers.specs.Founded.{Grows}
 use Rattle.conref_pull.proofs.SizeLaws.{around, behind}
 use Rattle.conref_pull.proofs.resolver.Resolver.+resolve.Given as goal
 
@@ -17,16 +18,32 @@ abbrev pub decreases-merged : goal.decreases-merged
 decreases-merged g l = behind l.chain.now.end
 
 abbrev pub decreases-ranges : goal.decreases-ranges
-decreases-ranges g l = behind (l.at.links + 1) + 1
+decreases-ranges g l = behind (l.at.links + 1) + 2
 
 abbrev pub decreases-range : goal.decreases-range
-decreases-range g l = behind l.at.links
+decreases-range g l = behind l.at.links + 1
+
+abbrev pub decreases-node_at : goal.decreases-node_at
+decreases-node_at g l = behind l.at.links
 
 abbrev pub invariant-siblings-loop-node : goal.invariant-siblings-loop-node
-invariant-siblings-loop-node g l = size_of (content l.left) ≤ size_of (content l.fn.siblings)
+invariant-siblings-loop-node g l = record {
+  small : size_of (content l.left) ≤ size_of (content l.fn.siblings);
+  stand : g.A.Reader.stand l.asker ≡ g.A.Reader.stand l.fn.asker;
+  grows : Grows (g.A.Reader.told l.fn.asker) (g.A.Reader.told l.asker);
+}
 
 abbrev pub decreases-siblings-loop-node : goal.decreases-siblings-loop-node
 decreases-siblings-loop-node g l = size_of (content l.left)
 
-abbrev pub decreases-ranges-loop-count : goal.decreases-ranges-loop-count
-decreases-ranges-loop-count g l = l.count
+abbrev pub invariant-ranges-loop-link : goal.invariant-ranges-loop-link
+invariant-ranges-loop-link g l = record {
+  stand : g.A.Reader.stand l.asker ≡ g.A.Reader.stand l.fn.asker;
+  grows : Grows (g.A.Reader.told l.fn.asker) (g.A.Reader.told l.asker);
+}
+
+abbrev pub invariant-range-loop : goal.invariant-range-loop
+invariant-range-loop g l = record {
+  stand : g.A.Reader.stand l.asker ≡ g.A.Reader.stand l.fn.asker;
+  grows : Grows (g.A.Reader.told l.fn.asker) (g.A.Reader.told l.asker);
+}

@@ -1,0 +1,24 @@
+-- The target of a link.
+use Rattle.std.specs.Prelude.{◌≡◌, true, List, Option, Some}
+use Rattle.std.specs.Arc.{arc_value}
+use Rattle.std.proofs.Common.{refl, sym, ap, subst, ◌∙◌}
+use Rattle.dita_doc.specs.Tree.{Content, Element, tree_of}
+use Rattle.dita_doc.specs.declared.doc.Doc.{Doc}
+use Rattle.conref_pull.specs.Linked.{IsLink}
+use Rattle.conref_pull.specs.Origin.{begins_element, first_whole, whole_shown}
+use Rattle.conref_pull.specs.Parts.{IsPart}
+use Rattle.conref_pull.specs.Step.{Taken}
+use Rattle.conref_pull.specs.declared.chain.Link.{Link}
+use Rattle.conref_pull.specs.declared.origin.Whole.{Whole}
+
+-- it is the element that was taken, with what it holds
+pub link_whole : (tree : Doc) (link : Link) (one : Taken) (found : Option Whole) → tree ≡ arc_value link.doc
+    → IsLink link one
+    → ((part : Content) → IsPart (tree_of tree.nodes) link.place part → begins_element part ≡ true
+    → whole_shown found ≡ first_whole tree.origins part)
+    → whole_shown found ≡ Some (one.element, one.inside)
+link_whole tree link one found same is whole =
+    let part : Content = Element is.name is.attributes is.origin is.line is.inside is.rest in
+    let there : IsPart (tree_of tree.nodes) link.place part =
+    subst (λ (d : Doc). IsPart (tree_of d.nodes) link.place part) (sym same) is.part in
+    whole part there refl ∙ ap (λ (d : Doc). first_whole d.origins part) same ∙ is.whole

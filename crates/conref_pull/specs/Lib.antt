@@ -1,0 +1,13 @@
+pub mod Count
+pub mod Found
+pub mod Judging
+pub mod Linked
+pub mod Merging
+pub mod Origin
+pub mod Parts
+pub mod Rules
+pub mod Setting
+pub mod Shown
+pub mod Sought
+pub mod Step
+pub mod Tables

@@ -1,0 +1,22 @@
+-- What is kept of documents (own): the elements that fragments name, and where siblings end.
+use Rattle.std.specs.Prelude.{◌≡◌, ℕ, List, Option, Some}
+use Rattle.std.specs.BTreeMap as tree
+use Rattle.std.specs.declared.alloc.Global.{Global}
+use Rattle.std.specs.declared.vec.Vec.{Vec}
+use Rattle.map_spec.specs.Written.{Written}
+use Rattle.topic_find.specs.Table.{IsTableFor}
+use Rattle.topic_find.specs.declared.table.TargetTable.{TargetTable}
+use Rattle.conref_pull.specs.Parts.{ends_of}
+use Rattle.conref_pull.specs.Rules.{name_cmp}
+use Rattle.conref_pull.specs.declared.tables.PlaceTables.{PlaceTables}
+
+-- the documents that stand under names
+abbrev pub Documents : Type 0
+Documents = List ℕ → Option Written
+
+-- what is kept under a name is that of the document which stands under it
+pub record AreTables (documents : Documents) (tables : PlaceTables) : Type 0 where
+  pub targets : (name : List ℕ) (table : TargetTable) (nodes : Written)
+      → Some table ≡ tree.get name_cmp tables.targets name → documents name ≡ Some nodes → IsTableFor table nodes
+  pub ends : (name : List ℕ) (ends : Vec ℕ Global) (nodes : Written)
+      → Some ends ≡ tree.get name_cmp tables.ends name → documents name ≡ Some nodes → ends.items ≡ ends_of nodes

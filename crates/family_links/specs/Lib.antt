@@ -1,0 +1,5 @@
+pub mod Lists
+pub mod Grouped
+pub mod Sequenced
+pub mod Families
+pub mod Collected

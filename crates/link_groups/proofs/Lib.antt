@@ -1,0 +1,6 @@
+pub mod Walking
+pub mod NumberLaws
+pub mod NodeLaws
+pub mod OnceLaws
+pub mod OrderLaws
+pub mod ListLaws

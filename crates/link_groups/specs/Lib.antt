@@ -1,0 +1,2 @@
+pub mod LinkNodes
+pub mod LinkLists

@@ -1,0 +1,14 @@
+pub mod Walking
+pub mod ListLaws
+pub mod SpanLaws
+pub mod UpLaws
+pub mod CellLaws
+pub mod LinkedLaws
+pub mod OrderedLaws
+pub mod StepLaws
+pub mod LoopLaws
+pub mod BelowLaws
+pub mod StandingLaws
+pub mod ReachLaws
+pub mod FaultLaws
+pub mod TableLaws

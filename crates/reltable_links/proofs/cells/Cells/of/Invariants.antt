@@ -1,0 +1,21 @@
+use Rattle.std.proofs.Common.{◌≡◌, [], take}
+use Rattle.map_spec.specs.Scopes.{places}
+use Rattle.readers.specs.Documents.{AsksOnly, nothing}
+use Rattle.readers.specs.Founded.{Grows, StaysFounded}
+use Rattle.readers.specs.Told.{Agrees}
+use Rattle.reader_spec.specs.World.{World}
+use Rattle.link_groups.specs.LinkNodes.{AreLinkNodes, plan_names}
+use Rattle.reltable_links.specs.CellTable.{AreCellsOf, IsReady}
+use Rattle.reltable_links.proofs.cells.Cells.of.Given as goal
+
+abbrev pub invariant-loop-at : goal.invariant-loop-at
+invariant-loop-at g l = record {
+  found : (world : World) → Agrees world (g.A.Reader.told l.asker)
+      → IsReady world l.plan (g.A.Reader.stand l.fn.asker).setting.pages l.homes
+      → AreLinkNodes world l.plan l.fn.link_nodes
+      → AreCellsOf world l.plan (take l.at (places l.plan.nodes)) l.cells × AreLinkNodes world l.plan l.link_nodes;
+  stand : g.A.Reader.stand l.asker ≡ g.A.Reader.stand l.fn.asker;
+  founded : StaysFounded (plan_names l.plan) (g.A.Reader.told l.fn.asker) (g.A.Reader.told l.asker);
+  asks : AsksOnly nothing [] (g.A.Reader.told l.fn.asker) (g.A.Reader.told l.asker);
+  grows : Grows (g.A.Reader.told l.fn.asker) (g.A.Reader.told l.asker);
+}

@@ -1,0 +1,60 @@
+use Rattle.std.proofs.Common.{[], ◌∙◌, ap, map, subst, sym}
+use Rattle.dita_doc.specs.declared.content.LinkKind.TheVariants as links
+use Rattle.link_groups.proofs.NodeLaws.{homes_stay}
+use Rattle.map_spec.specs.Cascade.{whole_at}
+use Rattle.page_spec.specs.Links.{links_of_kind}
+use Rattle.readers.proofs.FoundedLaws.{stays_after}
+use Rattle.readers.proofs.GrowthLaws.{agrees_before}
+use Rattle.readers.specs.Setting.{Stand}
+use Rattle.reltable_links.specs.RowTable.{CanLink}
+use Rattle.reltable_links.proofs.table.rows_linked.Goals as goal
+
+pub returns-in_err-homes-clause-founded : goal.returns-in_err-homes-clause-founded
+returns-in_err-homes-clause-founded g c =
+    homes_stay c.args.plan.now c.as_slice.result.now _ _ c.as_slice.ensures c.of.ensures.founded
+
+pub returns-in_err-rows-clause-founded : goal.returns-in_err-rows-clause-founded
+returns-in_err-rows-clause-founded g c =
+    stays_after _ _ _ _ c.of.ensures.grows
+    (homes_stay c.args.plan.now c.as_slice.result.now _ _ c.as_slice.ensures c.of.ensures.founded)
+    c.of-2.ensures.founded
+
+pub returns-in_err-append-clause-founded : goal.returns-in_err-append-clause-founded
+returns-in_err-append-clause-founded g c =
+    stays_after _ _ _ _ c.of.ensures.grows
+    (homes_stay c.args.plan.now c.as_slice.result.now _ _ c.as_slice.ensures c.of.ensures.founded)
+    c.of-2.ensures.founded
+
+pub returns-in_err-written-clause-founded : goal.returns-in_err-written-clause-founded
+returns-in_err-written-clause-founded g c =
+    stays_after _ _ _ _ c.of.ensures.grows
+    (homes_stay c.args.plan.now c.as_slice.result.now _ _ c.as_slice.ensures c.of.ensures.founded)
+    (stays_after _ _ _ _ c.of-2.ensures.grows c.of-2.ensures.founded c.written.ensures.founded)
+
+pub returns-in_err-faults_by_row-clause-founded : goal.returns-in_err-faults_by_row-clause-founded
+returns-in_err-faults_by_row-clause-founded g c =
+    stays_after _ _ _ _ c.of.ensures.grows
+    (homes_stay c.args.plan.now c.as_slice.result.now _ _ c.as_slice.ensures c.of.ensures.founded)
+    (stays_after _ _ _ _ c.of-2.ensures.grows c.of-2.ensures.founded c.written.ensures.founded)
+
+pub returns-clause-founded : goal.returns-clause-founded
+returns-clause-founded g c =
+    stays_after _ _ _ _ c.of.ensures.grows
+    (homes_stay c.args.plan.now c.as_slice.result.now _ _ c.as_slice.ensures c.of.ensures.founded)
+    (stays_after _ _ _ _ c.of-2.ensures.grows c.of-2.ensures.founded c.written.ensures.founded)
+
+pub returns-clause-known : goal.returns-clause-known
+returns-clause-known g c = λ world agrees can.
+    let plan = c.args.plan.now in
+    let found = agrees_before world _ _ c.written.ensures.grows agrees in
+    let homes = c.in_ok-homes.ensures.known world (agrees_before world _ _ c.of-2.ensures.grows found)
+    ∙ ap (map (whole_at world)) c.as_slice.ensures in
+    let made = c.in_ok-rows.ensures.known world found
+    (subst (λ (stand : Stand). CanLink world plan stand.setting.pages) (sym c.of.ensures.stand) can) homes
+    (c.new-link_nodes.ensures world plan) in
+    let holds = c.in_ok-append.ensures world plan [] made.are c.new-links.ensures in
+    record {
+      links = c.in_ok-written.ensures.known world c.args.page
+          (links_of_kind world plan c.args.page links.Related) agrees holds;
+      faults = c.in_ok-faults_by_row.ensures world made.are;
+    }

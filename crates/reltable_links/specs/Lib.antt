@@ -1,0 +1,5 @@
+pub mod CellTable
+pub mod Below
+pub mod Linked
+pub mod Standings
+pub mod RowTable

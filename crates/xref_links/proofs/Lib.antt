@@ -1,0 +1,13 @@
+mod AddLaws
+mod BodyLaws
+mod FormLaws
+mod HereLaws
+mod HrefLaws
+mod ImageLaws
+mod LabelLaws
+mod LeadLaws
+mod LinkLaws
+mod NameLaws
+mod TypeLaws
+mod Walking
+mod WayLaws

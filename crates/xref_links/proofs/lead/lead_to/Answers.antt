@@ -1,0 +1,18 @@
+use Rattle.std.proofs.Common.{◌∙◌, Some, ap, sym}
+use Rattle.map_spec.specs.Pages.{page_for}
+use Rattle.readers.proofs.GrowthLaws.{told_answer}
+use Rattle.xref_links.specs.Adding.{element_of}
+use Rattle.xref_links.proofs.LeadLaws.{lead_as, lead_known}
+use Rattle.xref_links.proofs.lead.lead_to.Goals as goal
+
+pub returns-clause-known : goal.returns-clause-known
+returns-clause-known g c = λ here agrees is.
+    let page = c.args.page in
+    let element = element_of page c.args.standing in
+    let stand = g.A.Reader.stand c.args.asker.now in
+    let known = told_answer here.world _ _ _ c.in_ok-number.ensures.told agrees ∙ c.in-Some.is in
+    lead_as here _ _ c.lead_to_page.result c.args.faults.now c.args.faults.now
+    (sym (lead_known here stand page element c.args.name.now c.args.topic.now c.args.id.now is (Some c.in-Some.number)
+    known))
+    (c.lead_to_page.ensures here stand element c.args.faults.now is
+    (ap (λ pages. page_for pages c.args.name.now page.context.now.page) (sym is.pages) ∙ known))

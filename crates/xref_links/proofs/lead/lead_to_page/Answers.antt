@@ -1,0 +1,20 @@
+use Rattle.std.proofs.Common.{◌++◌, ◌∙◌, ap, sym}
+use Rattle.std.specs.Option.{option_copied}
+use Rattle.page_spec.specs.Anchors.{fragment}
+use Rattle.xref_links.proofs.LeadLaws.{lead_paged, lead_unpaged}
+use Rattle.xref_links.proofs.lead.lead_to_page.Goals as goal
+
+pub returns-in_default : goal.returns-in_default
+returns-in_default c = λ here stand element faults is found.
+    lead_unpaged here stand c.args.page element c.args.name.now c.args.topic.now c.args.id.now is c.args.number found
+    c.nowhere.result faults (sym c.page_numbered.ensures ∙ ap option_copied c.in_default.is)
+    c.nowhere.ensures.href c.nowhere.ensures.own
+
+pub returns : goal.returns
+returns c = λ here stand element faults is found.
+    lead_paged here stand c.args.page element c.args.name.now c.args.topic.now c.args.id.now is c.args.number found
+    c.in-Some.other.now c.append_fragment.new.href c.eq-is_own.result faults
+    (sym c.page_numbered.ensures ∙ ap option_copied c.in-Some.is)
+    (c.in_ok-append_fragment.ensures
+    ∙ ap (λ path. path ++ fragment c.args.topic.now c.args.id.now) c.in_ok-href.ensures)
+    c.eq-is_own.ensures

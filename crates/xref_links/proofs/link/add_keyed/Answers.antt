@@ -1,0 +1,25 @@
+use Rattle.std.proofs.Common.{◌∙◌, ap, refl, true}
+use Rattle.page_spec.specs.Anchors.{linked_by_key}
+use Rattle.xref_links.specs.Adding.{element_of, inside_of, label_with}
+use Rattle.xref_links.proofs.LinkLaws.{given_lead, holds_keyed, linked_more, on_ok}
+use Rattle.xref_links.proofs.link.add_keyed.Goals as goal
+
+pub returns-clause-known : goal.returns-clause-known
+returns-clause-known g c = λ here answer agrees is typed defined given.
+    let page = c.args.page in
+    let standing = c.args.standing in
+    on_ok _ _ c.add_linked.result
+    (linked_more here page standing (linked_by_key here (element_of page standing) answer) c.args.types.is_link
+    c.args.made.now
+    (record {
+      anchors = c.args.made.now.anchors;
+      links = c.args.made.now.links;
+      faults = c.lead_by_key.new.faults;
+    }) c.add_linked.new.made c.in_ok-lead.lead true c.unwrap_or-label.result typed
+    (holds_keyed here page standing answer defined)
+    (c.unwrap_or-label.ensures ∙ c.in_ok-own_label.ensures page c.args.keyed.label
+    ∙ ap (label_with c.args.types.is_link (inside_of page standing)) given.label)
+    refl refl refl
+    (given_lead here page standing answer c.args.keyed c.in_ok-lead.lead c.args.made.now.faults
+    c.lead_by_key.new.faults given (c.in_ok-lead.ensures.known here agrees is)))
+    c.add_linked.ensures

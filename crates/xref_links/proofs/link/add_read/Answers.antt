@@ -1,0 +1,27 @@
+use Rattle.std.proofs.Common.{refl}
+use Rattle.std.specs.Prelude.{[]}
+use Rattle.page_spec.specs.Anchors.{linked_by_read}
+use Rattle.readers.proofs.GrowthLaws.{agrees_before}
+use Rattle.xref_links.specs.Adding.{element_of, read_as}
+use Rattle.xref_links.proofs.HereLaws.{here_kept}
+use Rattle.xref_links.proofs.LinkLaws.{holds_written, linked_more, on_ok}
+use Rattle.xref_links.proofs.link.add_read.Goals as goal
+
+pub returns-clause-known : goal.returns-clause-known
+returns-clause-known g c = λ here agrees is typed none.
+    let page = c.args.page in
+    let standing = c.args.standing in
+    let element = element_of page standing in
+    on_ok _ _ c.add_linked.result
+    (linked_more here page standing (linked_by_read here element (read_as c.args.target)) c.args.types.is_link
+    c.args.made.now
+    (record {
+      anchors = c.args.made.now.anchors;
+      links = c.args.made.now.links;
+      faults = c.lead_of.new.faults;
+    }) c.add_linked.new.made c.in_ok-lead.lead c.is_reference-holds.result c.in_ok-label.label typed
+    (holds_written here page standing c.is_reference-holds.result (c.is_reference-holds.ensures []) none)
+    (c.in_ok-label.ensures.known here page (agrees_before here.world _ _ c.in_ok-lead.ensures.grows agrees))
+    refl refl refl
+    (c.in_ok-lead.ensures.known here agrees (here_kept _ _ page here c.in_ok-label.ensures.stand is)))
+    c.add_linked.ensures

@@ -1,0 +1,35 @@
+use Rattle.std.proofs.Common.{refl}
+use Rattle.readers.proofs.GrowthLaws.{agrees_before}
+use Rattle.xref_links.specs.Adding.{element_of, target_of}
+use Rattle.xref_links.specs.Names.{names_of, names_of_link}
+use Rattle.xref_links.proofs.AddLaws.{typed_by, typed_more}
+use Rattle.xref_links.proofs.HereLaws.{here_kept}
+use Rattle.xref_links.proofs.LinkLaws.{on_ok}
+use Rattle.xref_links.proofs.NameLaws.{behind_founded, key_founded}
+use Rattle.xref_links.proofs.walk.add.Goals as goal
+
+pub returns-clause-known : goal.returns-clause-known
+returns-clause-known g c = λ here around agrees is types topic.
+    let key = c.in_ok-keyed.ensures.known here
+    (agrees_before here.world _ _ c.add_behind.ensures.grows agrees) is in
+    on_ok _ _ c.add_behind.result
+    (typed_more here c.args.page c.args.standing around c.in_ok-keyed.keyed c.args.made.now
+    (record {
+      anchors = c.args.made.now.anchors;
+      links = c.args.made.now.links;
+      faults = c.defined_key.new.faults;
+    }) c.add_behind.new.made (typed_by c.args.types.has_types _ c.if-not-types.false types.any) key refl refl)
+    (c.add_behind.ensures.known here around agrees (here_kept _ _ _ here c.in_ok-keyed.ensures.stand is) types topic
+    key.is)
+
+pub returns-clause-founded : goal.returns-clause-founded
+returns-clause-founded g c = λ nodes same.
+    behind_founded nodes _ c.args.page.context.now.page.doc
+    (names_of_link (element_of c.args.page c.args.standing)) (names_of (target_of c.in_ok-keyed.keyed)) _ _ _ same
+    c.in_ok-keyed.ensures.grows c.in_ok-keyed.ensures.founded (λ roots. c.in_ok-keyed.ensures.given roots)
+    c.add_behind.ensures.founded
+
+pub returns-in_err-keyed-clause-founded : goal.returns-in_err-keyed-clause-founded
+returns-in_err-keyed-clause-founded g c = λ nodes same.
+    key_founded nodes _ c.args.page.context.now.page.doc
+    (names_of_link (element_of c.args.page c.args.standing)) _ _ same c.in_err-keyed.ensures.founded
