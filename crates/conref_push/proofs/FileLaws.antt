@@ -1,68 +1,15 @@
 -- The document that a value names is one that its element gives.
-use Rattle.std.specs.Prelude.{◌≡◌, ◌+◌, ◌==◌, ◌&&◌, ℕ, suc, Bool, true, false, List, [], ◌∷◌, Some, Result, Ok, Err, length, take, if◌then◌else◌}
-use Rattle.std.specs.List.{after_first, before_first, list_any, position_or_len}
+use Rattle.std.specs.Prelude.{◌≡◌, ℕ, false, List, Some, Result, Ok, Err}
 use Rattle.std.specs.Option.{option_and_then}
-use Rattle.std.proofs.Common.{refl, sym, ap, ◌∙◌, arith}
-use Rattle.std.proofs.lemmas.Bool.{or_parts}
-use Rattle.dita_doc.specs.Bytes.{has_bytes, is_slash, parts_by}
+use Rattle.std.proofs.Common.{refl, sym, ap, ◌∙◌}
 use Rattle.dita_doc.specs.declared.plan.Reference.{Reference}
 use Rattle.href_text.specs.Joined.{joined}
-use Rattle.href_text.specs.Reference.{is_external, is_number_sign, reference_of, reference_to, reference_with}
+use Rattle.href_text.specs.Reference.{is_external, reference_of}
 use Rattle.href_text.specs.declared.fault.RefFault.{RefFault}
-use Rattle.href_text.specs.declared.fault.RefFault.TheVariants as faults
-use Rattle.map_spec.specs.Target.{file_of, if_read}
+use Rattle.map_spec.specs.Target.{if_read}
 use Rattle.readers.specs.Named.{name_joined}
+use Rattle.readers.proofs.FileLaws.{file_read, not_external}
 use Rattle.conref_push.specs.Aimed.{doc_named}
-
-front_alone : (ends : ℕ → Bool) (value : List ℕ) → list_any ends value ≡ false → before_first ends value ≡ value
-front_alone ends [] e = refl
-front_alone ends (b ∷ value) e =
-    let parts = or_parts (ends b) (list_any ends value) e in
-    let more : take (1 + position_or_len ends value) (b ∷ value) ≡ b ∷ take (position_or_len ends value) value =
-    (let one : 1 + position_or_len ends value ≡ suc (position_or_len ends value) = omega arith in rw one refl) in
-    rw (parts.0, more, front_alone ends value parts.1) refl
-
-read_to : (test : Bool) (file topic element : List ℕ) (reference : Reference)
-    → (if test then Ok (record { file = file; topic = topic; element = element }) else Err faults.BadFragment)
-    ≡ Ok reference → reference.file ≡ file
-read_to true file topic element reference is = cc
-read_to false file topic element reference is = cc
-
-file_to : (file : List ℕ) (parts : List (List ℕ)) (reference : Reference) → reference_to file parts ≡ Ok reference
-    → reference.file ≡ file
-file_to file [] reference is = cc
-file_to file (topic ∷ []) reference is = read_to (has_bytes topic) file topic [] reference is
-file_to file (topic ∷ element ∷ []) reference is =
-    read_to (has_bytes topic && has_bytes element) file topic element reference is
-file_to file (topic ∷ element ∷ other ∷ more) reference is = cc
-
-file_with : (test : Bool) (file : List ℕ) (parts : List (List ℕ)) (reference : Reference)
-    → (if test then Err faults.BadFragment else reference_to file parts) ≡ Ok reference → reference.file ≡ file
-file_with true file parts reference is = cc
-file_with false file parts reference is = file_to file parts reference is
-
-file_by : (external empty signed : Bool) (value front fragment : List ℕ) (reference : Reference)
-    → (signed ≡ false → front ≡ value)
-    → (if external then Err faults.External else if empty then Err faults.Empty
-    else if signed then reference_with front fragment else Ok (record { file = value; topic = []; element = [] }))
-    ≡ Ok reference → reference.file ≡ front
-file_by true empty signed value front fragment reference alone is = cc
-file_by false true signed value front fragment reference alone is = cc
-file_by false false true value front fragment reference alone is =
-    file_with (list_any is_number_sign fragment) front (parts_by is_slash fragment) reference is
-file_by false false false value front fragment reference alone is =
-    let same : reference.file ≡ value = cc in same ∙ sym (alone refl)
-
-file_read : (value : List ℕ) (reference : Reference) → reference_of value ≡ Ok reference
-    → reference.file ≡ file_of value
-file_read value reference is =
-    file_by (is_external value) (length value == 0) (list_any is_number_sign value) value (file_of value)
-    (after_first is_number_sign value) reference (front_alone is_number_sign value) is
-
-not_external : (external : Bool) (more : Result Reference RefFault) (reference : Reference)
-    → (if external then Err faults.External else more) ≡ Ok reference → external ≡ false
-not_external true more reference is = cc
-not_external false more reference is = refl
 
 named_by : (doc value : List ℕ) (read : Result Reference RefFault) (name : List ℕ)
     → reference_of value ≡ read

@@ -2,65 +2,18 @@
 use Rattle.std.specs.Prelude.{◌≡◌, ◌&&◌, ◌||◌, ◌==◌, ℕ, Bool, true, false, List, [], ◌∷◌, bytes_eq}
 use Rattle.std.specs.BTreeSet.{insert_key}
 use Rattle.std.specs.Cmp.Lexicographic.{slice_cmp}
-use Rattle.std.specs.FinMap.{nat_cmp-IsAntisymmetric, slice_cmp-IsAntisymmetric}
+use Rattle.std.specs.FinMap.{nat_cmp-IsAntisymmetric}
 use Rattle.std.specs.List.{list_any}
-use Rattle.std.specs.Ordering.{is_eq, match_ordering, nat_cmp, ordering_then}
-use Rattle.std.proofs.Common.{Ordering, Less, Equal, Greater, refl, sym, ap, ◌∙◌, arith}
-use Rattle.std.proofs.lemmas.Bool.{eqb-true}
-use Rattle.std.proofs.lemmas.Bool.Decides.{nat_tests}
-use Rattle.std.proofs.lemmas.Cmp.{nat_cmp_total, tied_itself}
+use Rattle.std.specs.Ordering.{is_eq, match_ordering, nat_cmp}
+use Rattle.std.proofs.Common.{Ordering, Less, Equal, Greater, refl, sym, ap, ◌∙◌}
 use Rattle.std.proofs.lemmas.Map.Text.{is_eq-slice_cmp}
 use Rattle.dita_doc.proofs.NameOrder.{same_from_equal}
-use Rattle.dita_doc.specs.declared.plan.Affix.{Affix}
 use Rattle.dita_doc.specs.declared.plan.PageId.{PageId}
 use Rattle.map_spec.specs.Pages.{are_same_affixes, are_same_texts, is_same_page}
-use Rattle.page_names.specs.PageUses.{key_of, order, texts_of}
+use Rattle.page_names.specs.PageUses.{key_of, order}
 use Rattle.page_names.specs.declared.page_uses.PageKey.{PageKey}
-use Rattle.page_names.proofs.TestLaws.{by_truth, equal_test, swap, twice}
-
-then_is : (x y : Ordering) → is_eq (ordering_then x y) ≡ (is_eq x && is_eq y)
-then_is Less y = refl
-then_is Equal y = refl
-then_is Greater y = refl
-
-numbers_same : (a b : ℕ) → is_eq (nat_cmp a b) ≡ (a == b)
-numbers_same a b = by_truth (is_eq (nat_cmp a b)) (a == b)
-    (λ e. let same = nat_cmp-IsAntisymmetric a b (equal_test (nat_cmp a b) e) in grind (arith, nat_tests))
-    (λ e. ap (λ n. is_eq (nat_cmp n b)) (eqb-true a b e) ∙ ap is_eq (tied_itself nat_cmp_total b))
-
-and_assoc : (a b c : Bool) → (a && (b && c)) ≡ ((a && b) && c)
-and_assoc true b c = refl
-and_assoc false b c = refl
-
-texts_same : (a b : List (List ℕ)) → is_eq (slice_cmp (slice_cmp nat_cmp) a b) ≡ are_same_texts a b
-texts_same [] [] = refl
-texts_same [] (text ∷ texts) = refl
-texts_same (text ∷ texts) [] = refl
-texts_same (text ∷ texts) (other ∷ others) =
-    then_is (slice_cmp nat_cmp text other) (slice_cmp (slice_cmp nat_cmp) texts others)
-    ∙ ap (λ b. b && is_eq (slice_cmp (slice_cmp nat_cmp) texts others)) (is_eq-slice_cmp text other)
-    ∙ ap (λ b. bytes_eq text other && b) (texts_same texts others)
-
-affixes_same : (a b : List Affix) → is_eq (slice_cmp (slice_cmp nat_cmp) (texts_of a) (texts_of b))
-    ≡ are_same_affixes a b
-affixes_same [] [] = refl
-affixes_same [] (affix ∷ affixes) = refl
-affixes_same (affix ∷ affixes) [] = refl
-affixes_same (affix ∷ affixes) (other ∷ others) =
-    then_is (slice_cmp nat_cmp affix.prefix other.prefix) _
-    ∙ ap (λ b. is_eq (slice_cmp nat_cmp affix.prefix other.prefix) && b)
-    (then_is (slice_cmp nat_cmp affix.suffix other.suffix) (slice_cmp (slice_cmp nat_cmp) (texts_of affixes)
-    (texts_of others)))
-    ∙ ap (λ b. b && (is_eq (slice_cmp nat_cmp affix.suffix other.suffix)
-    && is_eq (slice_cmp (slice_cmp nat_cmp) (texts_of affixes) (texts_of others))))
-    (is_eq-slice_cmp affix.prefix other.prefix)
-    ∙ ap (λ b. bytes_eq affix.prefix other.prefix
-    && (b && is_eq (slice_cmp (slice_cmp nat_cmp) (texts_of affixes) (texts_of others))))
-    (is_eq-slice_cmp affix.suffix other.suffix)
-    ∙ ap (λ b. bytes_eq affix.prefix other.prefix && (bytes_eq affix.suffix other.suffix && b))
-    (affixes_same affixes others)
-    ∙ and_assoc (bytes_eq affix.prefix other.prefix) (bytes_eq affix.suffix other.suffix)
-    (are_same_affixes affixes others)
+use Rattle.plan_nodes.proofs.OrderLaws.{affixes_same, and_assoc, both_equal, by_truth, equal_test, numbers_same, texts_equal, texts_same, then_is}
+use Rattle.page_names.proofs.TestLaws.{swap, twice}
 
 -- two keys are equal where the pages are the same
 pub keys_same : (a b : PageId) → is_eq (order (key_of a) (key_of b)) ≡ is_same_page a b
@@ -79,14 +32,6 @@ keys_same a b =
     (is_eq-slice_cmp a.doc b.doc)
     ∙ ap (λ t. bytes_eq a.doc b.doc && t)
     (and_assoc (a.scope == b.scope) (are_same_texts a.filters b.filters) (are_same_affixes a.affixes b.affixes))
-
-both_equal : (x y : Ordering) → ordering_then x y ≡ Equal → (x ≡ Equal) × (y ≡ Equal)
-both_equal Equal y same = (refl, same)
-both_equal Less y same = cc
-both_equal Greater y same = cc
-
-texts_equal : (a b : List (List ℕ)) → slice_cmp (slice_cmp nat_cmp) a b ≡ Equal → a ≡ b
-texts_equal = slice_cmp-IsAntisymmetric (slice_cmp-IsAntisymmetric nat_cmp-IsAntisymmetric)
 
 abbrev key : List ℕ → ℕ → List (List ℕ) → List (List ℕ) → PageKey
 key doc scope filters affixes = record { doc = doc; scope = scope; filters = filters; affixes = affixes }

@@ -19,7 +19,8 @@ use Rattle.map_spec.specs.Pages as pages_spec
 use Rattle.map_spec.specs.Pages.{contents_name, free_from, free_name, html, name_fault, named_from, page_of_use, with_number}
 use Rattle.page_names.specs.Taken.{AreNamed, AreTaken, AreTried, IsFound, IsNamed, IsTakenBy, IsTried, is_taken, name_for}
 use Rattle.page_names.specs.declared.names.PageNames.{PageNames}
-use Rattle.page_names.proofs.TestLaws.{by_key, equal_test, not_false, not_true, swap, twice}
+use Rattle.plan_nodes.proofs.OrderLaws.{equal_test}
+use Rattle.page_names.proofs.TestLaws.{by_key, not_false, not_true, swap, twice}
 
 -- Names in a set
 

@@ -10,7 +10,7 @@ use Rattle.map_spec.specs.Pages.{first_uses, is_same_page}
 use Rattle.page_names.specs.PageUses.{with_use}
 use Rattle.page_names.specs.Used.{with_name}
 use Rattle.page_names.proofs.KeyLaws.{same_through}
-use Rattle.page_names.proofs.TestLaws.{by_truth}
+use Rattle.plan_nodes.proofs.OrderLaws.{by_truth}
 
 module _ {X : Type 0} (alike : X → X → Bool)
     (through : (a b c : X) → alike a b ≡ true → alike b c ≡ true → alike a c ≡ true) where

@@ -3,13 +3,8 @@ use Rattle.std.specs.Prelude.{◌≡◌, ◌||◌, ℕ, Bool, true, false, not, 
 use Rattle.std.specs.BTreeMap.{is_at}
 use Rattle.std.specs.Cmp.Lexicographic.{slice_cmp, texts_ties}
 use Rattle.std.specs.List.{list_any}
-use Rattle.std.specs.Ordering.{is_eq, nat_cmp}
-use Rattle.std.proofs.Common.{Ordering, Less, Equal, Greater, ap, refl, sym}
-
-pub by_truth : (a b : Bool) → (a ≡ true → b ≡ true) → (b ≡ true → a ≡ true) → a ≡ b
-by_truth true b there back = sym (there refl)
-by_truth false true there back = back refl
-by_truth false false there back = refl
+use Rattle.std.specs.Ordering.{nat_cmp}
+use Rattle.std.proofs.Common.{ap, refl, sym}
 
 pub not_true : (b c : Bool) → c ≡ true → c ≡ not b → b ≡ false
 not_true true c is same = cc
@@ -18,11 +13,6 @@ not_true false c is same = refl
 pub not_false : (b c : Bool) → c ≡ false → c ≡ not b → b ≡ true
 not_false true c is same = refl
 not_false false c is same = cc
-
-pub equal_test : (o : Ordering) → is_eq o ≡ true → o ≡ Equal
-equal_test Equal same = refl
-equal_test Less same = cc
-equal_test Greater same = cc
 
 pub twice : (a b c : Bool) → a ≡ b → (b || c) ≡ (a || (b || c))
 twice true b c e = sym (ap (λ d. d || c) e)

@@ -1,5 +1,5 @@
 -- The element at a place of a document's tree, and at that of the content that the tree is under a name.
-use Rattle.std.specs.Prelude.{◌≡◌, ◌+◌, ◌-◌, ◌<◌, ◌≤◌, ◌==◌, ℕ, zero, suc, Bool, true, false, List, Option, Some, None, MatchOption, nat_lt, if◌then◌else◌}
+use Rattle.std.specs.Prelude.{◌≡◌, ◌+◌, ◌-◌, ◌<◌, ◌≤◌, ◌==◌, ℕ, zero, suc, Bool, true, false, List, [], ◌∷◌, Option, Some, None, MatchOption, drop, nat_lt, option_map, slice_get, if◌then◌else◌}
 use Rattle.std.specs.Option.{option_and_then}
 use Rattle.std.proofs.Common.{refl, sym, ap, ◌∙◌, arith}
 use Rattle.std.proofs.Math.Logic.{⊎_elim}
@@ -8,10 +8,12 @@ use Rattle.std.proofs.lemmas.Bool.Decides.{nat_tests}
 use Rattle.dita_doc.specs.Siblings as siblings
 use Rattle.dita_doc.specs.Siblings.{IsElementAt, content_from, first_element, joined}
 use Rattle.dita_doc.specs.Tree as tree
-use Rattle.dita_doc.specs.Tree.{Content, size_of, tree_of}
+use Rattle.dita_doc.specs.Tree.{ArePreorder, Content, content_of, is_element, size_of, tree_of}
 use Rattle.dita_doc.specs.declared.doc.Doc.{Doc}
-use Rattle.map_spec.specs.Written.{Whole, element_at, size, written_in}
-use Rattle.doc_elements.specs.Walk.{Found, found_in}
+use Rattle.dita_doc.specs.declared.doc.Node.{Node}
+use Rattle.dita_doc.proofs.PlaceLaws.{content_there}
+use Rattle.map_spec.specs.Written.{Element, Whole, element_at, size, written_in}
+use Rattle.doc_elements.specs.Walk.{Found, element_of, found_in}
 
 -- the first element, under a name
 abbrev first_in : List ℕ → Content → Option Whole
@@ -110,3 +112,35 @@ element_found name doc place (Some found) is = sym (
     at_first name (tree_of doc.nodes) place ∙ first_again name (content_from place (tree_of doc.nodes))
     ∙ ap (option_and_then (first_in name)) is.element
     )
+
+-- The element alone: the node at its place, if that is an element
+
+abbrev pub head_of : Option Whole → Option Element
+head_of whole = option_map (λ (w : Whole). w.0) whole
+
+abbrev pub of_node : List ℕ → Option Node → Option Element
+of_node name None = None
+of_node name (Some node) = if is_element node.kind then Some (element_of name node) else None
+
+of_first : (name : List ℕ) (nodes : List Node) (place : ℕ)
+    → head_of (first_in name (content_of nodes place)) ≡ of_node name (slice_get nodes 0)
+of_first name [] place = refl
+of_first name (node ∷ nodes) place = by_kind (is_element node.kind) refl
+  where
+    by_kind : (test : Bool) → is_element node.kind ≡ test
+        → head_of (first_in name (content_of (node ∷ nodes) place)) ≡ of_node name (Some node)
+    by_kind true is = rw is refl
+    by_kind false is = rw is refl
+
+at_drop : (nodes : List Node) (place : ℕ) → slice_get (drop place nodes) 0 ≡ slice_get nodes place
+at_drop nodes zero = refl
+at_drop [] (suc place) = refl
+at_drop (node ∷ nodes) (suc place) = at_drop nodes place
+
+pub element_here : (name : List ℕ) (nodes : List Node) (place : ℕ) → ArePreorder nodes 0
+    → head_of (element_at (written_in name (tree_of nodes)) place) ≡ of_node name (slice_get nodes place)
+element_here name nodes place tree =
+    ap head_of (at_first name (tree_of nodes) place)
+    ∙ ap (λ all. head_of (first_in name all)) (sym (content_there nodes place tree))
+    ∙ of_first name (drop place nodes) place
+    ∙ ap (of_node name) (at_drop nodes place)

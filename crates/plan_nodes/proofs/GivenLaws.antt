@@ -1,17 +1,13 @@
 -- What an element that was told names may be asked about, then and later.
-use Rattle.std.specs.Prelude.{◌≡◌, ◌+◌, ◌==◌, ◌||◌, ◌&&◌, ℕ, suc, Bool, true, false, List, [], ◌∷◌, Option, Some, None, Result, Ok, Err, IsTrue, codes, bytes_eq, length, take, option_map, unwrap_or, if◌then◌else◌}
-use Rattle.std.specs.List.{after_first, before_first, list_any, position_or_len}
+use Rattle.std.specs.Prelude.{◌≡◌, ◌||◌, ℕ, Bool, true, false, List, Option, Some, None, Result, Ok, Err, IsTrue, codes, bytes_eq, option_map, unwrap_or, if◌then◌else◌}
 use Rattle.std.specs.Option.{option_and_then}
-use Rattle.std.proofs.Common.{refl, sym, ap, ◌∙◌, arith}
-use Rattle.std.proofs.lemmas.Bool.{or_parts}
-use Rattle.dita_doc.specs.Bytes.{has_bytes, is_slash, parts_by}
+use Rattle.std.proofs.Common.{refl, sym, ap, ◌∙◌}
 use Rattle.dita_doc.specs.declared.plan.Reference.{Reference}
 use Rattle.dita_doc.specs.declared.plan.Target.{Target}
 use Rattle.dita_doc.specs.declared.plan.Target.TheVariants as targets
 use Rattle.href_text.specs.Joined.{joined}
-use Rattle.href_text.specs.Reference.{is_external, is_number_sign, reference_of, reference_to, reference_with}
+use Rattle.href_text.specs.Reference.{is_external, reference_of}
 use Rattle.href_text.specs.declared.fault.RefFault.{RefFault}
-use Rattle.href_text.specs.declared.fault.RefFault.TheVariants as faults
 use Rattle.map_spec.specs.Elements.{attribute}
 use Rattle.map_spec.specs.Target.{Document, Elsewhere, default_scope, file_of, if_read, is_far, local_topic, named_by, named_of, target_by}
 use Rattle.map_spec.specs.Written.{Element, Whole}
@@ -19,6 +15,7 @@ use Rattle.readers.specs.Founded.{Grows, is_allowed, is_among}
 use Rattle.readers.specs.Named.{name_joined, names_of_element}
 use Rattle.readers.specs.Told.{Told}
 use Rattle.readers.proofs.DocumentLaws.{may_ask_before}
+use Rattle.readers.proofs.FileLaws.{file_read}
 use Rattle.readers.proofs.FoundedLaws.{among_first}
 use Rattle.readers.proofs.GrowthLaws.{allowed_before}
 use Rattle.plan_nodes.specs.Given.{AreTold, IsTold}
@@ -65,52 +62,7 @@ pub may_name : (told : List Told) (element : Element) (href name : List ℕ) →
     → IsTrue (is_allowed roots told name)
 may_name told element href name was is named roots = was.allowed roots name (gives_name element href name is named)
 
--- The document of a target: the file of a reference stands before the first `#`
-
-front_alone : (ends : ℕ → Bool) (value : List ℕ) → list_any ends value ≡ false → before_first ends value ≡ value
-front_alone ends [] e = refl
-front_alone ends (b ∷ value) e =
-    let parts = or_parts (ends b) (list_any ends value) e in
-    let more : take (1 + position_or_len ends value) (b ∷ value) ≡ b ∷ take (position_or_len ends value) value =
-    (let one : 1 + position_or_len ends value ≡ suc (position_or_len ends value) = omega arith in rw one refl) in
-    rw (parts.0, more, front_alone ends value parts.1) refl
-
-read_to : (test : Bool) (file topic element : List ℕ) (reference : Reference)
-    → (if test then Ok (record { file = file; topic = topic; element = element }) else Err faults.BadFragment)
-    ≡ Ok reference → reference.file ≡ file
-read_to true file topic element reference is = cc
-read_to false file topic element reference is = cc
-
-file_to : (file : List ℕ) (parts : List (List ℕ)) (reference : Reference) → reference_to file parts ≡ Ok reference
-    → reference.file ≡ file
-file_to file [] reference is = cc
-file_to file (topic ∷ []) reference is = read_to (has_bytes topic) file topic [] reference is
-file_to file (topic ∷ element ∷ []) reference is =
-    read_to (has_bytes topic && has_bytes element) file topic element reference is
-file_to file (topic ∷ element ∷ other ∷ more) reference is = cc
-
-file_with : (test : Bool) (file : List ℕ) (parts : List (List ℕ)) (reference : Reference)
-    → (if test then Err faults.BadFragment else reference_to file parts) ≡ Ok reference → reference.file ≡ file
-file_with true file parts reference is = cc
-file_with false file parts reference is = file_to file parts reference is
-
-file_by : (external empty signed : Bool) (value front fragment : List ℕ) (reference : Reference)
-    → (signed ≡ false → front ≡ value)
-    → (if external then Err faults.External else if empty then Err faults.Empty
-    else if signed then reference_with front fragment else Ok (record { file = value; topic = []; element = [] }))
-    ≡ Ok reference → reference.file ≡ front
-file_by true empty signed value front fragment reference alone is = cc
-file_by false true signed value front fragment reference alone is = cc
-file_by false false true value front fragment reference alone is =
-    file_with (list_any is_number_sign fragment) front (parts_by is_slash fragment) reference is
-file_by false false false value front fragment reference alone is =
-    let same : reference.file ≡ value = cc in same ∙ sym (alone refl)
-
-file_read : (value : List ℕ) (reference : Reference) → reference_of value ≡ Ok reference
-    → reference.file ≡ file_of value
-file_read value reference is =
-    file_by (is_external value) (length value == 0) (list_any is_number_sign value) value (file_of value)
-    (after_first is_number_sign value) reference (front_alone is_number_sign value) is
+-- The document of a target
 
 topic_joined : (doc name : List ℕ) (reference : Reference) (read : Option (List ℕ)) (own : Reference)
     → option_map (λ n. targets.Local n own) read ≡ Some (targets.Local name reference) → read ≡ Some name

@@ -7,20 +7,24 @@ use Rattle.std.specs.Map.{lookup}
 use Rattle.std.specs.Ordering.{nat_cmp}
 use Rattle.std.proofs.Common.{refl, sym, ap, subst, ◌∙◌, arith, append-nil, get_or, length-append}
 use Rattle.std.proofs.lemmas.List.{map-append, take_more}
+use Rattle.std.proofs.lemmas.Option.{slice_get_past}
 use Rattle.dita_doc.specs.Siblings as siblings
 use Rattle.dita_doc.specs.Siblings.{IsElementAt}
 use Rattle.dita_doc.specs.Tree.{tree_of}
 use Rattle.dita_doc.specs.declared.doc.Doc.{Doc}
-use Rattle.doc_elements.specs.Walk.{Found, found_in}
+use Rattle.dita_doc.specs.declared.doc.Node.{Node}
+use Rattle.dita_doc.specs.declared.doc.NodeKind.TheVariants as kinds
+use Rattle.doc_elements.specs.Walk.{Found, element_of, found_in}
 use Rattle.dita_doc.specs.declared.plan.PlanNode.{PlanNode}
 use Rattle.map_spec.specs.Cascade.{whole_at}
 use Rattle.map_spec.specs.Judged.{has_element}
 use Rattle.map_spec.specs.Written.{document, element_at, written_in}
 use Rattle.reader_spec.specs.World.{World}
+use Rattle.plan_nodes.specs.HomeDocs.{element_of as home_element}
 use Rattle.plan_nodes.specs.HomeDocs.{AreHomesOf, AreKnown, AreWithin, IsDocOf, IsHomeOf, IsKnown, IsWithin, Known, Longer, doc_of, document_at, name_of, whole_in, whole_of, written_of}
 use Rattle.plan_nodes.specs.declared.homes.Home.{Home}
 use Rattle.plan_nodes.specs.declared.homes.NamedDoc.{NamedDoc}
-use Rattle.plan_nodes.proofs.ElementLaws.{element_found}
+use Rattle.plan_nodes.proofs.ElementLaws.{element_found, element_here, of_node}
 use Rattle.plan_nodes.proofs.ListLaws.{get_more}
 use Rattle.plan_nodes.proofs.MemoLaws.{IsEach, each_found, each_kept, each_put}
 
@@ -101,6 +105,30 @@ whole_found docs home named doc found is same there =
     element_found named.name doc home.place found there
     ∙ ap (λ (d : Doc). element_at (written_in named.name (tree_of d.nodes)) home.place) same
     )
+
+-- the element at a home is the node there, if that is an element
+module _ (docs : List NamedDoc) (home : Home) (named : NamedDoc) (doc : Doc) (nodes : List Node)
+    (is : Some named ≡ slice_get docs home.doc) (same : doc ≡ arc_value named.doc) (all : nodes ≡ doc.nodes) where
+  element_known : of_node (name_of docs home.doc) (slice_get nodes home.place) ≡ home_element docs home
+  element_known = rw (← is) (
+      ap (λ ns. of_node named.name (slice_get ns home.place)) (all ∙ ap (λ (d : Doc). d.nodes) same)
+      ∙ sym (element_here named.name (arc_value named.doc).nodes home.place (arc_value named.doc).tree)
+      )
+
+  pub element_there : (node : Node) → node.kind ≡ kinds.Element → slice_get nodes home.place ≡ Some node
+      → Some (element_of (name_of docs home.doc) node) ≡ home_element docs home
+  element_there node kind read =
+      let here : Some (element_of (name_of docs home.doc) node) ≡ of_node (name_of docs home.doc) (Some node) = rw kind refl in
+      here ∙ ap (of_node (name_of docs home.doc)) (sym read) ∙ element_known
+
+  pub chars_there : (node : Node) → node.kind ≡ kinds.Chars → slice_get nodes home.place ≡ Some node
+      → None ≡ home_element docs home
+  chars_there node kind read =
+      let here : None ≡ of_node (name_of docs home.doc) (Some node) = rw kind refl in
+      here ∙ ap (of_node (name_of docs home.doc)) (sym read) ∙ element_known
+
+  pub nothing_there : length nodes ≤ home.place → None ≡ home_element docs home
+  nothing_there past = ap (of_node (name_of docs home.doc)) (sym (slice_get_past nodes home.place past)) ∙ element_known
 
 abbrev home_with : ℕ → Option ℕ → Option Home
 home_with place doc = option_map (λ (at : ℕ). record { doc = at; place = place }) doc

@@ -5,7 +5,7 @@ use Rattle.std.specs.Option.{option_and_then, option_map_or}
 use Rattle.dita_doc.specs.Tree.{tree_of}
 use Rattle.dita_doc.specs.declared.plan.PlanNode.{PlanNode}
 use Rattle.map_spec.specs.Cascade.{whole_at}
-use Rattle.map_spec.specs.Written.{Whole, Written, document, element_at, written_in}
+use Rattle.map_spec.specs.Written.{Element, Whole, Written, document, element_at, written_in}
 use Rattle.reader_spec.specs.World.{World}
 use Rattle.plan_nodes.specs.declared.homes.Home.{Home}
 use Rattle.plan_nodes.specs.declared.homes.NamedDoc.{NamedDoc}
@@ -24,6 +24,10 @@ whole_in nodes place = option_and_then (λ (found : Written). element_at found p
 abbrev pub whole_of : List NamedDoc → Option Home → Option Whole
 whole_of docs None = None
 whole_of docs (Some home) = whole_in (document_at docs (Some home.doc)) home.place
+
+-- the element alone
+abbrev pub element_of : List NamedDoc → Home → Option Element
+element_of docs home = option_map (λ (whole : Whole). whole.0) (whole_of docs (Some home))
 
 -- the name of the document at a place, if one stands there
 abbrev pub name_of : List NamedDoc → ℕ → List ℕ

@@ -6,7 +6,7 @@ ghost use Rattle.doc_elements.specs.Walk as walk_spec;
 ghost use Rattle.map_spec.specs.Cascade as cascade_spec;
 ghost use Rattle.map_spec.specs.Judged as judged_spec;
 ghost use Rattle.map_spec.specs.Written as written_spec;
-ghost use Rattle.map_spec.specs.Written.{Element, Whole};
+ghost use Rattle.map_spec.specs.Written.{Element};
 ghost use Rattle.plan_nodes.specs.Given as given_spec;
 ghost use Rattle.plan_nodes.specs.Home as home_spec;
 ghost use Rattle.plan_nodes.specs.HomeDocs as home_docs_spec;
@@ -19,7 +19,7 @@ ghost use Rattle.readers.specs.Founded.{Grows, StaysFounded};
 ghost use Rattle.readers.specs.Told as told_spec;
 ghost use Rattle.readers.specs.Told.{Agrees};
 
-use dita_doc::{Doc, Name, NoMemory, Node, PlanKind, PlanNode, Siblings};
+use dita_doc::{Doc, Name, NoMemory, Node, NodeKind, PlanKind, PlanNode, Siblings};
 use readers::Reader;
 use std::alloc::Global;
 use std::collections::BTreeMap;
@@ -88,8 +88,8 @@ impl Homes {
         ensures { home_spec.found_in (home_spec.doc_of self.now at) result
             ≡ home_spec.element_at self.now at }
     {
-        let (element, _) = self.whole(at)?;
-        Some(element)
+        let home = home_at(&self.homes, at)?;
+        element_of(&self.docs, home)
     }
 
     /// The element of the node at this place, and what it holds, if it has one.
@@ -248,12 +248,25 @@ fn whole_of(docs: &[NamedDoc], home: Home) -> Option<(&Node, Siblings<'_>)>
     Siblings::element_at(&named.doc, home.place)
 }
 
+// The element at a home, if one is there.
+fn element_of(docs: &[NamedDoc], home: Home) -> Option<&Node>
+    ensures { home_spec.found_in (home_docs_spec.name_of docs.now home.doc) result
+        ≡ home_docs_spec.element_of docs.now home }
+{
+    let named = docs.get(home.doc)?;
+    let node = named.doc.nodes.as_slice().get(home.place as usize)?;
+    match node.kind {
+        NodeKind::Element => Some(node),
+        NodeKind::Chars => None,
+    }
+}
+
 // The name of the document at a home, if an element stands there.
 fn name_of(docs: &[NamedDoc], home: Home) -> Option<&Name>
-    ensures { option_copied result ≡ option_map (λ (whole : Whole). whole.0.doc)
-        (home_docs_spec.whole_of docs.now (Some home)) }
+    ensures { option_copied result ≡ option_map (λ (element : Element). element.doc)
+        (home_docs_spec.element_of docs.now home) }
 {
-    whole_of(docs, home)?;
+    element_of(docs, home)?;
     let named = docs.get(home.doc)?;
     Some(&named.name)
 }

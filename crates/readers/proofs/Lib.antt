@@ -6,3 +6,4 @@ pub mod TitleLaws
 pub mod AnsweredLaws
 pub mod SoughtLaws
 pub mod FetchLaws
+pub mod FileLaws
