@@ -1,5 +1,5 @@
 -- The table, one page after the other, and what is found in it.
-use Rattle.std.specs.Prelude.{◌≡◌, ◌+◌, ◌&&◌, ℕ, Bool, true, false, List, [], ◌∷◌, ◌++◌, Option, Some, None, cond, is_some, length, option_map, bytes_eq, if◌then◌else◌}
+use Rattle.std.specs.Prelude.{◌≡◌, ◌+◌, ◌&&◌, ◌||◌, not, ℕ, Bool, true, false, List, [], ◌∷◌, ◌++◌, Option, Some, None, cond, is_some, length, option_map, bytes_eq, if◌then◌else◌}
 use Rattle.std.specs.BTreeMap as tree
 use Rattle.std.specs.Cmp.Lexicographic.{slice_cmp, texts_ties}
 use Rattle.std.specs.Option.{option_or}
@@ -13,7 +13,8 @@ use Rattle.page_table.specs.Pages.{IsPageTable, doc_in, doc_with, first_page, ke
 use Rattle.page_table.specs.declared.keys.PageKey.{PageKey}
 use Rattle.page_table.specs.declared.table.DocPages.{DocPages}
 use Rattle.page_table.specs.declared.table.PageTable.{PageTable}
-use Rattle.page_table.proofs.KeyLaws.{equal_keys, equal_test, keys_same}
+use Rattle.plan_nodes.proofs.OrderLaws.{equal_test}
+use Rattle.page_table.proofs.KeyLaws.{equal_keys, keys_same}
 use Rattle.page_table.proofs.PlaceLaws.{if_holds, none_for, page_more}
 
 pub no_pages : (table : PageTable) → table.docs.entries ≡ [] → table.pages.entries ≡ [] → IsPageTable [] table
@@ -189,11 +190,35 @@ module _ (pages : List PagePlan) (page : PagePlan) (old new : PageTable) (before
           (doc_test name ∙ holds)) ∙ at in
           alone_else name context holds ∙ before.alone name context doc same alone
 
+-- A key is fresh if no page has it. A document that is new has no page, so that its key is
+
+abbrev IsFresh : PageTable → DocPages → PageKey → Bool
+IsFresh table doc key = doc.alone || not (is_some (page_at table key))
+
+not_there : (there : Bool) → true ≡ not there → there ≡ false
+not_there false is = refl
+not_there true is = cc
+
+is_there : (alone there : Bool) → false ≡ (alone || not there) → there ≡ true
+is_there false true is = refl
+is_there false false is = cc
+is_there true there is = cc
+
+module _ (pages : List PagePlan) (page : PagePlan) (old : PageTable) (before : IsPageTable pages old) where
+  fresh_key : (found : Option DocPages) (place : ℕ) → doc_in old page.id.doc ≡ found
+      → true ≡ IsFresh old (doc_with found place) (key_of page.id.doc page.id)
+      → is_some (page_at old (key_of page.id.doc page.id)) ≡ false
+  fresh_key None place none fresh =
+      let first : place_of (is_page_of page.id.doc) 0 pages ≡ None =
+      sym (before.first page.id.doc) ∙ ap (option_map first_page) none in
+      ap is_some (before.each page.id.doc page.id ∙ none_for 0 pages page.id.doc page.id first)
+  fresh_key (Some doc) place known fresh = not_there (is_some (page_at old (key_of page.id.doc page.id))) fresh
+
 -- one page more, as the table puts it
 pub page_put : (pages : List PagePlan) (page : PagePlan) (old new : PageTable) (doc : DocPages) (name : List ℕ)
     (key : PageKey) (place : ℕ) → IsPageTable pages old → place ≡ length pages → name ≡ page.id.doc
     → key ≡ key_of page.id.doc page.id → doc ≡ doc_with (doc_in old page.id.doc) place
-    → PutsDoc old new name doc → false ≡ is_some (page_at old key) → PutsPage old new key place
+    → PutsDoc old new name doc → true ≡ IsFresh old doc key → PutsPage old new key place
     → IsPageTable (pages ++ page ∷ []) new
 page_put pages page old new doc name key place before at named keyed made puts fresh put =
     let docs : PutsDoc old new page.id.doc (doc_with (doc_in old page.id.doc) (length pages)) =
@@ -202,7 +227,8 @@ page_put pages page old new doc name key place before at named keyed made puts f
     record {
       first = λ q. first_more pages page old new before q docs;
       each = λ q context. each_put pages page old new before q context
-          (ap (λ k. is_some (page_at old k)) (sym keyed) ∙ sym fresh)
+          (fresh_key pages page old before (doc_in old page.id.doc) place refl
+          (fresh ∙ ap (λ d. IsFresh old d key) made ∙ ap (IsFresh old (doc_with (doc_in old page.id.doc) place)) keyed))
           (subst (λ k. PutsPage old new k (length pages)) keyed (subst (PutsPage old new key) at put));
       alone = λ q context found. alone_more pages page old new before q context found docs;
     }
@@ -211,7 +237,7 @@ page_put pages page old new doc name key place before at named keyed made puts f
 pub page_kept : (pages : List PagePlan) (page : PagePlan) (old new : PageTable) (doc : DocPages) (name : List ℕ)
     (key : PageKey) (place : ℕ) → IsPageTable pages old → place ≡ length pages → name ≡ page.id.doc
     → key ≡ key_of page.id.doc page.id → doc ≡ doc_with (doc_in old page.id.doc) place
-    → PutsDoc old new name doc → true ≡ is_some (page_at old key) → new.pages ≡ old.pages
+    → PutsDoc old new name doc → false ≡ IsFresh old doc key → new.pages ≡ old.pages
     → IsPageTable (pages ++ page ∷ []) new
 page_kept pages page old new doc name key place before at named keyed made puts known same =
     let docs : PutsDoc old new page.id.doc (doc_with (doc_in old page.id.doc) (length pages)) =
@@ -221,7 +247,7 @@ page_kept pages page old new doc name key place before at named keyed made puts 
       first = λ q. first_more pages page old new before q docs;
       each = λ q context. ap (λ ps. tree.get order ps (key_of q context)) same
           ∙ each_kept pages page old new before q context
-          (ap (λ k. is_some (page_at old k)) (sym keyed) ∙ sym known);
+          (ap (λ k. is_some (page_at old k)) (sym keyed) ∙ is_there doc.alone (is_some (page_at old key)) known);
       alone = λ q context found. alone_more pages page old new before q context found docs;
     }
 

@@ -20,13 +20,12 @@ texts_of affixes = flat_map (λ (affix : Affix). affix.prefix ∷ affix.suffix �
 
 -- the key of the page of a document that is set apart as another page is
 abbrev pub key_of : List ℕ → PageId → PageKey
-key_of name id = record { doc = name; scope = id.scope; filters = id.filters; affixes = texts_of id.affixes }
+key_of name id = record { scope = id.scope; filters = id.filters; affixes = texts_of id.affixes; doc = name }
 
 -- the order of keys
 abbrev pub order : PageKey → PageKey → Ordering
-order a b = ordering_then (slice_cmp nat_cmp a.doc b.doc) (ordering_then (nat_cmp a.scope b.scope)
-    (ordering_then (slice_cmp (slice_cmp nat_cmp) a.filters b.filters)
-    (slice_cmp (slice_cmp nat_cmp) a.affixes b.affixes)))
+order a b = ordering_then (nat_cmp a.scope b.scope) (ordering_then (slice_cmp (slice_cmp nat_cmp) a.filters b.filters)
+    (ordering_then (slice_cmp (slice_cmp nat_cmp) a.affixes b.affixes) (slice_cmp nat_cmp a.doc b.doc)))
 
 abbrev pub doc_in : PageTable → List ℕ → Option DocPages
 doc_in table name = tree.get (slice_cmp nat_cmp) table.docs name

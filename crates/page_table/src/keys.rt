@@ -7,13 +7,14 @@ use dita_doc::{Affix, List, Name, PageId, Text};
 use plan_nodes::copy_names;
 use std::alloc::{AllocError, Global};
 
-// A document, and what sets its pages apart; the prefixes and suffixes stand in turn.
+// What sets pages of a document apart, and the document, which the pages of one document share; the
+// prefixes and suffixes stand in turn.
 #[derive(Debug, PartialEq, Eq, PartialOrd, Ord, Drop)]
 pub(crate) struct PageKey {
-    doc: Name,
     scope: u32,
     filters: List<Name>,
     affixes: List<Text>,
+    doc: Name,
 }
 
 // The key of the page of a document that is set apart as this page is.
@@ -21,10 +22,10 @@ pub(crate) fn key_of(alloc: Global, doc: &Name, page: &PageId) -> Result<PageKey
     ensures { IfOk result (λ key. key ≡ spec.key_of doc.now page.now) }
 {
     Ok(PageKey {
-        doc: doc.clone()?,
         scope: page.scope,
         filters: copy_names(alloc, page.filters.as_slice())?,
         affixes: texts_of(alloc, page.affixes.as_slice())?,
+        doc: doc.clone()?,
     })
 }
 

@@ -1,6 +1,6 @@
 //! The table of a plan's pages.
 
-ghost use Rattle.std.specs.Prelude.{◌≡◌, ◌++◌, [], ◌∷◌, List, length, IfOk, OnOk};
+ghost use Rattle.std.specs.Prelude.{◌≡◌, ◌++◌, ◌||◌, [], ◌∷◌, List, length, is_some, not, IfOk, OnOk};
 ghost use Rattle.dita_doc.specs.declared.plan.PagePlan as page_plan_spec;
 ghost use Rattle.map_spec.specs.Pages as pages_spec;
 ghost use Rattle.page_table.specs.Pages as spec;
@@ -56,10 +56,17 @@ impl PageTable {
         let doc = self.doc_with(&page.id.doc, place);
         let key = key_of(alloc, &page.id.doc, &page.id)?;
         self.docs.insert(page.id.doc.clone()?, doc)?;
-        if !self.pages.contains_key(&key) {
+        if self.is_fresh(doc, &key) {
             self.pages.insert(key, place)?;
         }
         Ok(())
+    }
+
+    // Whether no page has this key. A document that is new has no page, so that none is looked for.
+    fn is_fresh(&self, doc: DocPages, key: &PageKey) -> bool
+        ensures { result ≡ (doc.alone || not (is_some (spec.page_at self.now key.now))) }
+    {
+        doc.alone || !self.pages.contains_key(key)
     }
 
     // The first page of a document, when one more is at this place.
