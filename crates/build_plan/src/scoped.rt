@@ -18,7 +18,7 @@ ghost use Rattle.readers.specs.Told.{Agrees, Knows};
 use crate::keyed::keyed_pages;
 use dita_doc::{Fault, List, NoMemory, Plan, PlanNode, PlanStop, Scope, Stop};
 use doc_elements::append_faults;
-use key_scopes::{ScopeTable, ScopesMade, scopes};
+use key_scopes::{ScopeTable, ScopesMade, into_scopes};
 use plan_nodes::{Homes, copy_texts};
 use readers::{Reader, Titles};
 use std::alloc::{AllocError, Global};
@@ -42,22 +42,22 @@ struct Scoped {
 pub(crate) fn plan_of_nodes<T: Titles>(
     alloc: Global,
     asker: &mut T,
-    nodes: &List<PlanNode>,
+    nodes: List<PlanNode>,
     before: List<Fault>,
 ) -> Result<Planned, Stop<PlanStop>>
-    requires tree { IsTree nodes.now }
-    requires values { Knows (T.told asker.old) (λ world. CarryValues world nodes.now) }
+    requires tree { IsTree nodes }
+    requires values { Knows (T.told asker.old) (λ world. CarryValues world nodes) }
     ensures known { (world : World) → Agrees world (T.told asker.new)
         → GivesSeen (λ planned. planned.plan) result
-        (plan_spec.few_pages plan_spec.limits.pages (plan_spec.plan_with world before nodes.now)) }
+        (plan_spec.few_pages plan_spec.limits.pages (plan_spec.plan_with world before nodes)) }
     ensures ready { IfOk result (λ planned.
         AreReady (T.told asker.new) planned.plan.nodes planned.homes) }
     ensures tabled { IfOk result (λ planned. Knows (T.told asker.new)
         (λ world. ∥ IsTableOf world planned.plan.nodes planned.table ∥₁)) }
     ensures stand { T.stand asker.new ≡ T.stand asker.old }
-    ensures founded { StaysFounded (founded_spec.homes nodes.now) (T.told asker.old)
+    ensures founded { StaysFounded (founded_spec.homes nodes) (T.told asker.old)
         (T.told asker.new) }
-    ensures asks { AsksOnly documents_spec.nothing (founded_spec.homes nodes.now)
+    ensures asks { AsksOnly documents_spec.nothing (founded_spec.homes nodes)
         (T.told asker.old) (T.told asker.new) }
     ensures grows { Grows (T.told asker.old) (T.told asker.new) }
 {
@@ -86,24 +86,24 @@ pub(crate) fn plan_of_nodes<T: Titles>(
 fn with_scopes<R: Reader>(
     alloc: Global,
     reader: &mut R,
-    nodes: &List<PlanNode>,
+    nodes: List<PlanNode>,
 ) -> Result<Scoped, NoMemory>
-    requires tree { IsTree nodes.now }
-    requires values { Knows (R.told reader.old) (λ world. CarryValues world nodes.now) }
+    requires tree { IsTree nodes }
+    requires values { Knows (R.told reader.old) (λ world. CarryValues world nodes) }
     ensures made { IfOk result (λ scoped. Knows (R.told reader.new)
-        (λ world. AreScopes world nodes.now scoped.made)) }
-    ensures nodes { IfOk result (λ scoped. scoped.made.nodes ≡ scopes_spec.scoped nodes.now) }
+        (λ world. AreScopes world nodes scoped.made)) }
+    ensures nodes { IfOk result (λ scoped. scoped.made.nodes ≡ scopes_spec.scoped nodes) }
     ensures ready { IfOk result (λ scoped.
         AreReady (R.told reader.new) scoped.made.nodes scoped.homes) }
     ensures parents { IfOk result (λ scoped. HasParentsBefore scoped.made.nodes) }
     ensures stand { R.stand reader.new ≡ R.stand reader.old }
-    ensures founded { StaysFounded (founded_spec.homes nodes.now) (R.told reader.old)
+    ensures founded { StaysFounded (founded_spec.homes nodes) (R.told reader.old)
         (R.told reader.new) }
-    ensures asks { AsksOnly documents_spec.nothing (founded_spec.homes nodes.now)
+    ensures asks { AsksOnly documents_spec.nothing (founded_spec.homes nodes)
         (R.told reader.old) (R.told reader.new) }
     ensures grows { Grows (R.told reader.old) (R.told reader.new) }
 {
-    let made = scopes(alloc, reader, nodes)?;
+    let made = into_scopes(alloc, reader, nodes)?;
     let homes = Homes::of(alloc, reader, made.nodes.as_slice())?;
     Ok(Scoped { made, homes })
 }

@@ -61,5 +61,5 @@ pub fn planned<T: Titles>(
         Err(stop) => return Err(stop),
     };
     append_faults(&mut faults, made.faults)?;
-    plan_of_nodes(alloc, asker, &made.nodes, faults)
+    plan_of_nodes(alloc, asker, made.nodes, faults)
 }

@@ -1,8 +1,8 @@
 -- Nodes with their scopes, one more; and what is made of all nodes.
-use Rattle.std.specs.Prelude.{◌≡◌, ◌+◌, ◌<◌, ◌≤◌, ℕ, suc, List, [], ◌∷◌, ◌++◌, drop, filter, length, map, take, unwrap_or}
+use Rattle.std.specs.Prelude.{◌≡◌, ◌+◌, ◌<◌, ℕ, List, [], ◌∷◌, ◌++◌, filter, length, map, take, unwrap_or}
 use Rattle.std.specs.List.{filter_map, flat_map}
-use Rattle.std.proofs.Common.{refl, sym, ap, subst, ◌∙◌, arith, get_or, drop-cons, append_assoc}
-use Rattle.std.proofs.lemmas.List.{append-nil, drop_all, take_all}
+use Rattle.std.proofs.Common.{refl, sym, ap, subst, ◌∙◌, arith, append_assoc}
+use Rattle.std.proofs.lemmas.List.{length-append, take_all}
 use Rattle.dita_doc.specs.declared.plan.PlanNode.{PlanNode}
 use Rattle.key_scopes.specs.declared.numbering.Numbering.{Numbering}
 use Rattle.key_scopes.specs.Above.{AreEndsFrom, AreInPreorder, parent_in}
@@ -28,27 +28,19 @@ scope_there nodes at scope told within told_is is =
     ∙ ap (λ all. place_in (map (scope_at nodes) (places all)) at) (sym (take_all (length nodes) nodes (omega arith)))
     ∙ ap (λ found. unwrap_or found 0) (known_at (scope_at nodes) nodes at (length nodes) within (omega arith))
 
--- one more node
-pub scoped_more : (nodes : List PlanNode) (at : ℕ) (node copy : PlanNode) (old new whole : List PlanNode)
-    → at < length nodes → node ≡ get_or nodes at node → copy ≡ record node { scope = scope_at nodes at }
-    → old ++ scoped_from nodes at (drop at nodes) ≡ whole → new ≡ old ++ copy ∷ []
-    → new ++ scoped_from nodes (at + 1) (drop (at + 1) nodes) ≡ whole
-scoped_more nodes at node copy old new whole within item is before more =
-    let here : PlanNode → PlanNode = λ (n : PlanNode). record n { scope = scope_at nodes at } in
-    let rest = scoped_from nodes (at + 1) (drop (at + 1) nodes) in
-    let next : suc at ≡ at + 1 = omega arith in
-    let cut : drop at nodes ≡ get_or nodes at node ∷ drop (at + 1) nodes =
-    drop-cons nodes at node within ∙ ap (λ n. get_or nodes at node ∷ drop n nodes) next in
-    ap (λ some. some ++ rest) more
-    ∙ append_assoc old (copy ∷ []) rest
-    ∙ ap (λ n. old ++ n ∷ rest) (is ∙ ap here item)
-    ∙ sym (ap (λ some. old ++ scoped_from nodes at some) cut)
+-- one more node, behind those that are in their scopes
+pub scoped_next : (nodes : List PlanNode) (node copy : PlanNode) (old new more all whole : List PlanNode)
+    → all ≡ node ∷ more → copy ≡ record node { scope = scope_at nodes (length old) }
+    → old ++ scoped_from nodes (length old) all ≡ whole → new ≡ old ++ copy ∷ []
+    → new ++ scoped_from nodes (length new) more ≡ whole
+scoped_next nodes node copy old new more all whole first is before put =
+    let longer : length new ≡ length old + 1 = ap length put ∙ length-append old (copy ∷ []) in
+    ap (λ some. some ++ scoped_from nodes (length new) more) put
+    ∙ ap (λ n. (old ++ copy ∷ []) ++ scoped_from nodes n more) longer
+    ∙ append_assoc old (copy ∷ []) (scoped_from nodes (length old + 1) more)
+    ∙ ap (λ n. old ++ n ∷ scoped_from nodes (length old + 1) more) is
+    ∙ sym (ap (λ some. old ++ scoped_from nodes (length old) some) first)
     ∙ before
-
-pub scoped_end : (nodes : List PlanNode) (at : ℕ) (made whole : List PlanNode) → length nodes ≤ at
-    → made ++ scoped_from nodes at (drop at nodes) ≡ whole → made ≡ whole
-scoped_end nodes at made whole end before =
-    sym (append-nil made) ∙ ap (λ some. made ++ scoped_from nodes at some) (sym (drop_all at nodes end)) ∙ before
 
 -- What is known behind all nodes
 

@@ -13,6 +13,6 @@ mod search;
 mod spans;
 mod table;
 
-pub use made::{ScopesMade, scopes};
+pub use made::{ScopesMade, into_scopes, scopes};
 pub use search::find;
 pub use table::ScopeTable;

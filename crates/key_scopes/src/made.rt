@@ -20,7 +20,7 @@ use crate::numbering::{Numbering, place_in};
 use crate::spans::Spans;
 use crate::table::ScopeTable;
 use dita_doc::{Fault, List, NoMemory, PlanNode, Scope};
-use plan_nodes::{Homes, copy_node};
+use plan_nodes::{Homes, copy_nodes};
 use readers::Reader;
 use std::alloc::{AllocError, Global};
 
@@ -55,48 +55,71 @@ pub fn scopes<R: Reader>(
         (R.told reader.old) (R.told reader.new) }
     ensures grows { Grows (R.told reader.old) (R.told reader.new) }
 {
-    scopes_of(alloc, reader, nodes.as_slice())
+    into_scopes(alloc, reader, copy_nodes(alloc, nodes.as_slice())?)
 }
 
-// What `scopes` says, but of the reader's own world.
+/// What `scopes` gives for nodes that are handed over, which are not copied.
+///
+/// # Errors
+///
+/// Out of memory. The nodes are gone then.
+pub fn into_scopes<R: Reader>(
+    alloc: Global,
+    reader: &mut R,
+    nodes: List<PlanNode>,
+) -> Result<ScopesMade, NoMemory>
+    ensures known { (world : World) → Agrees world (R.told reader.new)
+        → preorder_spec.IsTree nodes
+        → IfOk result (λ made. made_spec.AreScopes world nodes made) }
+    ensures value { preorder_spec.IsTree nodes → IfOk result (λ made.
+        made_spec.AreScopes (R.stand reader.old).world nodes made) }
+    ensures stand { R.stand reader.new ≡ R.stand reader.old }
+    ensures founded { StaysFounded (founded_spec.homes nodes) (R.told reader.old)
+        (R.told reader.new) }
+    ensures asks { AsksOnly documents_spec.nothing (founded_spec.homes nodes)
+        (R.told reader.old) (R.told reader.new) }
+    ensures grows { Grows (R.told reader.old) (R.told reader.new) }
+{
+    scopes_of(alloc, reader, nodes)
+}
+
+// What `into_scopes` says, but of the reader's own world.
 #[tactic(auto, using(crate::proofs::Walking::walking))]
 fn scopes_of<R: Reader>(
     alloc: Global,
     reader: &mut R,
-    nodes: &[PlanNode],
+    nodes: List<PlanNode>,
 ) -> Result<ScopesMade, NoMemory>
     ensures known { (world : World) → Agrees world (R.told reader.new)
-        → preorder_spec.IsTree nodes.now
-        → IfOk result (λ made. made_spec.AreScopes world nodes.now made) }
+        → preorder_spec.IsTree nodes
+        → IfOk result (λ made. made_spec.AreScopes world nodes made) }
     ensures stand { R.stand reader.new ≡ R.stand reader.old }
-    ensures founded { StaysFounded (founded_spec.homes nodes.now) (R.told reader.old)
+    ensures founded { StaysFounded (founded_spec.homes nodes) (R.told reader.old)
         (R.told reader.new) }
-    ensures asks { AsksOnly documents_spec.nothing (founded_spec.homes nodes.now)
+    ensures asks { AsksOnly documents_spec.nothing (founded_spec.homes nodes)
         (R.told reader.old) (R.told reader.new) }
     ensures grows { Grows (R.told reader.old) (R.told reader.new) }
 {
-    let homes = Homes::of(alloc, reader, nodes)?;
+    let homes = Homes::of(alloc, reader, nodes.as_slice())?;
     scopes_in(alloc, &homes, nodes)
 }
 
 // The scopes of nodes of which the elements are known.
-fn scopes_in(alloc: Global, homes: &Homes, nodes: &[PlanNode]) -> Result<ScopesMade, NoMemory>
-    ensures { (world : World) → homes.now ≡ map (cascade_spec.whole_at world) nodes.now
-        → preorder_spec.IsTree nodes.now
-        → IfOk result (λ made. made_spec.AreScopes world nodes.now made) }
+fn scopes_in(alloc: Global, homes: &Homes, nodes: List<PlanNode>) -> Result<ScopesMade, NoMemory>
+    ensures { (world : World) → homes.now ≡ map (cascade_spec.whole_at world) nodes
+        → preorder_spec.IsTree nodes
+        → IfOk result (λ made. made_spec.AreScopes world nodes made) }
 {
-    let numbering = Numbering::of(alloc, homes, nodes)?;
-    let copies = scoped(alloc, nodes, &numbering.places)?;
     let Numbering {
         scopes,
         written,
+        places,
         faults,
-        ..
-    } = numbering;
+    } = Numbering::of(alloc, homes, nodes.as_slice())?;
     let table = table_of(alloc, scopes, written, nodes.len())?;
     Ok(ScopesMade {
         table,
-        nodes: copies,
+        nodes: scoped(alloc, nodes, &places)?,
         faults,
     })
 }
@@ -122,23 +145,26 @@ fn table_of(
     })
 }
 
-// Copies of the nodes with their scopes.
-fn scoped(alloc: Global, nodes: &[PlanNode], places: &[u32]) -> Result<List<PlanNode>, AllocError>
-    ensures { places.now ≡ map (scopes_spec.scope_at nodes.now) (scopes_spec.places nodes.now)
-        → IfOk result (λ copies. copies ≡ scopes_spec.scoped nodes.now) }
+// The nodes in their scopes.
+fn scoped(
+    alloc: Global,
+    nodes: List<PlanNode>,
+    places: &[u32],
+) -> Result<List<PlanNode>, AllocError>
+    ensures { places.now ≡ map (scopes_spec.scope_at nodes) (scopes_spec.places nodes)
+        → IfOk result (λ scoped. scoped ≡ scopes_spec.scoped nodes) }
 {
-    let mut copies = List::new(alloc);
-    for (at, node) in nodes.iter().enumerate() {
-        copies.push(node_in(alloc, node, place_in(places, at))?)?;
+    let mut scoped = List::new(alloc);
+    for node in nodes.into_vec() {
+        let scope = place_in(places, scoped.len());
+        scoped.push(in_scope(node, scope))?;
     }
-    Ok(copies)
+    Ok(scoped)
 }
 
-// A copy of a node in this scope.
-fn node_in(alloc: Global, node: &PlanNode, scope: u32) -> Result<PlanNode, AllocError>
-    ensures { IfOk result (λ copy. copy ≡ record node.now { scope = scope }) }
+// The node in this scope.
+fn in_scope(node: PlanNode, scope: u32) -> PlanNode
+    ensures { result ≡ record node { scope = scope } }
 {
-    let mut copy = copy_node(alloc, node)?;
-    copy.scope = scope;
-    Ok(copy)
+    PlanNode { scope, ..node }
 }
