@@ -1,16 +1,18 @@
 -- Documents that are kept while readers come and go: what is told again fixes such a document, so that it is that of each
 -- world that agrees.
-use Rattle.std.specs.Prelude.{◌≡◌, ℕ, List, Option, option_map}
+use Rattle.std.specs.Prelude.{◌≡◌, ℕ, false, List, [], Option, IsTrue, option_map}
 use Rattle.std.specs.declared.alloc.Global.{Global}
 use Rattle.std.specs.declared.sync.Arc.{Arc}
-use Rattle.std.proofs.Common.{sym, ap, subst, ◌∙◌}
+use Rattle.std.proofs.Common.{refl, sym, ap, subst, ◌∙◌}
+use Rattle.std.proofs.lemmas.Bool.{false≢true}
 use Rattle.conref_push.specs.Into.{pushed_by}
+use Rattle.conref_push.proofs.DocLaws.{IsPut, known_none, known_put}
 use Rattle.conref_push.proofs.UntouchedLaws.{pushed_as}
 use Rattle.dita_doc.specs.declared.content.PushList.{PushList}
 use Rattle.dita_doc.specs.declared.doc.Doc.{Doc}
 use Rattle.map_spec.specs.Written.{Written}
 use Rattle.page_spec.specs.Pushes.{pushed, pushes_into}
-use Rattle.plan_layer.specs.Made.{AreKept, IsKept}
+use Rattle.plan_layer.specs.Made.{AreKept, IsKept, is_quiet}
 use Rattle.plan_layer.specs.declared.docs.PushedDocs.{PushedDocs}
 use Rattle.plan_layer.proofs.MadeLaws.{touched_known}
 use Rattle.reader_spec.specs.World.{World}
@@ -33,6 +35,26 @@ kept_made world documents documents' name found copy plan same is =
 pub kept_still : (old new : Stand) (documents : List (List ℕ)) (docs : PushedDocs) → new ≡ old
     → AreKept old.world documents docs → AreKept new.world documents docs
 kept_still old new documents docs same = subst (λ (s : Stand). AreKept s.world documents docs) (sym same)
+
+-- What is kept
+
+module _ (world : World) (documents : List (List ℕ)) where
+  -- nothing is kept yet
+  pub kept_none : (docs : PushedDocs) → docs.docs.entries ≡ [] → docs.quiet.keys ≡ [] → AreKept world documents docs
+  kept_none docs made quiet = record {
+    made = known_none (IsKept world documents) docs.docs made;
+    quiet = λ name is.
+        let none : is_quiet docs.quiet name ≡ false = rw quiet refl in absurd (false≢true (sym none ∙ is));
+  }
+
+  -- one more document is kept
+  pub kept_put : (old new : PushedDocs) (name key : List ℕ) (found : Option (Arc Doc Global))
+      → IsPut old.docs new.docs key found → new.quiet ≡ old.quiet → key ≡ name → IsKept world documents name found
+      → AreKept world documents old → AreKept world documents new
+  kept_put old new name key found put still same is kept = record {
+    made = known_put (IsKept world documents) old.docs new.docs name key found put same is kept.made;
+    quiet = λ other there. kept.quiet other (subst (λ names. IsTrue (is_quiet names other)) still there);
+  }
 
 module _ (own : World) (documents : List (List ℕ)) (name : List ℕ) (list : PushList) (named : Option Written) where
   kept_by : pushes_into own documents name ≡ list → named ≡ pushed own documents name

@@ -4,5 +4,6 @@ pub mod PassLaws
 pub mod BelowLaws
 mod MadeLaws
 mod KeptLaws
+mod QuietLaws
 mod FromLaws
 mod DocLaws

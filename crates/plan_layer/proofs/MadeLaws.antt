@@ -1,24 +1,21 @@
 -- Documents that were made with the pushes into them: how they are made, and that they stay right as more is told.
-use Rattle.std.specs.Prelude.{◌≡◌, ℕ, Bool, true, false, not, List, [], ◌∷◌, ◌⊎◌, Option, Some, None, IfSome, IsTrue, cond, drop, bytes_eq, option_map}
+use Rattle.std.specs.Prelude.{◌≡◌, ℕ, false, List, [], ◌∷◌, ◌⊎◌, Option, Some, None, IfSome, IsTrue, cond, drop, bytes_eq, option_map}
 use Rattle.std.specs.BTreeMap as tree
 use Rattle.std.specs.Arc.{arc_value}
 use Rattle.std.specs.Borrow.{Bor}
 use Rattle.std.specs.Cmp.Lexicographic.{slice_cmp}
-use Rattle.std.specs.Option.{option_copied, option_map_or}
+use Rattle.std.specs.Option.{option_copied}
 use Rattle.std.specs.Ordering.{is_eq, nat_cmp}
 use Rattle.std.specs.declared.alloc.Global.{Global}
 use Rattle.std.specs.declared.sync.Arc.{Arc}
 use Rattle.std.proofs.Common.{refl, sym, ap, subst, ◌∙◌}
 use Rattle.std.proofs.Math.Logic.{⊎_elim}
 use Rattle.std.proofs.lemmas.Bool.{false≢true, or_cases, or_left, or_right}
-use Rattle.conref_push.specs.Acting.{any_acts}
 use Rattle.conref_push.specs.Into.{docs_of, froms, named_doc, pushed_by}
-use Rattle.conref_push.specs.Table.{is_touched}
 use Rattle.conref_push.specs.Targets.{AreKnown}
 use Rattle.conref_push.proofs.DocLaws.{IsPut}
-use Rattle.conref_push.proofs.UntouchedLaws.{pushed_as, untouched}
+use Rattle.conref_push.proofs.UntouchedLaws.{pushed_as}
 use Rattle.dita_doc.proofs.NameOrder.{equal_itself}
-use Rattle.dita_doc.specs.Tree.{tree_of}
 use Rattle.dita_doc.specs.declared.content.PushList.{PushList}
 use Rattle.dita_doc.specs.declared.doc.Doc.{Doc}
 use Rattle.map_spec.specs.Written.{Written, document, written_in}
@@ -42,22 +39,6 @@ use Rattle.readers.proofs.GrowthLaws.{agrees_before, are_allowed_before, grows_o
 use Rattle.readers.proofs.LayerLaws.{grows_put, grows_tried}
 
 -- A document is its own pushed document
-
-not_true : (b : Bool) → not b ≡ true → b ≡ false
-not_true true is = cc
-not_true false is = refl
-
-pub itself_quiet : (world : World) (documents : List (List ℕ)) (name : List ℕ) (found : Option (Arc Doc Global))
-    (stored : Arc Doc Global) (read : Doc) (acting : Bool) → found ≡ Some stored → world name ≡ tree_found found
-    → read ≡ arc_value stored → false ≡ is_touched world documents name
-    → acting ≡ any_acts (written_in name (tree_of read.nodes)) → not acting ≡ true
-    → pushed world documents name ≡ document world name
-itself_quiet world documents name found stored read acting is there same touches acts quiet =
-    let tree_is : world name ≡ Some (tree_of read.nodes) =
-    there ∙ ap tree_found is ∙ ap (λ (d : Doc). Some (tree_of d.nodes)) (sym same) in
-    untouched world documents name (sym touches)
-    (ap (λ tree. option_map_or any_acts (option_map (written_in name) tree) false) tree_is ∙ sym acts
-    ∙ not_true acting quiet)
 
 pub itself_known : (world : World) (documents : List (List ℕ)) (name : List ℕ) (found : Option (Arc Doc Global))
     → world name ≡ tree_found found → IfSome (doc_of found) (λ (stored : Doc). stored.origins ≡ name ∷ [])

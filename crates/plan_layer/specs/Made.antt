@@ -1,8 +1,9 @@
 -- Documents that were made with the pushes into them (own). Of those that are known by what was told each is that of its
 -- name in every world that agrees, and the documents that its references name may be asked about; of those that are kept
--- longer each is that of its name in one world.
-use Rattle.std.specs.Prelude.{◌≡◌, ℕ, List, [], ◌∷◌, Option, Some, None}
+-- longer each is that of its name in one world, and in this world no element acts of those that are kept as quiet.
+use Rattle.std.specs.Prelude.{◌≡◌, ℕ, Bool, false, List, [], ◌∷◌, Option, Some, None, IsTrue}
 use Rattle.std.specs.BTreeMap as tree
+use Rattle.std.specs.BTreeSet as names
 use Rattle.std.specs.Cmp.Lexicographic.{slice_cmp}
 use Rattle.std.specs.Coded.{Coded, Coded-set, code_by, coded_option}
 use Rattle.std.specs.Ordering.{nat_cmp}
@@ -10,6 +11,7 @@ use Rattle.std.specs.declared.alloc.Global.{Global}
 use Rattle.std.specs.declared.sync.Arc.{Arc}
 use Rattle.std.proofs.Common.{refl}
 use Rattle.std.proofs.Props.{props}
+use Rattle.conref_push.specs.Acting.{acts_in}
 use Rattle.conref_push.specs.Targets.{AreKnown}
 use Rattle.dita_doc.specs.declared.doc.Doc.{Doc}
 use Rattle.map_spec.specs.Written.{Element, Whole, Written, End}
@@ -38,8 +40,14 @@ ArePushed told documents memo = AreKnown (IsPushed told documents) memo.docs
 abbrev pub IsKept : World → List (List ℕ) → List ℕ → Option (Arc Doc Global) → Type 0
 IsKept world documents name found = named_found found ≡ pushed world documents name
 
-abbrev pub AreKept : World → List (List ℕ) → PushedDocs → Type 0
-AreKept world documents docs = AreKnown (IsKept world documents) docs.docs
+-- whether the document of a name is among those that are quiet
+abbrev pub is_quiet : names.BTreeSet (List ℕ) → List ℕ → Bool
+is_quiet quiet name = names.contains (slice_cmp nat_cmp) quiet name
+
+-- each document that was made is kept as it is in this world, and no element acts of a document that is quiet
+pub record AreKept (world : World) (documents : List (List ℕ)) (docs : PushedDocs) : Type 0 where
+  pub made : AreKnown (IsKept world documents) docs.docs
+  pub quiet : (name : List ℕ) → IsTrue (is_quiet docs.quiet name) → acts_in world name ≡ false
 
 -- content is data, as what an element holds
 abbrev no_element : Element
@@ -68,4 +76,4 @@ pub ArePushed-prop : (told : List Told) (documents : List (List ℕ)) (memo : Pu
 ArePushed-prop told documents memo = hlevel IsPushed-prop
 
 pub AreKept-prop : (world : World) (documents : List (List ℕ)) (docs : PushedDocs) → IsProp (AreKept world documents docs)
-AreKept-prop world documents docs = hlevel written_set
+AreKept-prop world documents docs = hlevel (props, written_set)

@@ -3,6 +3,7 @@
 use crate::layer::PlanLayer;
 use crate::made::{GivesTouched, TellsPushes, kept_pushed, made_pushed, with_pushes};
 use crate::notes::{page_note, pushes_note};
+use conref_push::{PushTable, acts_in};
 use dita_doc::{Context, Doc, Name, NoMemory, PushList};
 use readers::{Asker, Keys, Since, share};
 use std::alloc::Global;
@@ -28,6 +29,28 @@ impl<'r, 'q, 'm, 'd, 'n, K: Keys, S: Since> GivesTouched for PlanLayer<'r, 'q, '
         let kept = share(&made)?;
         self.docs.put(name, kept)?;
         Ok(made)
+    }
+
+    fn is_itself(
+        &mut self,
+        table: &PushTable,
+        name: &Name,
+        found: &Option<Arc<Doc>>,
+    ) -> Result<bool, NoMemory> {
+        let Some(doc) = found else {
+            return Ok(true);
+        };
+        if table.touches(name) {
+            return Ok(false);
+        }
+        if self.docs.is_quiet(name) {
+            return Ok(true);
+        }
+        if acts_in(doc) {
+            return Ok(false);
+        }
+        self.docs.put_quiet(name)?;
+        Ok(true)
     }
 }
 

@@ -13,7 +13,7 @@ ghost use Rattle.readers.specs.Named as named_spec;
 ghost use Rattle.readers.specs.Told as told_spec;
 ghost use Rattle.readers.specs.Told.{Agrees, Knows};
 
-use conref_push::{PushTable, acts_in, ask_pushed, pushed};
+use conref_push::{PushTable, ask_pushed, pushed};
 use dita_doc::{Doc, Name, NoMemory, PushList};
 use readers::Keys;
 use std::alloc::Global;
@@ -45,6 +45,23 @@ pub(crate) trait GivesTouched: TellsPushes {
         ensures asks { AsksOnly documents_spec.of_pushes (name.now ∷ []) (Self.told self.old)
             (Self.told self.new) }
         ensures grows { Grows (Self.told self.old) (Self.told self.new) };
+
+    /// Whether the pushes leave the document that was found under a name as it is, as far as the
+    /// table tells. No question is told.
+    fn is_itself(
+        &mut self,
+        table: &PushTable,
+        name: &Name,
+        found: &Option<Arc<Doc>>,
+    ) -> Result<bool, NoMemory>
+        requires there { (Self.stand self.old).world name.now ≡ told_spec.tree_found found.now }
+        ensures same { (world : World) (documents : List (List ℕ))
+            → IsPushTable world documents table.now
+            → world name.now ≡ told_spec.tree_found found.now → IfOk result (λ itself. itself ≡ true
+            → pushes_spec.pushed world documents name.now
+            ≡ written_spec.document world name.now) }
+        ensures stand { Self.stand self.new ≡ Self.stand self.old }
+        ensures told { Self.told self.new ≡ Self.told self.old };
 }
 
 /// The document with the pushes into it, if it is stored. It is shared if they leave it as it is.
@@ -68,22 +85,10 @@ pub(crate) fn made_pushed<P: GivesTouched>(
     ensures grows { Grows (P.told asker.old) (P.told asker.new) }
 {
     let found = asker.doc(alloc, name)?;
-    if is_itself(table, name, &found) {
+    if asker.is_itself(table, name, &found)? {
         return Ok(found);
     }
     asker.touched(alloc, name)
-}
-
-// Whether the pushes leave a document as it is, as far as the table tells.
-fn is_itself(table: &PushTable, name: &Name, found: &Option<Arc<Doc>>) -> bool
-    ensures { (world : World) (documents : List (List ℕ)) → IsPushTable world documents table.now
-        → world name.now ≡ told_spec.tree_found found.now → result ≡ true
-        → pushes_spec.pushed world documents name.now ≡ written_spec.document world name.now }
-{
-    match found {
-        Some(doc) => !table.touches(name) && !acts_in(doc),
-        None => true,
-    }
 }
 
 /// The document with the pushes that the reader tells.
