@@ -52,7 +52,7 @@ another : (own page : ℕ) (list : LinkList) → (page ≡ list.page → ⊥) �
 another own page list apart is = let differs : page ≡ own → ⊥ = λ e. apart (e ∙ sym is) in grind (arith, nat_tests)
 
 -- a link to a page that the list has a link to
-pub held_there : (own : ℕ) (all : List LinkTo) (kind : LinkKind) (page : ℕ) (list : LinkList)
+held_there : (own : ℕ) (all : List LinkTo) (kind : LinkKind) (page : ℕ) (list : LinkList)
     → (page ≡ list.page → ⊥) → list_any (is_at (nat_cmp page)) list.seen.keys ≡ true → HoldsLinks own all list
     → HoldsLinks own (with_link own all kind page) list
 held_there own all kind page list apart there holds =
@@ -60,6 +60,19 @@ held_there own all kind page list apart there holds =
     (other_some own kind page (page == own) refl (another own page list apart holds.page)) in
     holds_same own all (with_link own all kind page) list
     (sym (ap to_each_once link ∙ once_again all (link_of kind page) (sym (holds.seen page) ∙ there))) holds
+
+-- the same, if the set of pages was given the page once more
+pub held_again : (own : ℕ) (all : List LinkTo) (kind : LinkKind) (page : ℕ) (old new : LinkList)
+    → (page ≡ old.page → ⊥) → list_any (is_at (nat_cmp page)) old.seen.keys ≡ true → new.page ≡ old.page
+    → new.links.items ≡ old.links.items → new.seen.keys ≡ old.seen.keys → HoldsLinks own all old
+    → HoldsLinks own (with_link own all kind page) new
+held_again own all kind page old new apart there same links seen holds =
+    let held = held_there own all kind page old apart there holds in
+    record {
+      page = same ∙ held.page;
+      are = ap (map link_shown) links ∙ held.are;
+      seen = λ other. ap (list_any (is_at (nat_cmp other))) seen ∙ held.seen other;
+    }
 
 -- a link to a new page
 pub held_new : (own : ℕ) (all : List LinkTo) (kind : LinkKind) (page : ℕ) (old new : LinkList)

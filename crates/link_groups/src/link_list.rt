@@ -64,10 +64,9 @@ impl LinkList {
         if page == self.page {
             return Ok(());
         }
-        if self.seen.contains(&page) {
-            return Ok(());
+        if self.seen.insert(page)? {
+            self.links.push(LinkTo { kind, page })?;
         }
-        self.put(kind, page)?;
         Ok(())
     }
 
@@ -127,19 +126,6 @@ impl LinkList {
         };
         let written = all_written(alloc, asker, pages, own, &self.links)?;
         Ok(written)
-    }
-
-    // Puts a link to a page behind the others.
-    fn put(&mut self, kind: LinkKind, page: u32) -> Result<(), NoMemory>
-        ensures page { OnOk result (self.new.page ≡ self.old.page) }
-        ensures links { OnOk result (self.new.links.items
-            ≡ self.old.links.items ++ record { kind = kind; page = page } ∷ []) }
-        ensures seen { OnOk result (self.new.seen.keys
-            ≡ insert_key nat_cmp self.old.seen.keys page) }
-    {
-        let _ = self.seen.insert(page)?;
-        self.links.push(LinkTo { kind, page })?;
-        Ok(())
     }
 
     // Appends links to the pages of nodes, as they stand.
