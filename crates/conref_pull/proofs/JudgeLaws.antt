@@ -1,7 +1,7 @@
 -- An element without an attribute that can exclude it stays.
 use Rattle.std.specs.Prelude.{◌≡◌, ◌&&◌, ◌||◌, Bool, true, false, not, List, [], ◌∷◌}
 use Rattle.std.specs.List.{list_all, list_any}
-use Rattle.std.proofs.Common.{refl, sym, ap, ◌∙◌}
+use Rattle.std.proofs.Common.{refl}
 use Rattle.std.proofs.lemmas.Bool.{or_parts}
 use Rattle.dita_doc.specs.ClassValue.{words_of}
 use Rattle.dita_doc.specs.declared.content.Rule.{Rule}

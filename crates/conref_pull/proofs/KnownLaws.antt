@@ -1,9 +1,9 @@
 -- What is kept under names, when one more is put.
-use Rattle.std.specs.Prelude.{◌≡◌, ℕ, Bool, true, false, List, Option, Some, None, cond}
+use Rattle.std.specs.Prelude.{◌≡◌, ℕ, Bool, true, false, List, Some, cond}
 use Rattle.std.specs.BTreeMap as tree
 use Rattle.std.specs.BTreeMap.{BTreeMap, is_at}
 use Rattle.std.specs.Ordering.{is_eq}
-use Rattle.std.proofs.Common.{Ordering, Less, Equal, Greater, refl, sym, subst, ◌∙◌}
+use Rattle.std.proofs.Common.{Ordering, Less, Equal, Greater, refl, subst, ◌∙◌}
 use Rattle.dita_doc.proofs.NameOrder.{same_from_equal}
 use Rattle.conref_pull.specs.Rules.{name_cmp}
 

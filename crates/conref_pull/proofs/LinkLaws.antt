@@ -1,10 +1,11 @@
 -- The target of a link.
-use Rattle.std.specs.Prelude.{◌≡◌, true, List, Option, Some}
+use Rattle.std.specs.Prelude.{◌≡◌, ℕ, true, List, [], ◌∷◌, Option, Some, length}
 use Rattle.std.specs.Arc.{arc_value}
-use Rattle.std.proofs.Common.{refl, sym, ap, subst, ◌∙◌}
+use Rattle.std.proofs.Common.{refl, sym, ap, subst, ◌∙◌, arith}
 use Rattle.dita_doc.specs.Tree.{Content, Element, tree_of}
 use Rattle.dita_doc.specs.declared.doc.Doc.{Doc}
-use Rattle.conref_pull.specs.Linked.{IsLink}
+use Rattle.page_spec.specs.Content.{Place}
+use Rattle.conref_pull.specs.Linked.{AreLinks, IsLink}
 use Rattle.conref_pull.specs.Origin.{begins_element, first_whole, whole_shown}
 use Rattle.conref_pull.specs.Parts.{IsPart}
 use Rattle.conref_pull.specs.Step.{Taken}
@@ -22,3 +23,9 @@ link_whole tree link one found same is whole =
     let there : IsPart (tree_of tree.nodes) link.place part =
     subst (λ (d : Doc). IsPart (tree_of d.nodes) link.place part) (sym same) is.part in
     whole part there refl ∙ ap (λ (d : Doc). first_whole d.origins part) same ∙ is.whole
+
+-- where targets were taken there are links
+pub no_links : (path : List Place) (end : ℕ) (one : Taken) (nearer : List Taken) (items : List Link)
+    → length items ≡ 0 → AreLinks path end (one ∷ nearer) items → ⊥
+no_links path end one nearer [] none linked = linked
+no_links path end one nearer (link ∷ items) none linked = omega arith

@@ -1,12 +1,11 @@
 -- Siblings of a document where they stand: their nodes, and the element that stands first.
-use Rattle.std.specs.Prelude.{◌≡◌, ◌+◌, ◌<◌, ◌≤◌, ℕ, zero, suc, List, [], ◌∷◌, ◌++◌, Some, None, length, drop, slice_get}
-use Rattle.std.proofs.Common.{refl, sym, ap, subst, ◌∙◌, arith, append_assoc, append-nil, length-append}
+use Rattle.std.specs.Prelude.{◌≡◌, ◌+◌, ◌≤◌, ℕ, zero, suc, List, [], ◌∷◌, ◌++◌, Some, None, length, drop, slice_get}
+use Rattle.std.proofs.Common.{refl, sym, ap, ◌∙◌, arith, append_assoc, append-nil}
 use Rattle.dita_doc.specs.Siblings.{content_from, element_at, joined}
 use Rattle.dita_doc.specs.Tree.{ArePreorder, Content, End, Chars, Element, chars_node, element_node, nodes_of, size_of, tree_of}
 use Rattle.dita_doc.specs.declared.doc.Attribute.{Attribute}
 use Rattle.dita_doc.specs.declared.doc.Node.{Node}
 use Rattle.dita_doc.proofs.TreeLaws.{length_nodes}
-use Rattle.map_spec.specs.Written as written
 use Rattle.map_spec.specs.Written.{size}
 use Rattle.readers.specs.Named.{named}
 use Rattle.conref_pull.specs.Parts.{IsPart, whole, past_text, within, past}

@@ -1,5 +1,5 @@
 -- The rules that are kept, one DITAVAL after the other.
-use Rattle.std.specs.Prelude.{◌≡◌, ◌+◌, ◌<◌, ℕ, Bool, true, false, List, [], ◌∷◌, ◌++◌, Option, Some, None, Result, Ok, Err, OnOk, cond, get_or, is_some, length, option_map, take}
+use Rattle.std.specs.Prelude.{◌≡◌, ◌+◌, ◌<◌, ℕ, Bool, true, false, List, [], ◌∷◌, ◌++◌, Option, Some, None, Result, Ok, Err, OnOk, cond, get_or, is_some, length, take}
 use Rattle.std.specs.BTreeMap.{is_at}
 use Rattle.std.specs.Option.{option_and_then, option_to_list}
 use Rattle.std.proofs.Common.{refl, sym, ap, subst, ◌∙◌}
@@ -7,7 +7,7 @@ use Rattle.std.proofs.lemmas.List.{take_more}
 use Rattle.dita_doc.specs.declared.content.Rule.{Rule}
 use Rattle.dita_doc.specs.declared.stop.NoMemory.{NoMemory}
 use Rattle.reader_spec.specs.World.{World}
-use Rattle.conref_pull.specs.Rules.{AreRules, HasAll, HasRead, Keeps, all_kept, kept, name_cmp, page_rules, rules_kept, rules_under}
+use Rattle.conref_pull.specs.Rules.{AreRules, HasAll, HasRead, Keeps, all_kept, kept, name_cmp, page_rules, rules_under}
 use Rattle.conref_pull.specs.declared.rules.RuleLists.{RuleLists}
 use Rattle.conref_pull.proofs.KnownLaws.{put_found}
 

@@ -1,7 +1,7 @@
 -- What references name, and how it was found (own).
-use Rattle.std.specs.Prelude.{◌≡◌, ◌+◌, ◌||◌, ℕ, Bool, List, [], Option, Some, None, is_some, slice_get, unwrap_or, if◌then◌else◌}
+use Rattle.std.specs.Prelude.{◌≡◌, ◌+◌, ◌||◌, ℕ, Bool, List, [], ◌∷◌, ◌++◌, Option, Some, None, is_some, slice_get, unwrap_or, if◌then◌else◌}
 use Rattle.std.specs.Arc.{arc_value}
-use Rattle.std.specs.Option.{option_or}
+use Rattle.std.specs.Option.{option_and_then, option_or}
 use Rattle.dita_doc.specs.Tree as tree
 use Rattle.dita_doc.specs.Tree.{Content, size_of, tree_of}
 use Rattle.dita_doc.specs.declared.doc.Attribute.{Attribute}
@@ -12,13 +12,15 @@ use Rattle.map_spec.specs.Elements.{fault_at}
 use Rattle.map_spec.specs.Keys.{key_of}
 use Rattle.map_spec.specs.Written.{Element}
 use Rattle.page_spec.specs.Content as content
-use Rattle.page_spec.specs.Content.{Sought}
+use Rattle.page_spec.specs.Content.{Setting, Sought, by_key, found_by, key_faults, missing_fault, value_used}
 use Rattle.page_spec.specs.Places.{Standing}
 use Rattle.readers.specs.Named.{named, named_tree}
 use Rattle.conref_pull.specs.Origin.{first_whole}
 use Rattle.conref_pull.specs.Parts.{IsPart, ends_of}
 use Rattle.conref_pull.specs.Tables.{AreTables, Documents}
 use Rattle.conref_pull.specs.declared.find.Found.{Found}
+use Rattle.conref_pull.specs.declared.find.Keyed.{Keyed}
+use Rattle.conref_pull.specs.declared.resolver.Resolver.{Resolver}
 use Rattle.conref_pull.specs.declared.tables.PlaceTables.{PlaceTables}
 
 -- an element stands in the document where it is said to stand
@@ -62,8 +64,34 @@ pub record IsSearch (documents : Documents) (meant : Option content.Found) (valu
   pub named : HasValue value result
   pub tables : AreTables documents places
 
+-- the node that defines the key of a key reference
+abbrev pub node_of_key : Setting → Option (List ℕ) → Option ℕ
+node_of_key setting keyref = option_and_then (λ key. (setting.key (key_of key)).node) keyref
+
+-- what a key reference names, whether its key is defined, and its faults
+pub record IsKeyed (setting : Setting) (keyref : Option (List ℕ)) (old new : List Fault) (places : PlaceTables)
+    (keyed : Keyed) : Type 0 where
+  pub search : IsSearch setting.pushed (by_key setting keyref) (unwrap_or keyref []) places keyed.found
+  pub defined : keyed.is_defined ≡ is_some (node_of_key setting keyref)
+  pub faults : new ≡ old ++ key_faults setting keyref
+
 -- the fault of a reference that names nothing, by whether its key is defined
 abbrev pub missing_by : Element → Sought → Bool → Fault
 missing_by element sought defined = if is_some sought.conref || defined
     then fault_at element faults.ConrefMissing (unwrap_or (option_or sought.conref sought.conkeyref) [])
     else fault_at element faults.KeyUndefined (key_of (unwrap_or sought.conkeyref []))
+
+-- the faults of a reference: those of its key, and its own if it names nothing
+abbrev pub search_faults : Setting → Element → Sought → Option content.Found → List Fault
+search_faults setting element sought None =
+    key_faults setting sought.conkeyref ++ missing_fault setting element sought ∷ []
+search_faults setting element sought (Some target) = key_faults setting sought.conkeyref
+
+-- an element's reference was looked for
+pub record IsSought (setting : Setting) (topic : List ℕ) (element : Element) (sought : Sought) (old new : Resolver)
+    (places : PlaceTables) (result : Option Found) : Type 0 where
+  pub search :
+      IsSearch setting.pushed (found_by setting topic element sought) (value_used setting sought) places result
+  pub state :
+      new ≡
+      record old { faults = old.faults ++ search_faults setting element sought (found_by setting topic element sought) }

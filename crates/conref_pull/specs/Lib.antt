@@ -1,3 +1,6 @@
+pub mod Accepting
+pub mod Around
+pub mod Asking
 pub mod Count
 pub mod Found
 pub mod Judging
@@ -5,9 +8,12 @@ pub mod Linked
 pub mod Merging
 pub mod Origin
 pub mod Parts
+pub mod Putting
+pub mod Resolved
 pub mod Rules
 pub mod Setting
 pub mod Shown
 pub mod Sought
 pub mod Step
 pub mod Tables
+pub mod Walking

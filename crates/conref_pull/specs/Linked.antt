@@ -1,15 +1,21 @@
 -- Targets that were taken, as the code keeps them (own).
-use Rattle.std.specs.Prelude.{◌≡◌, ◌+◌, ◌-◌, ◌≤◌, ℕ, List, [], ◌∷◌, Some, take}
+use Rattle.std.specs.Prelude.{◌≡◌, ◌+◌, ◌-◌, ◌≤◌, ℕ, List, [], ◌∷◌, ◌++◌, Option, Some, None, length, map, take}
 use Rattle.std.specs.Arc.{arc_value}
 use Rattle.dita_doc.specs.Tree as tree
 use Rattle.dita_doc.specs.Tree.{Content, size_of, tree_of}
 use Rattle.dita_doc.specs.declared.doc.Attribute.{Attribute}
-use Rattle.page_spec.specs.Content.{Place}
+use Rattle.dita_doc.specs.declared.fault.Fault.{Fault}
+use Rattle.map_spec.specs.Written.{Element, Written}
+use Rattle.page_spec.specs.Content.{Followed, Place}
 use Rattle.readers.specs.Named.{named}
 use Rattle.conref_pull.specs.Origin.{first_whole}
 use Rattle.conref_pull.specs.Parts.{IsPart, among_first}
-use Rattle.conref_pull.specs.Step.{Taken}
+use Rattle.conref_pull.specs.Setting.{path_within, place_shown}
+use Rattle.conref_pull.specs.Step.{Step, Taken, followed_to_all}
+use Rattle.conref_pull.specs.Tables.{AreTables, Documents}
 use Rattle.conref_pull.specs.declared.chain.Link.{Link}
+use Rattle.conref_pull.specs.declared.resolver.Resolver.{Resolver}
+use Rattle.conref_pull.specs.declared.tables.PlaceTables.{PlaceTables}
 
 -- this target was taken: the element stands at the place of the link, and its range from one place to the other
 pub record IsLink (link : Link) (one : Taken) : Type 0 where
@@ -25,7 +31,27 @@ pub record IsLink (link : Link) (one : Taken) : Type 0 where
       Some (one.element, one.inside)
   pub from : link.from ≡ link.place + 1 + size_of inside
   pub forward : link.from ≤ link.to
+  pub fits : link.to ≤ link.from + size_of rest
   pub range : one.range ≡ among_first (link.to - link.from) (named (arc_value link.doc).origins rest)
+
+abbrev pub IsLinked : Option Taken → Option Link → Type 0
+IsLinked None None = Unit {0}
+IsLinked None (Some link) = ⊥
+IsLinked (Some one) None = ⊥
+IsLinked (Some one) (Some link) = IsLink link one
+
+-- the path is that of the target that was taken
+abbrev pub IsPathAfter : Option Taken → Resolver → Resolver → Type 0
+IsPathAfter None old new = new.path ≡ old.path
+IsPathAfter (Some one) old new = map place_shown new.path.items ≡ one.path
+
+-- the step was done
+pub record IsStep (documents : Documents) (step : Step) (old new : Resolver) (places : PlaceTables) (done : Option Link)
+    : Type 0 where
+  pub link : IsLinked step.taken done
+  pub state : new ≡ record old { faults = old.faults ++ step.faults; path = new.path }
+  pub path : IsPathAfter step.taken old new
+  pub tables : AreTables documents places
 
 -- these targets were taken, the farthest first, each within so many targets of the path
 abbrev pub AreLinks : List Place → ℕ → List Taken → List Link → Type 0
@@ -34,3 +60,18 @@ AreLinks path end [] (link ∷ links) = ⊥
 AreLinks path end (one ∷ all) [] = ⊥
 AreLinks path end (one ∷ all) (link ∷ links) =
     IsLink link one × (one.path ≡ take end path) × AreLinks path (end - 1) all links
+
+-- references were followed from an element within so many targets, up to another number
+pub record IsFollowed (documents : Documents) (element : Element) (inside : Written) (followed : Followed)
+    (before after : List Link) (links end : ℕ) (old new : Resolver) (places : PlaceTables) : Type 0 where
+  pub taken : List Taken
+  pub more : List Link
+  pub faults : List Fault
+  pub items : after ≡ before ++ more
+  pub linked : AreLinks (path_within new end) end taken more
+  pub count : end ≡ links + length taken
+  pub is : followed ≡ followed_to_all element inside (path_within old links) faults taken
+  pub state : new ≡ record old { faults = old.faults ++ faults; path = new.path }
+  pub kept : path_within new links ≡ path_within old links
+  pub room : end ≤ length new.path.items
+  pub tables : AreTables documents places

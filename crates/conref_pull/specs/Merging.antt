@@ -1,9 +1,10 @@
 -- What an element takes from its target (DITA 1.3, "Processing attributes when resolving conrefs"), attribute by attribute.
-use Rattle.std.specs.Prelude.{◌≡◌, ◌&&◌, ℕ, Bool, not, List, [], ◌∷◌, Option, Some, None, bytes_eq, codes}
+use Rattle.std.specs.Prelude.{◌≡◌, ◌&&◌, ℕ, Bool, not, List, [], ◌∷◌, Option, Some, None, bytes_eq, codes, unwrap_or}
 use Rattle.std.specs.List.{list_any}
+use Rattle.dita_doc.specs.ClassValue.{value_of}
 use Rattle.dita_doc.specs.declared.doc.Attribute.{Attribute}
 use Rattle.map_spec.specs.Written.{Element}
-use Rattle.page_spec.specs.Content.{is_written_in, names_not_taken, use_target}
+use Rattle.page_spec.specs.Content.{is_written_in, names_not_taken, specified, use_target}
 use Rattle.conref_pull.specs.Step.{Taken, merged_onto}
 use Rattle.conref_pull.specs.declared.merge.Merged.{Merged}
 
@@ -34,3 +35,10 @@ is_missing own other = is_taken other.name && not (is_written_in own other)
 
 abbrev pub is_no_id : Attribute → Bool
 is_no_id written = not (list_any (bytes_eq written.name) (codes "id" ∷ []))
+
+abbrev pub is_own_id : Attribute → Bool
+is_own_id written = bytes_eq written.name (codes "id") && is_specified written
+
+-- the id that an element of these attributes does not leave to its target
+abbrev pub own_id : List Attribute → List ℕ
+own_id own = unwrap_or (value_of (codes "id") (specified own)) []

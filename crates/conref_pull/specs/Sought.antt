@@ -1,5 +1,5 @@
 -- The reference of an element, as the code keeps it, is that of the definition.
-use Rattle.std.specs.Prelude.{ℕ, List, Option, Some, None, option_map, if◌then◌else◌}
+use Rattle.std.specs.Prelude.{Option, Some, None, option_map, if◌then◌else◌}
 use Rattle.std.specs.Option.{option_copied}
 use Rattle.page_spec.specs.Content as content
 use Rattle.page_spec.specs.Content.{has_reference}

@@ -1,5 +1,5 @@
 -- References that are followed, one step at a time (own): what a step takes, and what its steps make of an element.
-use Rattle.std.specs.Prelude.{◌≡◌, ◌+◌, ℕ, Bool, true, false, List, [], ◌∷◌, ◌++◌, Option, Some, None, codes, unwrap_or, if◌then◌else◌}
+use Rattle.std.specs.Prelude.{ℕ, true, List, [], ◌∷◌, ◌++◌, Option, Some, None, codes, unwrap_or, if◌then◌else◌}
 use Rattle.std.specs.List.{flat_map}
 use Rattle.dita_doc.specs.declared.fault.Fault.{Fault}
 use Rattle.map_spec.specs.Elements.{attribute}

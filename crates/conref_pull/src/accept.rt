@@ -1,7 +1,14 @@
 //! Whether a target can be taken.
 
-ghost use Rattle.std.specs.Prelude.{◌≡◌, IfOk};
+ghost use Rattle.std.specs.Prelude.{◌≡◌, ℕ, List, Some, IfOk, OnOk, slice_get, take};
+ghost use Rattle.std.specs.Arc.{arc_value};
+ghost use Rattle.std.specs.List.{list_any};
+ghost use Rattle.std.specs.Option.{option_copied};
+ghost use Rattle.doc_elements.specs.Walk as walk_spec;
 ghost use Rattle.page_spec.specs.Content as content_spec;
+ghost use Rattle.conref_pull.specs.Accepting as accepting_spec;
+ghost use Rattle.conref_pull.specs.Found as found_spec;
+ghost use Rattle.conref_pull.specs.Tables.{AreTables, Documents};
 
 use crate::chain::Link;
 use crate::find::Found;
@@ -19,11 +26,23 @@ use std::alloc::Global;
 pub(crate) const LINK_LIMIT: u32 = 32;
 
 impl<'a> Resolver<'a> {
-    ghost use Rattle.std.specs.Prelude.{◌<◌, IfNone, IfOk, IsSome};
+    ghost use Rattle.std.specs.Prelude.{◌≡◌, ◌<◌, ◌≤◌, [], ℕ, IfNone, IfOk, IfSome, IsSome, OnOk, length};
+    ghost use Rattle.std.specs.List.{list_any};
+    ghost use Rattle.doc_elements.specs.Walk as walk_spec;
+    ghost use Rattle.doc_maker.specs.Building.{depth};
+    ghost use Rattle.doc_maker.specs.Made.{building};
+    ghost use Rattle.page_spec.specs.Content as content_spec;
+    ghost use Rattle.conref_pull.specs.Accepting as accepting_spec;
+    ghost use Rattle.conref_pull.specs.Found as found_spec;
+    ghost use Rattle.conref_pull.specs.Linked as linked_spec;
+    ghost use Rattle.conref_pull.specs.Setting as setting_spec;
+    ghost use Rattle.conref_pull.specs.Step as step_spec;
+    ghost use Rattle.conref_pull.specs.Tables.{AreTables, Documents};
 
     // Takes a target into an element that is resolved within so many others; none, with a fault, if
     // its type does not fit, its range has no end, it is being resolved already, or it would be too
     // deep.
+    #[tactic(auto, using(crate::proofs::SettingLaws::paging))]
     pub(crate) fn accept(
         &mut self,
         places: &mut PlaceTables,
@@ -33,6 +52,16 @@ impl<'a> Resolver<'a> {
         links: u32,
     ) -> Result<Option<Link>, NoMemory>
         ensures limit { IfOk result (λ link. IsSome link → links < 32) }
+        ensures known { (documents : Documents) (meant : content_spec.Found) (at : ℕ)
+            → AreTables documents places.old → found_spec.IsFound documents meant found.entry
+            → setting_spec.IsDepth self.old at → links ≤ length self.old.path.items
+            → IfOk result (λ link. linked_spec.IsStep documents
+            (step_spec.step_with (setting_spec.path_within self.old links)
+            (walk_spec.element_of origin.now element.now) meant []
+            (content_spec.refused_by found.entry.value.now at (setting_spec.path_within self.old links)
+            (walk_spec.element_of origin.now element.now) meant)) self.old self.new places.new link) }
+        ensures doc { IfOk result (λ link. IfSome link (λ one. one.doc ≡ found.entry.doc)) }
+        ensures page { OnOk result (setting_spec.IsSamePage self.old self.new) }
     {
         let Some(target) = whole_at(&found.doc, found.place) else {
             return Ok(None);
@@ -52,57 +81,93 @@ impl<'a> Resolver<'a> {
                 self.push_fault(origin, element, code, found.value)?;
                 Ok(None)
             }
-            None => Ok(Some(self.enter(found, links, from, to)?)),
+            None => Ok(Some(enter(&mut self.path, found, links, from, to)?)),
         }
     }
 
     // Why a target can't be taken within so many others, if it can't.
     fn refusal(&self, found: &Found<'_>, links: u32) -> Option<FaultCode>
-        ensures { IfNone result (links < 32) }
+        ensures limit { IfNone result (links < 32) }
+        ensures code { result ≡ accepting_spec.refusal_by
+            (list_any (content_spec.is_place (accepting_spec.place_of found.now))
+            (setting_spec.path_within self.now links))
+            (accepting_spec.is_too_deep links self.now.deepest (depth (building self.now.maker))) }
     {
         if self.is_on_path(found, links) {
             return Some(FaultCode::ConrefCycle);
         }
-        if links >= LINK_LIMIT || self.maker.depth() >= self.deepest {
+        if self.is_too_deep(links) {
             return Some(FaultCode::ConrefDepth);
         }
         None
     }
 
     // Whether a target is one of those that are being resolved.
-    fn is_on_path(&self, found: &Found<'_>, links: u32) -> bool {
-        self.path
-            .iter()
-            .take(links as usize)
-            .any(|place| found.name == place.doc && found.place == place.at)
+    fn is_on_path(&self, found: &Found<'_>, links: u32) -> bool
+        ensures { result ≡ list_any (content_spec.is_place (accepting_spec.place_of found.now))
+            (setting_spec.path_within self.now links) }
+    {
+        is_among(found, first_of(&self.path, links))
     }
 
-    // Goes on within a target that is taken.
-    fn enter(
-        &mut self,
-        found: Found<'_>,
-        links: u32,
-        from: u32,
-        to: u32,
-    ) -> Result<Link, NoMemory> {
-        let Found {
-            name,
-            doc,
-            place,
-            ..
-        } = found;
-        self.path.truncate(links as usize);
-        self.path.push(Place {
-            doc: name,
-            at: place,
-        })?;
-        Ok(Link {
-            doc,
-            place,
-            from,
-            to,
-        })
+    // Whether so many targets, or the elements that are open, are too many.
+    fn is_too_deep(&self, links: u32) -> bool
+        ensures { result ≡ accepting_spec.is_too_deep links self.now.deepest
+            (depth (building self.now.maker)) }
+    {
+        links >= LINK_LIMIT || self.maker.depth() >= self.deepest
     }
+}
+
+// Whether a target is one of these.
+fn is_among(found: &Found<'_>, places: &[Place]) -> bool
+    ensures { result ≡ list_any (accepting_spec.is_at found.now) places.now }
+{
+    places.iter().any(|place| is_at(found, place))
+}
+
+fn is_at(found: &Found<'_>, place: &Place) -> bool
+    ensures { result ≡ accepting_spec.is_at found.now place.now }
+{
+    found.name == place.doc && found.place == place.at
+}
+
+// The first so many places of a path.
+fn first_of(path: &[Place], links: u32) -> &[Place]
+    ensures { result.now ≡ take links path.now }
+{
+    path.get(..links as usize).unwrap_or(path)
+}
+
+// Goes on within a target that is taken, behind so many others.
+fn enter(
+    path: &mut Vec<Place>,
+    found: Found<'_>,
+    links: u32,
+    from: u32,
+    to: u32,
+) -> Result<Link, NoMemory>
+    ensures link { IfOk result (λ link. link ≡ accepting_spec.link_of found.entry from to) }
+    ensures path { OnOk result (accepting_spec.GoesOn path.old.items path.new.items found.entry
+        links) }
+{
+    let Found {
+        name,
+        doc,
+        place,
+        ..
+    } = found;
+    path.truncate(links as usize);
+    path.push(Place {
+        doc: name,
+        at: place,
+    })?;
+    Ok(Link {
+        doc,
+        place,
+        from,
+        to,
+    })
 }
 
 // Where the range behind a target ends, by the value that says so; without one there is no range.
@@ -113,7 +178,16 @@ fn range_end(
     found: &Found<'_>,
     target: &Node,
     value: Option<&str>,
-) -> Result<Option<u32>, NoMemory> {
+) -> Result<Option<u32>, NoMemory>
+    ensures range { (documents : Documents) (meant : content_spec.Found)
+        → AreTables documents places.old → found_spec.IsFound documents meant found.now
+        → slice_get (arc_value found.now.doc).nodes found.now.place ≡ Some target.now
+        → IfOk result (λ to. accepting_spec.IsRangeEnd target.now.end meant.standing.behind
+        (content_spec.range_by meant.standing (option_copied value.entry)) to) }
+    ensures tables { (documents : Documents) (meant : content_spec.Found)
+        → AreTables documents places.old → found_spec.IsFound documents meant found.now
+        → OnOk result (AreTables documents places.new) }
+{
     let Some(value) = value else {
         return Ok(Some(target.end));
     };
@@ -121,7 +195,7 @@ fn range_end(
         return Ok(None);
     };
     // The target itself may be the end.
-    if target.value_of("id") == Some(id.as_str()) {
+    if is_end(target, id.as_str()) {
         return Ok(Some(target.end));
     }
     let end = places.siblings_end(alloc, &found.name, &found.doc, found.place)?;
@@ -131,6 +205,14 @@ fn range_end(
         end.unwrap_or(target.end),
         id.as_str(),
     ))
+}
+
+// Whether an element ends a range up to this id.
+fn is_end(element: &Node, id: &str) -> bool
+    ensures { (name : List ℕ) → result ≡ content_spec.has_end_id id.now
+        (walk_spec.element_of name element.now) }
+{
+    element.value_of("id") == Some(id)
 }
 
 // The id of the element that ends a range.

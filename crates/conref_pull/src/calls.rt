@@ -1,7 +1,24 @@
 //! The calls that resolve content.
 
-ghost use Rattle.std.specs.Prelude.{◌≡◌};
-ghost use Rattle.readers.specs.Founded.{Grows};
+ghost use Rattle.std.specs.Prelude.{◌≡◌, ◌+◌, ◌++◌, [], ◌∷◌, ℕ, List, IfOk, OnOk};
+ghost use Rattle.std.specs.Option.{option_copied};
+ghost use Rattle.dita_doc.specs.Tree.{tree_of};
+ghost use Rattle.dita_doc.specs.declared.plan.PageId.{PageId};
+ghost use Rattle.dita_doc.specs.declared.plan.PlanNode.{PlanNode};
+ghost use Rattle.map_spec.specs.Written as written_spec;
+ghost use Rattle.page_spec.specs.Content as content_spec;
+ghost use Rattle.page_spec.specs.Content.{Made, count_limit, within};
+ghost use Rattle.reader_spec.specs.World.{World};
+ghost use Rattle.readers.specs.Documents.{AsksOnly};
+ghost use Rattle.readers.specs.Founded as founded_spec;
+ghost use Rattle.readers.specs.Founded.{Grows, StaysFounded};
+ghost use Rattle.readers.specs.Told.{Agrees};
+ghost use Rattle.conref_pull.specs.Asking.{Asks};
+ghost use Rattle.conref_pull.specs.Resolved as resolved_spec;
+ghost use Rattle.conref_pull.specs.Resolved.{IsResolved, too_many_faults};
+ghost use Rattle.conref_pull.specs.Rules.{AreRules, ditavals};
+ghost use Rattle.conref_pull.specs.Setting.{documents_in};
+ghost use Rattle.conref_pull.specs.Tables.{AreTables};
 
 use crate::resolver::{At, Resolver, TOO_MANY, TooMany};
 use crate::rules::PageRules;
@@ -27,7 +44,18 @@ pub fn resolve<A: Asker>(
     context: &Context,
     place: u32,
 ) -> Result<Resolved, NoMemory>
+    ensures known { (world : World) → Agrees world (A.told asker.new)
+        → IfOk result (λ resolved. IsResolved resolved (resolved_spec.node_made world
+        (A.stand asker.old).setting context.now.val context.now.page place)) }
+    ensures value { IfOk result (λ resolved. IsResolved resolved (resolved_spec.node_made
+        (A.stand asker.old).world (A.stand asker.old).setting context.now.val context.now.page place)) }
     ensures stand { A.stand asker.new ≡ A.stand asker.old }
+    ensures founded { StaysFounded (founded_spec.homes (A.stand asker.old).setting.nodes
+        ++ context.now.page.doc ∷ ditavals context.now.val context.now.page.filters)
+        (A.told asker.old) (A.told asker.new) }
+    ensures asks { AsksOnly founded_spec.names_given (context.now.page.doc
+        ∷ ditavals context.now.val context.now.page.filters) (A.told asker.old)
+        (A.told asker.new) }
     ensures grows { Grows (A.told asker.old) (A.told asker.new) }
 {
     let mut tables = Tables::new(alloc);
@@ -42,7 +70,18 @@ pub fn resolve_page<A: Asker>(
     asker: &mut A,
     context: &Context,
 ) -> Result<Resolved, NoMemory>
+    ensures known { (world : World) → Agrees world (A.told asker.new)
+        → IfOk result (λ resolved. IsResolved resolved (resolved_spec.page_made world
+        (A.stand asker.old).setting context.now.val context.now.page)) }
+    ensures value { IfOk result (λ resolved. IsResolved resolved (resolved_spec.page_made
+        (A.stand asker.old).world (A.stand asker.old).setting context.now.val context.now.page)) }
     ensures stand { A.stand asker.new ≡ A.stand asker.old }
+    ensures founded { StaysFounded (founded_spec.homes (A.stand asker.old).setting.nodes
+        ++ context.now.page.doc ∷ ditavals context.now.val context.now.page.filters)
+        (A.told asker.old) (A.told asker.new) }
+    ensures asks { AsksOnly founded_spec.names_given (context.now.page.doc
+        ∷ ditavals context.now.val context.now.page.filters) (A.told asker.old)
+        (A.told asker.new) }
     ensures grows { Grows (A.told asker.old) (A.told asker.new) }
 {
     let mut tables = Tables::new(alloc);
@@ -58,7 +97,23 @@ pub fn resolve_with<A: Asker>(
     context: &Context,
     place: u32,
 ) -> Result<Resolved, NoMemory>
+    ensures known { (world : World) → Agrees world (A.told asker.new)
+        → AreRules world tables.old.rules
+        → AreTables (documents_in world (A.stand asker.old).setting) tables.old.places
+        → IfOk result (λ resolved. IsResolved resolved (resolved_spec.node_made world
+        (A.stand asker.old).setting context.now.val context.now.page place)) }
+    ensures kept { (world : World) → Agrees world (A.told asker.new)
+        → AreRules world tables.old.rules
+        → AreTables (documents_in world (A.stand asker.old).setting) tables.old.places
+        → OnOk result (AreRules world tables.new.rules
+        × AreTables (documents_in world (A.stand asker.old).setting) tables.new.places) }
     ensures stand { A.stand asker.new ≡ A.stand asker.old }
+    ensures founded { StaysFounded (founded_spec.homes (A.stand asker.old).setting.nodes
+        ++ context.now.page.doc ∷ ditavals context.now.val context.now.page.filters)
+        (A.told asker.old) (A.told asker.new) }
+    ensures asks { AsksOnly founded_spec.names_given (context.now.page.doc
+        ∷ ditavals context.now.val context.now.page.filters) (A.told asker.old)
+        (A.told asker.new) }
     ensures grows { Grows (A.told asker.old) (A.told asker.new) }
 {
     let Some(doc) = asker.pushed(alloc, &context.page.doc)? else {
@@ -86,7 +141,23 @@ pub fn resolve_page_with<A: Asker>(
     tables: &mut Tables,
     context: &Context,
 ) -> Result<Resolved, NoMemory>
+    ensures known { (world : World) → Agrees world (A.told asker.new)
+        → AreRules world tables.old.rules
+        → AreTables (documents_in world (A.stand asker.old).setting) tables.old.places
+        → IfOk result (λ resolved. IsResolved resolved (resolved_spec.page_made world
+        (A.stand asker.old).setting context.now.val context.now.page)) }
+    ensures kept { (world : World) → Agrees world (A.told asker.new)
+        → AreRules world tables.old.rules
+        → AreTables (documents_in world (A.stand asker.old).setting) tables.old.places
+        → OnOk result (AreRules world tables.new.rules
+        × AreTables (documents_in world (A.stand asker.old).setting) tables.new.places) }
     ensures stand { A.stand asker.new ≡ A.stand asker.old }
+    ensures founded { StaysFounded (founded_spec.homes (A.stand asker.old).setting.nodes
+        ++ context.now.page.doc ∷ ditavals context.now.val context.now.page.filters)
+        (A.told asker.old) (A.told asker.new) }
+    ensures asks { AsksOnly founded_spec.names_given (context.now.page.doc
+        ∷ ditavals context.now.val context.now.page.filters) (A.told asker.old)
+        (A.told asker.new) }
     ensures grows { Grows (A.told asker.old) (A.told asker.new) }
 {
     let Some(doc) = asker.pushed(alloc, &context.page.doc)? else {
@@ -104,7 +175,7 @@ pub fn resolve_page_with<A: Asker>(
     finish(alloc, asker, context, resolver, done)
 }
 
-#[tactic(auto, using(crate::proofs::Telling::telling))]
+#[tactic(auto, using(crate::proofs::AskingLaws::following))]
 fn finish<A: Asker>(
     alloc: Global,
     asker: &mut A,
@@ -112,24 +183,59 @@ fn finish<A: Asker>(
     resolver: Resolver<'_>,
     done: Result<(), Stop<TooMany>>,
 ) -> Result<Resolved, NoMemory>
+    ensures known { (world : World) (made : Made) → Agrees world (A.told asker.new)
+        → resolved_spec.IsDone done made resolver.entry → IfOk result (λ resolved. IsResolved
+        resolved (within count_limit (too_many_faults world context.now.page.doc) made)) }
+    ensures memory { OnOk result (resolved_spec.HasMemory done) }
     ensures stand { A.stand asker.new ≡ A.stand asker.old }
+    ensures asks { (nodes : List PlanNode) → Asks nodes (context.now.page.doc ∷ [])
+        (A.told asker.old) (A.told asker.new) }
     ensures grows { Grows (A.told asker.old) (A.told asker.new) }
 {
     match done {
         Ok(()) => Ok(resolver.finish()),
-        Err(Stop::Fault(TooMany)) => too_many(alloc, asker, context),
-        Err(Stop::NoMemory) => Err(NoMemory),
+        Err(stop) => stopped(alloc, asker, context, stop),
     }
 }
 
-fn nothing(alloc: Global) -> Resolved {
+// What is handed out if the walk was stopped.
+#[tactic(auto, using(crate::proofs::AskingLaws::following))]
+fn stopped<A: Asker>(
+    alloc: Global,
+    asker: &mut A,
+    context: &Context,
+    stop: Stop<TooMany>,
+) -> Result<Resolved, NoMemory>
+    ensures known { (world : World) (made : Made) → Agrees world (A.told asker.new)
+        → resolved_spec.IsStopped stop made → IfOk result (λ resolved. IsResolved
+        resolved (within count_limit (too_many_faults world context.now.page.doc) made)) }
+    ensures memory { OnOk result (resolved_spec.HasRoom stop) }
+    ensures stand { A.stand asker.new ≡ A.stand asker.old }
+    ensures asks { (nodes : List PlanNode) → Asks nodes (context.now.page.doc ∷ [])
+        (A.told asker.old) (A.told asker.new) }
+    ensures grows { Grows (A.told asker.old) (A.told asker.new) }
+{
+    match stop {
+        Stop::Fault(TooMany) => too_many(alloc, asker, context),
+        Stop::NoMemory => Err(NoMemory),
+    }
+}
+
+fn nothing(alloc: Global) -> Resolved
+    ensures { IsResolved result content_spec.nothing_made }
+{
     DocMaker::new(alloc).finish_resolved(0, List::new(alloc))
 }
 
 // No content, with the fault of too much of it.
-#[tactic(auto, using(crate::proofs::Telling::telling))]
+#[tactic(auto, using(crate::proofs::AskingLaws::following))]
 fn too_many<A: Asker>(alloc: Global, asker: &mut A, context: &Context) -> Result<Resolved, NoMemory>
+    ensures known { (world : World) → Agrees world (A.told asker.new)
+        → IfOk result (λ resolved. IsResolved resolved (resolved_spec.too_much
+        (too_many_faults world context.now.page.doc))) }
     ensures stand { A.stand asker.new ≡ A.stand asker.old }
+    ensures asks { (nodes : List PlanNode) → Asks nodes (context.now.page.doc ∷ [])
+        (A.told asker.old) (A.told asker.new) }
     ensures grows { Grows (A.told asker.old) (A.told asker.new) }
 {
     let mut faults: List<Fault> = List::new(alloc);
@@ -143,7 +249,10 @@ fn too_many<A: Asker>(alloc: Global, asker: &mut A, context: &Context) -> Result
 }
 
 // The root of a document that is stored.
-fn root_of(doc: &Doc) -> Option<&Node> {
+fn root_of(doc: &Doc) -> Option<&Node>
+    ensures { (name : List ℕ) → resolved_spec.root_named name (option_copied result)
+        ≡ resolved_spec.root_element (written_spec.written_in name (tree_of doc.now.nodes)) }
+{
     doc.nodes
         .as_slice()
         .iter()

@@ -19,15 +19,20 @@ pub(crate) struct Link {
 }
 
 impl Link {
-    ghost use Rattle.std.specs.Prelude.{◌≡◌, Some};
+    ghost use Rattle.std.specs.Prelude.{◌≡◌, Some, IfSome};
+    ghost use Rattle.std.specs.Arc.{arc_value};
+    ghost use Rattle.conref_pull.specs.Asking as asking_spec;
     ghost use Rattle.conref_pull.specs.Linked as linked_spec;
     ghost use Rattle.conref_pull.specs.Origin as origin_spec;
     ghost use Rattle.conref_pull.specs.Step.{Taken};
 
     // The target, and what it holds.
     pub(crate) fn whole(&self) -> Option<Whole<'_>>
-        ensures { (one : Taken) → linked_spec.IsLink self.now one
+        ensures target { (one : Taken) → linked_spec.IsLink self.now one
             → origin_spec.whole_shown result ≡ Some (one.element, one.inside) }
+        ensures names { IfSome result (λ whole. asking_spec.AreAmong
+            (asking_spec.names_of_whole whole)
+            (asking_spec.names_of_doc (arc_value self.now.doc))) }
     {
         whole_at(&self.doc, self.place)
     }
@@ -41,14 +46,51 @@ pub(crate) struct Chain {
     pub end: u32,
 }
 
+impl Chain {
+    ghost use Rattle.std.specs.Prelude.{◌≡◌, ◌∷◌, ℕ, List, Some, IfSome};
+    ghost use Rattle.page_spec.specs.Content.{Place};
+    ghost use Rattle.readers.specs.Told.{Told};
+    ghost use Rattle.conref_pull.specs.Asking as asking_spec;
+    ghost use Rattle.conref_pull.specs.Linked as linked_spec;
+    ghost use Rattle.conref_pull.specs.Origin as origin_spec;
+    ghost use Rattle.conref_pull.specs.Step.{Taken};
+
+    // The farthest target, and what it holds.
+    pub(crate) fn farthest(&self) -> Option<Whole<'_>>
+        ensures target { (path : List Place) (end : ℕ) (one : Taken) (nearer : List Taken)
+            → linked_spec.AreLinks path end (one ∷ nearer) self.now.links.items
+            → origin_spec.whole_shown result ≡ Some (one.element, one.inside) }
+        ensures given { (told : List Told) → asking_spec.AreGivenTo told self.now.links.items
+            → IfSome result (λ whole. asking_spec.AreGiven told
+            (asking_spec.names_of_whole whole)) }
+    {
+        match self.links.split_first() {
+            None => None,
+            Some((farthest, _)) => farthest.whole(),
+        }
+    }
+}
+
 impl<'a> Resolver<'a> {
-    ghost use Rattle.std.specs.Prelude.{◌≡◌, ◌<◌, ◌≤◌, IfOk, IsSome};
+    ghost use Rattle.std.specs.Prelude.{◌≡◌, ◌+◌, ◌<◌, ◌≤◌, [], ◌∷◌, ℕ, List, IfOk, IsSome, OnOk, length};
+    ghost use Rattle.dita_doc.specs.declared.plan.PlanNode.{PlanNode};
+    ghost use Rattle.doc_elements.specs.Walk as walk_spec;
+    ghost use Rattle.map_spec.specs.Written.{Written};
+    ghost use Rattle.page_spec.specs.Content as content_spec;
+    ghost use Rattle.reader_spec.specs.World.{World};
     ghost use Rattle.readers.specs.Founded.{Grows};
+    ghost use Rattle.readers.specs.Named.{names_of_element};
+    ghost use Rattle.readers.specs.Told.{Agrees};
+    ghost use Rattle.conref_pull.specs.Asking.{AreGivenTo, Asks, IsGivenIf};
+    ghost use Rattle.conref_pull.specs.Linked as linked_spec;
+    ghost use Rattle.conref_pull.specs.Setting as setting_spec;
+    ghost use Rattle.conref_pull.specs.Step as step_spec;
+    ghost use Rattle.conref_pull.specs.Tables.{AreTables};
 
     // Follows the reference of an element, target by target, until one has none or can't be taken.
     // `topic` is the id of the topic around the element, and `links` tells within how many targets
     // it is resolved.
-    #[tactic(auto, using(crate::proofs::Telling::telling))]
+    #[tactic(auto, using(crate::proofs::AskingLaws::following, crate::proofs::SettingLaws::paging))]
     pub(crate) fn chain<A: Asker>(
         &mut self,
         asker: &mut A,
@@ -59,6 +101,23 @@ impl<'a> Resolver<'a> {
         links: u32,
     ) -> Result<Chain, NoMemory>
         ensures limit { IfOk result (λ chain. links < chain.end → chain.end ≤ 32) }
+        ensures known { (world : World) (depth : ℕ) (inside : Written)
+            → Agrees world (A.told asker.new)
+            → AreTables (setting_spec.documents_in world (A.stand asker.old).setting) places.old
+            → setting_spec.IsDepth self.old depth → links ≤ length self.old.path.items
+            → IfOk result (λ chain. linked_spec.IsFollowed
+            (setting_spec.documents_in world (A.stand asker.old).setting)
+            (walk_spec.element_of origin.now element.now) inside
+            (content_spec.followed (setting_spec.setting_of world (A.stand asker.old).setting
+            self.old.context.now.page self.old.rules) topic.now depth
+            (setting_spec.path_within self.old links) (walk_spec.element_of origin.now element.now)
+            inside) [] chain.links.items links chain.end self.old self.new places.new) }
+        ensures asks { (nodes : List PlanNode) → (A.stand asker.old).setting.nodes ≡ nodes
+            → Asks nodes (self.old.context.now.page.doc
+            ∷ names_of_element (walk_spec.element_of origin.now element.now)) (A.told asker.old)
+            (A.told asker.new) }
+        ensures given { IfOk result (λ chain. AreGivenTo (A.told asker.new) chain.links.items) }
+        ensures page { OnOk result (setting_spec.IsSamePage self.old self.new) }
         ensures stand { A.stand asker.new ≡ A.stand asker.old }
         ensures grows { Grows (A.told asker.old) (A.told asker.new) }
     {
@@ -69,7 +128,7 @@ impl<'a> Resolver<'a> {
 
     // Puts the targets that an element takes behind others, and tells within how many targets the
     // content of the farthest is resolved.
-    #[tactic(auto, using(crate::proofs::Telling::telling))]
+    #[tactic(auto, using(crate::proofs::AskingLaws::following, crate::proofs::SettingLaws::paging))]
     fn follow<A: Asker>(
         &mut self,
         asker: &mut A,
@@ -81,6 +140,25 @@ impl<'a> Resolver<'a> {
         taken: &mut Vec<Link>,
     ) -> Result<u32, NoMemory>
         ensures limit { IfOk result (λ end. links < end → end ≤ 32) }
+        ensures known { (world : World) (depth steps : ℕ) (inside : Written)
+            → Agrees world (A.told asker.new)
+            → AreTables (setting_spec.documents_in world (A.stand asker.old).setting) places.old
+            → setting_spec.IsDepth self.old depth → 0 < steps → 32 < steps + links
+            → links ≤ length self.old.path.items
+            → IfOk result (λ end. linked_spec.IsFollowed
+            (setting_spec.documents_in world (A.stand asker.old).setting)
+            (walk_spec.element_of origin.now element.now) inside
+            (content_spec.followed_from steps (setting_spec.setting_of world
+            (A.stand asker.old).setting self.old.context.now.page self.old.rules) topic.now depth
+            (setting_spec.path_within self.old links) (walk_spec.element_of origin.now element.now)
+            inside) taken.old.items taken.new.items links end self.old self.new places.new) }
+        ensures asks { (nodes : List PlanNode) → (A.stand asker.old).setting.nodes ≡ nodes
+            → Asks nodes (self.old.context.now.page.doc
+            ∷ names_of_element (walk_spec.element_of origin.now element.now)) (A.told asker.old)
+            (A.told asker.new) }
+        ensures given { AreGivenTo (A.told asker.old) taken.old.items
+            → OnOk result (AreGivenTo (A.told asker.new) taken.new.items) }
+        ensures page { OnOk result (setting_spec.IsSamePage self.old self.new) }
         ensures stand { A.stand asker.new ≡ A.stand asker.old }
         ensures grows { Grows (A.told asker.old) (A.told asker.new) }
     {
@@ -98,7 +176,7 @@ impl<'a> Resolver<'a> {
 
     // Takes the target that an element refers to, within so many targets; none, if it has no
     // reference, or has a fault.
-    #[tactic(auto, using(crate::proofs::Telling::telling))]
+    #[tactic(auto, using(crate::proofs::AskingLaws::following, crate::proofs::SettingLaws::paging))]
     fn take<A: Asker>(
         &mut self,
         asker: &mut A,
@@ -109,6 +187,21 @@ impl<'a> Resolver<'a> {
         links: u32,
     ) -> Result<Option<Link>, NoMemory>
         ensures limit { IfOk result (λ link. IsSome link → links < 32) }
+        ensures known { (world : World) (depth : ℕ) → Agrees world (A.told asker.new)
+            → AreTables (setting_spec.documents_in world (A.stand asker.old).setting) places.old
+            → setting_spec.IsDepth self.old depth → links ≤ length self.old.path.items
+            → IfOk result (λ link. linked_spec.IsStep
+            (setting_spec.documents_in world (A.stand asker.old).setting)
+            (step_spec.step_of (setting_spec.setting_of world (A.stand asker.old).setting
+            self.old.context.now.page self.old.rules) topic.now depth
+            (setting_spec.path_within self.old links) (walk_spec.element_of origin.now element.now))
+            self.old self.new places.new link) }
+        ensures asks { (nodes : List PlanNode) → (A.stand asker.old).setting.nodes ≡ nodes
+            → Asks nodes (self.old.context.now.page.doc
+            ∷ names_of_element (walk_spec.element_of origin.now element.now)) (A.told asker.old)
+            (A.told asker.new) }
+        ensures given { IfOk result (λ link. IsGivenIf (A.told asker.new) link) }
+        ensures page { OnOk result (setting_spec.IsSamePage self.old self.new) }
         ensures stand { A.stand asker.new ≡ A.stand asker.old }
         ensures grows { Grows (A.told asker.old) (A.told asker.new) }
     {

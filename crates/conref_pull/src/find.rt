@@ -1,18 +1,21 @@
 //! The targets that references name.
 
-ghost use Rattle.std.specs.Prelude.{◌≡◌, [], ◌∷◌, List, Some, IfOk};
+ghost use Rattle.std.specs.Prelude.{◌≡◌, [], ◌∷◌, List, Some, IfOk, IfSome};
 ghost use Rattle.std.specs.Arc.{arc_value};
-ghost use Rattle.std.specs.Option.{option_copied, unwrap_or};
+ghost use Rattle.std.specs.Option.{option_copied, option_to_list, unwrap_or};
 ghost use Rattle.dita_doc.specs.declared.content.Rule.{Rule};
 ghost use Rattle.dita_doc.specs.declared.plan.PageId.{PageId};
+ghost use Rattle.dita_doc.specs.declared.plan.PlanNode.{PlanNode};
+ghost use Rattle.map_spec.specs.Keys as keys_spec;
+ghost use Rattle.map_spec.specs.Pages.{local_name};
+ghost use Rattle.map_spec.specs.Written.{Element};
 ghost use Rattle.page_spec.specs.Content as content_spec;
 ghost use Rattle.page_spec.specs.Content.{Setting};
 ghost use Rattle.reader_spec.specs.World.{World};
-ghost use Rattle.readers.specs.Documents as documents_spec;
-ghost use Rattle.readers.specs.Documents.{AsksOnly};
-ghost use Rattle.readers.specs.Founded.{Grows, StaysFounded};
+ghost use Rattle.readers.specs.Founded.{Grows};
 ghost use Rattle.readers.specs.Named as named_spec;
 ghost use Rattle.readers.specs.Told.{Agrees};
+ghost use Rattle.conref_pull.specs.Asking.{AreGiven, Asks, IsGivenIn, names_of_value};
 ghost use Rattle.conref_pull.specs.Found as found_spec;
 ghost use Rattle.conref_pull.specs.Setting as setting_spec;
 ghost use Rattle.conref_pull.specs.Tables.{AreTables};
@@ -47,15 +50,22 @@ struct Keyed<'a> {
 }
 
 impl<'a> Resolver<'a> {
-    ghost use Rattle.std.specs.Prelude.{◌≡◌, ◌++◌, [], ◌∷◌, IfOk, OnOk};
+    ghost use Rattle.std.specs.Prelude.{◌≡◌, ◌++◌, [], ◌∷◌, List, IfOk, OnOk};
+    ghost use Rattle.std.specs.Option.{option_copied};
+    ghost use Rattle.dita_doc.specs.declared.plan.PlanNode.{PlanNode};
     ghost use Rattle.doc_elements.specs.Walk as walk_spec;
+    ghost use Rattle.reader_spec.specs.World.{World};
     ghost use Rattle.readers.specs.Founded.{Grows};
+    ghost use Rattle.readers.specs.Told.{Agrees};
+    ghost use Rattle.conref_pull.specs.Asking.{Asks, IsGivenIn, names_of_value};
     ghost use Rattle.conref_pull.specs.Found as found_spec;
+    ghost use Rattle.conref_pull.specs.Setting as setting_spec;
     ghost use Rattle.conref_pull.specs.Sought as sought_spec;
+    ghost use Rattle.conref_pull.specs.Tables.{AreTables};
 
     // The target that an element refers to, by its key, or where that fails by its value; a fault,
     // if it can't be found.
-    #[tactic(auto, using(crate::proofs::Telling::telling))]
+    #[tactic(auto, using(crate::proofs::AskingLaws::following, crate::proofs::SettingLaws::paging))]
     pub(crate) fn find<'b, A: Asker>(
         &mut self,
         asker: &mut A,
@@ -65,6 +75,16 @@ impl<'a> Resolver<'a> {
         sought: Sought<'b>,
         topic: &str,
     ) -> Result<Option<Found<'b>>, NoMemory>
+        ensures known { (world : World) → Agrees world (A.told asker.new)
+            → AreTables (setting_spec.documents_in world (A.stand asker.old).setting) places.old
+            → IfOk result (λ found. found_spec.IsSought (setting_spec.setting_of world
+            (A.stand asker.old).setting self.old.context.now.page self.old.rules) topic.now
+            (walk_spec.element_of origin.now element.now) (sought_spec.sought_shown sought.entry)
+            self.old self.new places.new found) }
+        ensures asks { (nodes : List PlanNode) → (A.stand asker.old).setting.nodes ≡ nodes
+            → Asks nodes (self.old.context.now.page.doc ∷ names_of_value origin.now (option_copied sought.entry.conref)) (A.told asker.old) (A.told asker.new) }
+        ensures given { IfOk result (λ found. IsGivenIn (A.told asker.new) found) }
+        ensures page { OnOk result (setting_spec.IsSamePage self.old self.new) }
         ensures stand { A.stand asker.new ≡ A.stand asker.old }
         ensures grows { Grows (A.told asker.old) (A.told asker.new) }
     {
@@ -109,7 +129,7 @@ impl<'a> Resolver<'a> {
 
 // What a key reference names, with the faults of its key: the element of its id, else the one that
 // the key's own reference names.
-#[tactic(auto, using(crate::proofs::Telling::telling))]
+#[tactic(auto, using(crate::proofs::AskingLaws::following))]
 fn find_by_key<'b, A: Asker>(
     alloc: Global,
     asker: &mut A,
@@ -118,6 +138,14 @@ fn find_by_key<'b, A: Asker>(
     context: &Context,
     conkeyref: Option<&'b str>,
 ) -> Result<Keyed<'b>, NoMemory>
+    ensures known { (world : World) (rules : List (List Rule)) → Agrees world (A.told asker.new)
+        → AreTables (setting_spec.documents_in world (A.stand asker.old).setting) places.old
+        → IfOk result (λ keyed. found_spec.IsKeyed (setting_spec.setting_of world
+        (A.stand asker.old).setting context.now.page rules) (option_copied conkeyref.entry)
+        faults.old faults.new places.new keyed) }
+    ensures asks { (nodes : List PlanNode) → (A.stand asker.old).setting.nodes ≡ nodes
+        → Asks nodes [] (A.told asker.old) (A.told asker.new) }
+    ensures given { IfOk result (λ keyed. IsGivenIn (A.told asker.new) keyed.found) }
     ensures stand { A.stand asker.new ≡ A.stand asker.old }
     ensures grows { Grows (A.told asker.old) (A.told asker.new) }
 {
@@ -143,7 +171,7 @@ fn find_by_key<'b, A: Asker>(
 }
 
 // The element that a key's target names, by an id in place of that of its reference.
-#[tactic(auto, using(crate::proofs::Telling::telling))]
+#[tactic(auto, using(crate::proofs::AskingLaws::following))]
 fn find_target<'b, A: Asker>(
     alloc: Global,
     asker: &mut A,
@@ -152,6 +180,18 @@ fn find_target<'b, A: Asker>(
     id: Option<&str>,
     keyref: &'b str,
 ) -> Result<Option<Found<'b>>, NoMemory>
+    ensures known { (world : World) (page : PageId) (rules : List (List Rule))
+        → Agrees world (A.told asker.new)
+        → AreTables (setting_spec.documents_in world (A.stand asker.old).setting) places.old
+        → option_copied id.entry ≡ keys_spec.id_of_key keyref.now
+        → IfOk result (λ found. found_spec.IsSearch
+        (setting_spec.documents_in world (A.stand asker.old).setting)
+        (content_spec.key_named (setting_spec.setting_of world (A.stand asker.old).setting page rules)
+        keyref.now target) keyref.now places.new found) }
+    ensures asks { (nodes : List PlanNode) → (A.stand asker.old).setting.nodes ≡ nodes
+        → AreGiven (A.told asker.old) (option_to_list (local_name target))
+        → Asks nodes [] (A.told asker.old) (A.told asker.new) }
+    ensures given { IfOk result (λ found. IsGivenIn (A.told asker.new) found) }
     ensures stand { A.stand asker.new ≡ A.stand asker.old }
     ensures grows { Grows (A.told asker.old) (A.told asker.new) }
 {
@@ -176,7 +216,7 @@ fn element_named(alloc: Global, id: Option<&str>, other: Text) -> Result<Text, N
 
 // What a value names that was written in the document of this name. `#./element` means the page's
 // document, and in it the topic where the element stands now.
-#[tactic(auto, using(crate::proofs::Telling::telling))]
+#[tactic(auto, using(crate::proofs::AskingLaws::following))]
 fn find_by_value<'b, A: Asker>(
     alloc: Global,
     asker: &mut A,
@@ -186,6 +226,18 @@ fn find_by_value<'b, A: Asker>(
     conref: Option<&'b str>,
     topic: &str,
 ) -> Result<Option<Found<'b>>, NoMemory>
+    ensures known { (world : World) (rules : List (List Rule)) (element : Element)
+        → Agrees world (A.told asker.new)
+        → AreTables (setting_spec.documents_in world (A.stand asker.old).setting) places.old
+        → element.doc ≡ origin.now
+        → IfOk result (λ found. found_spec.IsSearch
+        (setting_spec.documents_in world (A.stand asker.old).setting)
+        (content_spec.by_conref (setting_spec.setting_of world (A.stand asker.old).setting
+        context.now.page rules) topic.now element (option_copied conref.entry))
+        (unwrap_or (option_copied conref.entry) []) places.new found) }
+    ensures asks { (nodes : List PlanNode) → (A.stand asker.old).setting.nodes ≡ nodes
+        → Asks nodes (context.now.page.doc ∷ names_of_value origin.now (option_copied conref.entry)) (A.told asker.old) (A.told asker.new) }
+    ensures given { IfOk result (λ found. IsGivenIn (A.told asker.new) found) }
     ensures stand { A.stand asker.new ≡ A.stand asker.old }
     ensures grows { Grows (A.told asker.old) (A.told asker.new) }
 {
@@ -223,7 +275,7 @@ fn find_by_value<'b, A: Asker>(
 }
 
 // The element of a document that a fragment names.
-#[tactic(auto, using(crate::proofs::Telling::telling))]
+#[tactic(auto, using(crate::proofs::AskingLaws::following))]
 fn find_in<'b, A: Asker>(
     alloc: Global,
     asker: &mut A,
@@ -241,9 +293,9 @@ fn find_in<'b, A: Asker>(
         (content_spec.found_in (setting_spec.setting_of world (A.stand asker.old).setting page rules)
         name topic.now element.now) value.now places.new found) }
     ensures stand { A.stand asker.new ≡ A.stand asker.old }
-    ensures founded { StaysFounded (name ∷ []) (A.told asker.old) (A.told asker.new) }
-    ensures asks { AsksOnly documents_spec.of_pushes (name ∷ []) (A.told asker.old)
-        (A.told asker.new) }
+    ensures asks { (nodes : List PlanNode) → (A.stand asker.old).setting.nodes ≡ nodes
+        → Asks nodes (name ∷ []) (A.told asker.old) (A.told asker.new) }
+    ensures given { IfOk result (λ found. IsGivenIn (A.told asker.new) found) }
     ensures grows { Grows (A.told asker.old) (A.told asker.new) }
 {
     let stored = asker.pushed(alloc, &name)?;
@@ -263,10 +315,11 @@ fn found_in<'b>(
     element: &Text,
     value: &'b str,
 ) -> Result<Option<Found<'b>>, NoMemory>
-    ensures { (setting : Setting) → AreTables setting.pushed places.old
+    ensures known { (setting : Setting) → AreTables setting.pushed places.old
         → setting.pushed name ≡ Some (named_spec.named_tree (arc_value doc))
         → IfOk result (λ found. found_spec.IsSearch setting.pushed
         (content_spec.found_in setting name topic.now element.now) value.now places.new found) }
+    ensures doc { IfOk result (λ found. IfSome found (λ one. one.doc ≡ doc)) }
 {
     let tree: &Doc = &doc;
     let found = places.find(alloc, &name, tree, topic, element)?;

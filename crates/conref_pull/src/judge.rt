@@ -80,10 +80,11 @@ fn is_judged(attribute: &Attribute) -> bool
     is_conditional(attribute.name.as_str()) && !is_grouped(attribute)
 }
 
+// The value is looked at first: few have groups.
 fn is_group(attribute: &Attribute) -> bool
     ensures { result ≡ judged_spec.is_group attribute.now }
 {
-    is_conditional(attribute.name.as_str()) && is_grouped(attribute)
+    is_grouped(attribute) && is_conditional(attribute.name.as_str())
 }
 
 fn is_grouped(attribute: &Attribute) -> bool

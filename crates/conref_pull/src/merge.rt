@@ -267,6 +267,25 @@ fn has_name(attributes: &List<Attribute>, name: &str) -> bool
     false
 }
 
+// The id that an element does not leave to its target.
+pub(crate) fn own_id(element: &Node) -> &str
+    ensures { result.now ≡ merging_spec.own_id element.now.attributes }
+{
+    for attribute in element.attributes.as_slice() {
+        if is_own_id(attribute) {
+            return attribute.value.as_str();
+        }
+    }
+    ""
+}
+
+// Whether an attribute is an id that is not left to a target.
+fn is_own_id(attribute: &Attribute) -> bool
+    ensures { result ≡ merging_spec.is_own_id attribute.now }
+{
+    attribute.name.as_str() == "id" && is_specified(attribute)
+}
+
 // Whether an attribute is written, and not left to a target.
 fn is_specified(attribute: &Attribute) -> bool
     ensures { result ≡ merging_spec.is_specified attribute.now }

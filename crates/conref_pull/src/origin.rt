@@ -1,10 +1,11 @@
 //! Where nodes were written.
 
-ghost use Rattle.std.specs.Prelude.{◌≡◌, ℕ, true, slice_get};
+ghost use Rattle.std.specs.Prelude.{◌≡◌, ℕ, true, Some, slice_get, IfSome};
 ghost use Rattle.std.specs.Option.{option_copied};
 ghost use Rattle.dita_doc.specs.Siblings as siblings_spec;
 ghost use Rattle.dita_doc.specs.Tree as tree_spec;
 ghost use Rattle.dita_doc.specs.Tree.{Content};
+ghost use Rattle.conref_pull.specs.Asking.{AreAmong, names_of_doc, names_of_whole};
 ghost use Rattle.conref_pull.specs.Parts as parts_spec;
 ghost use Rattle.conref_pull.specs.Origin as origin_spec;
 
@@ -21,9 +22,12 @@ pub(crate) struct Whole<'a> {
 
 // The element at this place of a document.
 pub(crate) fn whole_at(doc: &Doc, place: u32) -> Option<Whole<'_>>
-    ensures { (part : Content) → parts_spec.IsPart (tree_spec.tree_of doc.now.nodes) place part
+    ensures whole { (part : Content) → parts_spec.IsPart (tree_spec.tree_of doc.now.nodes) place part
         → origin_spec.begins_element part ≡ true
         → origin_spec.whole_shown result ≡ origin_spec.first_whole doc.now.origins part }
+    ensures here { IfSome result (λ whole. slice_get doc.now.nodes place ≡ Some whole.node.now) }
+    ensures names { IfSome result (λ whole. AreAmong (names_of_whole whole)
+        (names_of_doc doc.now)) }
 {
     match Siblings::element_at(doc, place) {
         None => None,
@@ -33,10 +37,13 @@ pub(crate) fn whole_at(doc: &Doc, place: u32) -> Option<Whole<'_>>
 
 // An element of a document with the name of its origin.
 fn whole_of<'a>(doc: &'a Doc, node: &'a Node, inside: Siblings<'a>) -> Option<Whole<'a>>
-    ensures { (place : ℕ) (part : Content) → siblings_spec.IsElementAt doc.now place node.now inside.entry
+    ensures whole { (place : ℕ) (part : Content) → siblings_spec.IsElementAt doc.now place node.now inside.entry
         → parts_spec.IsPart (tree_spec.tree_of doc.now.nodes) place part
         → origin_spec.begins_element part ≡ true
         → origin_spec.whole_shown result ≡ origin_spec.first_whole doc.now.origins part }
+    ensures node { IfSome result (λ whole. whole.node.now ≡ node.now) }
+    ensures names { (place : ℕ) → siblings_spec.IsElementAt doc.now place node.now inside.entry
+        → IfSome result (λ whole. AreAmong (names_of_whole whole) (names_of_doc doc.now)) }
 {
     match origin_of(doc, node) {
         None => None,

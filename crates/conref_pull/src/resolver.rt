@@ -46,17 +46,31 @@ pub(crate) struct Resolver<'a> {
 }
 
 impl<'a> Resolver<'a> {
-    ghost use Rattle.std.specs.Prelude.{◌≡◌, ◌+◌, ◌++◌, [], ◌∷◌, IfOk, OnOk};
+    ghost use Rattle.std.specs.Prelude.{◌≡◌, ◌+◌, ◌++◌, [], ◌∷◌, ℕ, Some, slice_get, IfOk, OnOk};
     ghost use Rattle.doc_elements.specs.Walk as walk_spec;
+    ghost use Rattle.doc_maker.specs.Building.{nothing, whole};
+    ghost use Rattle.doc_maker.specs.Made.{resolved_tree};
+    ghost use Rattle.page_spec.specs.Content as content_spec;
+    ghost use Rattle.readers.specs.Named.{name_at};
+    ghost use Rattle.conref_pull.specs.Putting.{Puts, built};
     ghost use Rattle.map_spec.specs.Elements as elements_spec;
     ghost use Rattle.conref_pull.specs.Count as count_spec;
+    ghost use Rattle.conref_pull.specs.Setting as setting_spec;
 
     pub(crate) fn new(
         alloc: Global,
         context: &'a Context,
         rules: PageRules<'a>,
         deepest: usize,
-    ) -> Self {
+    ) -> Self
+        ensures context { result.context.now ≡ context.now }
+        ensures rules { result.rules ≡ rules.entry }
+        ensures deepest { result.deepest ≡ deepest }
+        ensures nodes { built result ≡ nothing }
+        ensures count { result.count ≡ 0 }
+        ensures faults { result.faults ≡ [] }
+        ensures path { result.path.items ≡ [] }
+    {
         Resolver {
             alloc,
             context,
@@ -69,7 +83,11 @@ impl<'a> Resolver<'a> {
         }
     }
 
-    pub(crate) fn finish(self) -> Resolved {
+    pub(crate) fn finish(self) -> Resolved
+        ensures content { resolved_tree result ≡ whole (built self.entry) }
+        ensures count { result.count ≡ self.entry.count }
+        ensures faults { result.faults ≡ self.entry.faults }
+    {
         let Resolver {
             maker,
             faults,
@@ -91,7 +109,14 @@ impl<'a> Resolver<'a> {
     }
 
     // Puts a text of a document.
-    pub(crate) fn put_chars(&mut self, doc: &Doc, node: &Node) -> Result<(), Stop<TooMany>> {
+    #[tactic(auto, using(crate::proofs::SettingLaws::paging))]
+    pub(crate) fn put_chars(&mut self, doc: &Doc, node: &Node) -> Result<(), Stop<TooMany>>
+        ensures put { (place : ℕ) → slice_get doc.now.nodes place ≡ Some node.now
+            → Puts result (content_spec.text_made node.now.text
+            (name_at doc.now.origins node.now.origin)) self.old self.new }
+        ensures path { OnOk result (self.new.path ≡ self.old.path) }
+        ensures page { OnOk result (setting_spec.IsSamePage self.old self.new) }
+    {
         self.count_one()?;
         if let Some(origin) = origin_of(doc, node) {
             self.maker

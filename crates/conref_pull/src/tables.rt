@@ -1,13 +1,17 @@
 //! What is kept for all pages of a plan.
 
-ghost use Rattle.std.specs.Prelude.{◌≡◌, Some, IfOk, OnOk, slice_get};
+ghost use Rattle.std.specs.Prelude.{◌≡◌, ◌+◌, ◌++◌, Some, IfOk, OnOk, slice_get};
+ghost use Rattle.dita_doc.specs.Tree as tree_spec;
+ghost use Rattle.dita_doc.specs.Tree.{Content};
 ghost use Rattle.readers.specs.Named as named_spec;
 ghost use Rattle.topic_find.specs.Walk as walk_spec;
+ghost use Rattle.conref_pull.specs.Parts as parts_spec;
 ghost use Rattle.conref_pull.specs.Tables as tables_spec;
 ghost use Rattle.conref_pull.specs.Tables.{Documents};
 
+use crate::ranges::node_of;
 use crate::rules::RuleLists;
-use dita_doc::{Doc, Name, NoMemory, NodeKind, Text};
+use dita_doc::{Doc, Name, NoMemory, Node, NodeKind, Text};
 use std::alloc::Global;
 use std::collections::BTreeMap;
 use topic_find::TargetTable;
@@ -82,14 +86,22 @@ impl PlaceTables {
         Ok(found)
     }
 
-    // The place behind the last sibling of the node at this place; for a root it is the greatest.
+    // The place behind the last sibling of the node at this place.
     pub(crate) fn siblings_end(
         &mut self,
         alloc: Global,
         name: &Name,
         doc: &Doc,
         place: u32,
-    ) -> Result<Option<u32>, NoMemory> {
+    ) -> Result<Option<u32>, NoMemory>
+        ensures end { (documents : Documents) → tables_spec.AreTables documents self.old
+            → documents name.now ≡ Some (named_spec.named_tree doc.now)
+            → IfOk result (λ end. end
+            ≡ slice_get (parts_spec.ends_of (named_spec.named_tree doc.now)) place) }
+        ensures known { (documents : Documents) → tables_spec.AreTables documents self.old
+            → documents name.now ≡ Some (named_spec.named_tree doc.now)
+            → OnOk result (tables_spec.AreTables documents self.new) }
+    {
         if let Some(ends) = self.ends.get(name) {
             return Ok(end_at(ends.as_slice(), place));
         }
@@ -106,19 +118,42 @@ fn end_at(ends: &[u32], place: u32) -> Option<u32>
     ends.get(place as usize).copied()
 }
 
-// For each node of a document the place behind the last of its siblings; for a root the greatest.
-fn ends_in(alloc: Global, doc: &Doc) -> Result<Vec<u32>, NoMemory> {
+// For each node of a document the place behind the last of its siblings.
+fn ends_in(alloc: Global, doc: &Doc) -> Result<Vec<u32>, NoMemory>
+    ensures { IfOk result (λ ends. ends.items ≡ parts_spec.ends_of (named_spec.named_tree doc.now)) }
+{
     let mut ends = Vec::new(alloc);
-    // The ends of the elements around a node, the innermost last.
-    let mut around: Vec<u32> = Vec::new(alloc);
-    for (place, node) in doc.nodes.as_slice().iter().enumerate() {
-        while around.last().is_some_and(|end| *end as usize <= place) {
-            let _ = around.pop();
+    put_ends(&mut ends, doc, 0, doc.nodes.len() as u32)?;
+    Ok(ends)
+}
+
+// Puts the place where these siblings end, for each of them, and so for all that they hold.
+fn put_ends(ends: &mut Vec<u32>, doc: &Doc, from: u32, to: u32) -> Result<(), NoMemory>
+    ensures { (part : Content) → parts_spec.IsPart (tree_spec.tree_of doc.now.nodes) from part
+        → from + tree_spec.size_of part ≡ to
+        → OnOk result (ends.new.items ≡ ends.old.items ++ parts_spec.ends_from to from
+        (named_spec.named doc.now.origins part)) }
+{
+    let mut place = from;
+    for _ in from..to {
+        if place >= to {
+            return Ok(());
         }
-        ends.push(around.last().copied().unwrap_or(u32::MAX))?;
-        if node.kind == NodeKind::Element {
-            around.push(node.end)?;
+        let Some(node) = node_of(doc, place) else {
+            return Ok(());
+        };
+        ends.push(to)?;
+        let inside = place + 1;
+        place = node.end.max(inside);
+        if is_element(node) {
+            put_ends(ends, doc, inside, place.min(to))?;
         }
     }
-    Ok(ends)
+    Ok(())
+}
+
+fn is_element(node: &Node) -> bool
+    ensures { result ≡ tree_spec.is_element node.now.kind }
+{
+    node.kind == NodeKind::Element
 }

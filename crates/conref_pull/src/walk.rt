@@ -1,8 +1,15 @@
 //! The walk over nodes that are resolved.
 
+ghost use Rattle.std.specs.Prelude.{◌≡◌, ℕ, List, true};
+ghost use Rattle.doc_elements.specs.Walk as walk_spec;
+ghost use Rattle.map_spec.specs.Elements as elements_spec;
+ghost use Rattle.map_spec.specs.Written.{Element};
+ghost use Rattle.page_spec.specs.Content as content_spec;
+
 use crate::chain::{Chain, Link};
-use crate::merge::{Merged, USE_TARGET, merged_with};
+use crate::merge::{Merged, USE_TARGET, merged_with, own_id};
 use crate::origin::origin_of;
+use crate::ranges::node_of;
 use crate::reference::Sought;
 use crate::resolver::{At, Resolver, TooMany};
 use crate::tables::PlaceTables;
@@ -10,12 +17,34 @@ use dita_doc::{Doc, First, Name, Node, Siblings, Stop};
 use readers::Asker;
 
 impl<'a> Resolver<'a> {
-    ghost use Rattle.std.specs.Prelude.{◌≡◌};
+    ghost use Rattle.std.specs.Prelude.{◌≡◌, ◌+◌, ◌≤◌, [], ◌∷◌, ℕ, List, Some, None, true, length, slice_get, OnOk};
+    ghost use Rattle.dita_doc.specs.Siblings as siblings_spec;
+    ghost use Rattle.dita_doc.specs.Tree as tree_spec;
+    ghost use Rattle.dita_doc.specs.Tree.{Content};
+    ghost use Rattle.dita_doc.specs.declared.plan.PlanNode.{PlanNode};
+    ghost use Rattle.doc_elements.specs.Walk as walk_spec;
+    ghost use Rattle.map_spec.specs.Elements as elements_spec;
+    ghost use Rattle.map_spec.specs.Written.{Written};
+    ghost use Rattle.page_spec.specs.Content as content_spec;
+    ghost use Rattle.page_spec.specs.Content.{Place};
+    ghost use Rattle.reader_spec.specs.World.{World};
     ghost use Rattle.readers.specs.Founded.{Grows};
+    ghost use Rattle.readers.specs.Named as named_spec;
+    ghost use Rattle.readers.specs.Named.{names_in};
+    ghost use Rattle.readers.specs.Told.{Agrees};
+    ghost use Rattle.conref_pull.specs.Asking.{AreGiven, AreGivenTo, Asks, IsGivenTo, element_around, names_of_doc, names_of_node};
+    ghost use Rattle.conref_pull.specs.Linked as linked_spec;
+    ghost use Rattle.conref_pull.specs.Origin.{named_content};
+    ghost use Rattle.conref_pull.specs.Parts as parts_spec;
+    ghost use Rattle.conref_pull.specs.Setting as setting_spec;
+    ghost use Rattle.conref_pull.specs.Step as step_spec;
+    ghost use Rattle.conref_pull.specs.Step.{Taken};
+    ghost use Rattle.conref_pull.specs.Walking as walking_spec;
+    ghost use Rattle.conref_pull.specs.Walking.{Here, IsReady, Walks};
 
     // Resolves nodes that stand side by side.
     #[cycle(resolve)]
-    #[tactic(auto, using(crate::proofs::Telling::telling))]
+    #[tactic(auto, using(crate::proofs::AskingLaws::following, crate::proofs::SettingLaws::paging))]
     pub(crate) fn siblings<A: Asker>(
         &mut self,
         asker: &mut A,
@@ -23,6 +52,15 @@ impl<'a> Resolver<'a> {
         siblings: Siblings<'_>,
         at: At<'_>,
     ) -> Result<(), Stop<TooMany>>
+        ensures known { (world : World) (here : Here) → Agrees world (A.told asker.new)
+            → IsReady world (A.stand asker.old) at.entry.links here self.old places.old
+            → Walks result here.setting.pushed at.entry.links (walking_spec.among_made here
+            at.entry.is_range at.entry.topic.now (named_content siblings.entry)) self.old self.new
+            places.new }
+        ensures asks { (nodes : List PlanNode) → (A.stand asker.old).setting.nodes ≡ nodes
+            → Asks nodes (self.old.context.now.page.doc ∷ names_in (named_content siblings.entry)) (A.told asker.old)
+            (A.told asker.new) }
+        ensures page { OnOk result (setting_spec.IsSamePage self.old self.new) }
         ensures stand { A.stand asker.new ≡ A.stand asker.old }
         ensures grows { Grows (A.told asker.old) (A.told asker.new) }
     {
@@ -50,7 +88,7 @@ impl<'a> Resolver<'a> {
     // Resolves an element: it goes, stays as it is, or takes what its reference names, with the
     // ranges behind it.
     #[cycle(resolve)]
-    #[tactic(auto, using(crate::proofs::Telling::telling))]
+    #[tactic(auto, using(crate::proofs::AskingLaws::following, crate::proofs::SettingLaws::paging))]
     pub(crate) fn element<A: Asker>(
         &mut self,
         asker: &mut A,
@@ -59,6 +97,16 @@ impl<'a> Resolver<'a> {
         inside: Siblings<'_>,
         at: At<'_>,
     ) -> Result<(), Stop<TooMany>>
+        ensures known { (world : World) (here : Here) (place : ℕ) → Agrees world (A.told asker.new)
+            → IsReady world (A.stand asker.old) at.entry.links here self.old places.old
+            → slice_get (siblings_spec.document inside.entry).nodes place ≡ Some node.now
+            → Walks result here.setting.pushed at.entry.links (walking_spec.whole_made here
+            at.entry.is_range at.entry.topic.now (element_around inside.entry node.now)
+            (named_content inside.entry)) self.old self.new places.new }
+        ensures asks { (nodes : List PlanNode) → (A.stand asker.old).setting.nodes ≡ nodes
+            → Asks nodes (self.old.context.now.page.doc ∷ names_of_node inside.entry node.now) (A.told asker.old)
+            (A.told asker.new) }
+        ensures page { OnOk result (setting_spec.IsSamePage self.old self.new) }
         ensures stand { A.stand asker.new ≡ A.stand asker.old }
         ensures grows { Grows (A.told asker.old) (A.told asker.new) }
     {
@@ -82,7 +130,7 @@ impl<'a> Resolver<'a> {
 
     // Puts an element as it is, with its content.
     #[cycle(resolve)]
-    #[tactic(auto, using(crate::proofs::Telling::telling))]
+    #[tactic(auto, using(crate::proofs::AskingLaws::following, crate::proofs::SettingLaws::paging))]
     fn unchanged<A: Asker>(
         &mut self,
         asker: &mut A,
@@ -92,6 +140,16 @@ impl<'a> Resolver<'a> {
         inside: Siblings<'_>,
         at: At<'_>,
     ) -> Result<(), Stop<TooMany>>
+        ensures known { (world : World) (here : Here) → Agrees world (A.told asker.new)
+            → IsReady world (A.stand asker.old) at.entry.links here self.old places.old
+            → Walks result here.setting.pushed at.entry.links (walking_spec.kept_made here
+            at.entry.is_range (content_spec.topic_for at.entry.is_range (walk_spec.element_of origin.now
+            node.now) at.entry.topic.now) (walk_spec.element_of origin.now node.now)
+            (named_content inside.entry)) self.old self.new places.new }
+        ensures asks { (nodes : List PlanNode) → (A.stand asker.old).setting.nodes ≡ nodes
+            → Asks nodes (self.old.context.now.page.doc ∷ names_in (named_content inside.entry)) (A.told asker.old)
+            (A.told asker.new) }
+        ensures page { OnOk result (setting_spec.IsSamePage self.old self.new) }
         ensures stand { A.stand asker.new ≡ A.stand asker.old }
         ensures grows { Grows (A.told asker.old) (A.told asker.new) }
     {
@@ -114,7 +172,7 @@ impl<'a> Resolver<'a> {
     // Puts an element with what it takes from its targets, and the content of the last of them. It
     // is judged once more, and counts also if it goes.
     #[cycle(resolve)]
-    #[tactic(auto, using(crate::proofs::Telling::telling))]
+    #[tactic(auto, using(crate::proofs::AskingLaws::following, crate::proofs::SettingLaws::paging))]
     fn merged<A: Asker>(
         &mut self,
         asker: &mut A,
@@ -125,6 +183,21 @@ impl<'a> Resolver<'a> {
         topic: &str,
         at: At<'_>,
     ) -> Result<(), Stop<TooMany>>
+        ensures known { (world : World) (here : Here) (farthest : Taken) (nearer : List Taken)
+            → Agrees world (A.told asker.new)
+            → IsReady world (A.stand asker.old) chain.now.end here self.old places.old
+            → linked_spec.AreLinks here.path chain.now.end (farthest ∷ nearer) chain.now.links.items
+            → elements_spec.has_types (walk_spec.element_of origin.now node.now) ≡ true
+            → Walks result here.setting.pushed chain.now.end (walking_spec.merged_made here
+            at.entry.is_range topic.now (content_spec.merged_element
+            (walk_spec.element_of origin.now node.now)
+            (step_spec.merged_onto farthest.element nearer)) farthest.inside) self.old self.new
+            places.new }
+        ensures asks { (nodes : List PlanNode) → (A.stand asker.old).setting.nodes ≡ nodes
+            → AreGivenTo (A.told asker.old) chain.now.links.items
+            → Asks nodes (self.old.context.now.page.doc ∷ []) (A.told asker.old)
+            (A.told asker.new) }
+        ensures page { OnOk result (setting_spec.IsSamePage self.old self.new) }
         ensures stand { A.stand asker.new ≡ A.stand asker.old }
         ensures grows { Grows (A.told asker.old) (A.told asker.new) }
     {
@@ -133,7 +206,7 @@ impl<'a> Resolver<'a> {
         if self.is_excluded(origin, node, &merged.attributes)? {
             return Ok(());
         }
-        let Some(target) = chain.links.first().and_then(Link::whole) else {
+        let Some(target) = chain.farthest() else {
             return Ok(());
         };
         let Merged {
@@ -144,7 +217,7 @@ impl<'a> Resolver<'a> {
         self.maker
             .open(name, attributes, origin, node.line, &href_doc)?;
         let within = At {
-            topic,
+            topic: topic_taken(node, topic, at.is_range),
             links: chain.end,
             is_range: false,
         };
@@ -156,7 +229,7 @@ impl<'a> Resolver<'a> {
     // Resolves the ranges behind the targets of an element, the farthest first, each within the
     // targets up to its own.
     #[cycle(resolve)]
-    #[tactic(auto, using(crate::proofs::Telling::telling))]
+    #[tactic(auto, using(crate::proofs::AskingLaws::following, crate::proofs::SettingLaws::paging))]
     fn ranges<A: Asker>(
         &mut self,
         asker: &mut A,
@@ -164,6 +237,20 @@ impl<'a> Resolver<'a> {
         chain: &Chain,
         at: At<'_>,
     ) -> Result<(), Stop<TooMany>>
+        ensures known { (world : World) (here : Here) (path : List Place) (taken : List Taken)
+            → Agrees world (A.told asker.new)
+            → IsReady world (A.stand asker.old) at.entry.links here self.old places.old
+            → chain.now.end ≤ length self.old.path.items → chain.now.end ≤ 32
+            → path ≡ setting_spec.path_within self.old chain.now.end
+            → chain.now.end ≡ at.entry.links + length taken
+            → linked_spec.AreLinks path chain.now.end taken chain.now.links.items
+            → Walks result here.setting.pushed at.entry.links (walking_spec.ranges_put here
+            at.entry.topic.now taken) self.old self.new places.new }
+        ensures asks { (nodes : List PlanNode) → (A.stand asker.old).setting.nodes ≡ nodes
+            → AreGivenTo (A.told asker.old) chain.now.links.items
+            → Asks nodes (self.old.context.now.page.doc ∷ []) (A.told asker.old)
+            (A.told asker.new) }
+        ensures page { OnOk result (setting_spec.IsSamePage self.old self.new) }
         ensures stand { A.stand asker.new ≡ A.stand asker.old }
         ensures grows { Grows (A.told asker.old) (A.told asker.new) }
     {
@@ -185,7 +272,7 @@ impl<'a> Resolver<'a> {
 
     // Resolves the range behind a target.
     #[cycle(resolve)]
-    #[tactic(auto, using(crate::proofs::Telling::telling))]
+    #[tactic(auto, using(crate::proofs::AskingLaws::following, crate::proofs::SettingLaws::paging))]
     fn range<A: Asker>(
         &mut self,
         asker: &mut A,
@@ -193,6 +280,16 @@ impl<'a> Resolver<'a> {
         link: &Link,
         at: At<'_>,
     ) -> Result<(), Stop<TooMany>>
+        ensures known { (world : World) (here : Here) (one : Taken) → Agrees world (A.told asker.new)
+            → IsReady world (A.stand asker.old) at.entry.links here self.old places.old
+            → linked_spec.IsLink link.now one
+            → Walks result here.setting.pushed at.entry.links (walking_spec.among_made here
+            at.entry.is_range at.entry.topic.now one.range) self.old self.new places.new }
+        ensures asks { (nodes : List PlanNode) → (A.stand asker.old).setting.nodes ≡ nodes
+            → IsGivenTo (A.told asker.old) link.now
+            → Asks nodes (self.old.context.now.page.doc ∷ []) (A.told asker.old)
+            (A.told asker.new) }
+        ensures page { OnOk result (setting_spec.IsSamePage self.old self.new) }
         ensures stand { A.stand asker.new ≡ A.stand asker.old }
         ensures grows { Grows (A.told asker.old) (A.told asker.new) }
     {
@@ -201,7 +298,7 @@ impl<'a> Resolver<'a> {
             if place >= link.to {
                 return Ok(());
             }
-            let Some(node) = link.doc.nodes.as_slice().get(place as usize) else {
+            let Some(node) = node_of(&link.doc, place) else {
                 return Ok(());
             };
             self.node_at(asker, places, &link.doc, place, at)?;
@@ -212,7 +309,7 @@ impl<'a> Resolver<'a> {
 
     // Resolves the node at a place of a document.
     #[cycle(resolve)]
-    #[tactic(auto, using(crate::proofs::Telling::telling))]
+    #[tactic(auto, using(crate::proofs::AskingLaws::following, crate::proofs::SettingLaws::paging))]
     pub(crate) fn node_at<A: Asker>(
         &mut self,
         asker: &mut A,
@@ -221,12 +318,30 @@ impl<'a> Resolver<'a> {
         place: u32,
         at: At<'_>,
     ) -> Result<(), Stop<TooMany>>
+        ensures known { (world : World) (here : Here) (part : Content)
+            → Agrees world (A.told asker.new)
+            → IsReady world (A.stand asker.old) at.entry.links here self.old places.old
+            → parts_spec.IsPart (tree_spec.tree_of doc.now.nodes) place part
+            → parts_spec.has_first part ≡ true
+            → Walks result here.setting.pushed at.entry.links (walking_spec.among_made here
+            at.entry.is_range at.entry.topic.now (walking_spec.first_alone
+            (named_spec.named doc.now.origins part))) self.old self.new places.new }
+        ensures missing { (world : World) (here : Here) → Agrees world (A.told asker.new)
+            → IsReady world (A.stand asker.old) at.entry.links here self.old places.old
+            → slice_get doc.now.nodes place ≡ None
+            → Walks result here.setting.pushed at.entry.links content_spec.nothing_made self.old
+            self.new places.new }
+        ensures asks { (nodes : List PlanNode) → (A.stand asker.old).setting.nodes ≡ nodes
+            → AreGiven (A.told asker.old) (names_of_doc doc.now)
+            → Asks nodes (self.old.context.now.page.doc ∷ []) (A.told asker.old)
+            (A.told asker.new) }
+        ensures page { OnOk result (setting_spec.IsSamePage self.old self.new) }
         ensures stand { A.stand asker.new ≡ A.stand asker.old }
         ensures grows { Grows (A.told asker.old) (A.told asker.new) }
     {
         match Siblings::element_at(doc, place) {
             Some((node, inside)) => self.element(asker, places, node, inside, at),
-            None => match doc.nodes.as_slice().get(place as usize) {
+            None => match node_of(doc, place) {
                 Some(node) => self.put_chars(doc, node),
                 None => Ok(()),
             },
@@ -234,9 +349,12 @@ impl<'a> Resolver<'a> {
     }
 }
 
-// The id of the nearest topic for the reference of an element, and for what it takes: an element
-// that leaves its id to its target has none.
-fn topic_seen<'b>(node: &'b Node, at: At<'b>) -> &'b str {
+// The id of the nearest topic for the reference of an element: an element that leaves its id to its
+// target has none.
+fn topic_seen<'b>(node: &'b Node, at: At<'b>) -> &'b str
+    ensures { (name : List ℕ) → result.now ≡ content_spec.topic_for at.entry.is_range
+        (walk_spec.element_of name node.now) at.entry.topic.now }
+{
     let topic = topic_within(node, at);
     if topic == USE_TARGET && node.has_type("topic/topic") {
         return "";
@@ -245,7 +363,11 @@ fn topic_seen<'b>(node: &'b Node, at: At<'b>) -> &'b str {
 }
 
 // The id of the nearest topic for what an element holds; an element of a range has none.
-fn topic_within<'b>(node: &'b Node, at: At<'b>) -> &'b str {
+fn topic_within<'b>(node: &'b Node, at: At<'b>) -> &'b str
+    ensures { (name : List ℕ) → result.now ≡ content_spec.topic_within at.entry.is_range
+        (walk_spec.element_of name node.now) (content_spec.topic_for at.entry.is_range
+        (walk_spec.element_of name node.now) at.entry.topic.now) }
+{
     if !node.has_type("topic/topic") {
         return at.topic;
     }
@@ -253,4 +375,20 @@ fn topic_within<'b>(node: &'b Node, at: At<'b>) -> &'b str {
         return "";
     }
     node.value_of("id").unwrap_or("")
+}
+
+// The id of the nearest topic for what an element takes, where its reference saw this one.
+fn topic_taken<'b>(node: &'b Node, topic: &'b str, is_range: bool) -> &'b str
+    ensures { (name : List ℕ) (target : Element)
+        → elements_spec.has_types (walk_spec.element_of name node.now) ≡ true
+        → result.now ≡ content_spec.topic_within is_range (content_spec.merged_element
+        (walk_spec.element_of name node.now) target) topic.now }
+{
+    if is_range {
+        return topic;
+    }
+    if !node.has_type("topic/topic") {
+        return topic;
+    }
+    own_id(node)
 }

@@ -1,7 +1,11 @@
-use Rattle.std.proofs.Common.{sym, ap, ◌∙◌}
-use Rattle.readers.specs.Named.{named_found}
+use Rattle.std.proofs.Common.{Option, sym, ap, subst, ◌∙◌}
+use Rattle.std.specs.declared.alloc.Global.{Global}
+use Rattle.std.specs.declared.sync.Arc.{Arc}
+use Rattle.dita_doc.specs.declared.doc.Doc.{Doc}
+use Rattle.readers.specs.Founded.{AreAllowed}
+use Rattle.readers.specs.Named.{named_found, names_of_found}
 use Rattle.conref_pull.specs.Setting.{setting_of}
-use Rattle.conref_pull.proofs.FindLaws.{not_stored}
+use Rattle.conref_pull.proofs.FindLaws.{given_found, not_stored}
 use Rattle.conref_pull.proofs.find.find_in.Goals as goal
 
 pub returns-in-None-clause-known : goal.returns-in-None-clause-known
@@ -12,5 +16,14 @@ returns-in-None-clause-known g c = λ world page rules agrees are.
 
 pub returns-clause-known : goal.returns-clause-known
 returns-clause-known g c = λ world page rules agrees are.
-    c.found_in.ensures (setting_of world (g.A.Reader.stand c.args.asker.now).setting page rules) are
+    c.found_in.ensures.known (setting_of world (g.A.Reader.stand c.args.asker.now).setting page rules) are
     (sym (c.in_ok-stored.ensures.known world agrees) ∙ ap named_found c.in-Some.is)
+
+pub returns-clause-given : goal.returns-clause-given
+returns-clause-given g c =
+    given_found (g.A.Reader.told c.pushed.new.self) c.in-Some.doc c.found_in.result c.found_in.ensures.doc
+    (record {
+      by = λ roots.
+          subst (λ (found : Option (Arc Doc Global)). AreAllowed roots (g.A.Reader.told c.pushed.new.self)
+          (names_of_found (named_found found))) c.in-Some.is (c.in_ok-stored.ensures.given roots);
+    })

@@ -1,4 +1,4 @@
-use Rattle.std.proofs.Common.{◌≡◌, ℕ, List, drop}
+use Rattle.std.proofs.Common.{ℕ, List, drop}
 use Rattle.map_spec.specs.Written.{Element}
 use Rattle.page_spec.specs.Content.{Place}
 use Rattle.conref_pull.specs.Linked.{AreLinks}

@@ -1,6 +1,14 @@
+use Rattle.std.proofs.Common.{subst}
+use Rattle.std.specs.Prelude.{IfSome}
+use Rattle.dita_doc.specs.declared.doc.Doc.{Doc}
+use Rattle.conref_pull.specs.Asking.{AreAmong, names_of_doc, names_of_whole}
 use Rattle.conref_pull.proofs.LinkLaws.{link_whole}
 use Rattle.conref_pull.proofs.chain.Link.whole.Goals as goal
 
-pub returns : goal.returns
-returns c = λ one is.
-    link_whole c.deref.result.now c.args.self.now one c.whole_at.result c.deref.ensures is c.whole_at.ensures
+pub returns-clause-target : goal.returns-clause-target
+returns-clause-target c = λ one is.
+    link_whole c.deref.result.now c.args.self.now one c.whole_at.result c.deref.ensures is c.whole_at.ensures.whole
+
+pub returns-clause-names : goal.returns-clause-names
+returns-clause-names c = subst (λ (doc : Doc). IfSome c.whole_at.result
+    (λ whole. AreAmong (names_of_whole whole) (names_of_doc doc))) c.deref.ensures c.whole_at.ensures.names

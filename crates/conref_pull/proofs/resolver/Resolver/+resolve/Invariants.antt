@@ -1,8 +1,22 @@
-use Rattle.std.proofs.Common.{◌≡◌, ◌+◌, ◌*◌, ◌≤◌}
+use Rattle.std.proofs.Common.{◌≡◌, ◌+◌, ◌*◌, ◌≤◌, List, [], ◌∷◌, length}
+use Rattle.std.specs.Arc.{arc_value}
 use Rattle.dita_doc.specs.Siblings.{content}
 use Rattle.dita_doc.specs.Tree.{size_of}
+use Rattle.dita_doc.specs.declared.plan.PlanNode.{PlanNode}
+use Rattle.page_spec.specs.Content.{Place}
+use Rattle.reader_spec.specs.World.{World}
 use Rattle.readers.specs.Founded.{Grows}
+use Rattle.readers.specs.Named.{names_in}
+use Rattle.readers.specs.Told.{Agrees}
+use Rattle.conref_pull.specs.Asking.{AreAmong, AreGivenTo, Asks, IsGivenTo}
+use Rattle.conref_pull.specs.Origin.{named_content}
+use Rattle.conref_pull.specs.Linked.{AreLinks, IsLink}
+use Rattle.conref_pull.specs.Setting.{IsSamePage, path_within}
+use Rattle.conref_pull.specs.Step.{Taken}
+use Rattle.conref_pull.specs.Walking.{Here, IsReady, among_made, ranges_put}
 use Rattle.conref_pull.proofs.SizeLaws.{around, behind}
+use Rattle.conref_pull.proofs.SpanLaws.{Behind, Left}
+use Rattle.conref_pull.proofs.WalkLaws.{SoFar}
 use Rattle.conref_pull.proofs.resolver.Resolver.+resolve.Given as goal
 
 abbrev pub decreases-siblings : goal.decreases-siblings
@@ -29,8 +43,17 @@ decreases-node_at g l = behind l.at.links
 abbrev pub invariant-siblings-loop-node : goal.invariant-siblings-loop-node
 invariant-siblings-loop-node g l = record {
   small : size_of (content l.left) ≤ size_of (content l.fn.siblings);
+  within : AreAmong (names_in (named_content l.left)) (names_in (named_content l.fn.siblings));
+  page : IsSamePage l.fn.self l.self;
+  asks : (nodes : List PlanNode) → (g.A.Reader.stand l.fn.asker).setting.nodes ≡ nodes
+      → Asks nodes (l.fn.self.context.now.page.doc ∷ names_in (named_content l.fn.siblings))
+      (g.A.Reader.told l.fn.asker) (g.A.Reader.told l.asker);
   stand : g.A.Reader.stand l.asker ≡ g.A.Reader.stand l.fn.asker;
   grows : Grows (g.A.Reader.told l.fn.asker) (g.A.Reader.told l.asker);
+  walked : (world : World) (here : Here) → Agrees world (g.A.Reader.told l.asker)
+      → IsReady world (g.A.Reader.stand l.fn.asker) l.at.links here l.fn.self l.fn.places
+      → SoFar here.setting.pushed l.at.links (among_made here l.at.is_range l.at.topic.now (named_content l.left))
+      (among_made here l.at.is_range l.at.topic.now (named_content l.fn.siblings)) l.fn.self l.self l.places;
 }
 
 abbrev pub decreases-siblings-loop-node : goal.decreases-siblings-loop-node
@@ -38,12 +61,30 @@ decreases-siblings-loop-node g l = size_of (content l.left)
 
 abbrev pub invariant-ranges-loop-link : goal.invariant-ranges-loop-link
 invariant-ranges-loop-link g l = record {
+  page : IsSamePage l.fn.self l.self;
+  asks : (nodes : List PlanNode) → (g.A.Reader.stand l.fn.asker).setting.nodes ≡ nodes
+      → AreGivenTo (g.A.Reader.told l.fn.asker) l.fn.chain.links.items
+      → Asks nodes (l.fn.self.context.now.page.doc ∷ []) (g.A.Reader.told l.fn.asker) (g.A.Reader.told l.asker);
   stand : g.A.Reader.stand l.asker ≡ g.A.Reader.stand l.fn.asker;
   grows : Grows (g.A.Reader.told l.fn.asker) (g.A.Reader.told l.asker);
+  walked : (world : World) (here : Here) (path : List Place) (taken : List Taken) → Agrees world (g.A.Reader.told l.asker)
+      → IsReady world (g.A.Reader.stand l.fn.asker) l.at.links here l.fn.self l.fn.places
+      → l.chain.end ≤ length l.fn.self.path.items → l.chain.end ≤ 32 → path ≡ path_within l.fn.self l.chain.end
+      → l.chain.end ≡ l.at.links + length taken → AreLinks path l.chain.end taken l.chain.links.items
+      → Behind here l.at.links l.at.topic.now path l.link-items (ranges_put here l.at.topic.now taken)
+      l.fn.self l.self l.places l.count l.link-index;
 }
 
 abbrev pub invariant-range-loop : goal.invariant-range-loop
 invariant-range-loop g l = record {
+  page : IsSamePage l.fn.self l.self;
+  asks : (nodes : List PlanNode) → (g.A.Reader.stand l.fn.asker).setting.nodes ≡ nodes
+      → IsGivenTo (g.A.Reader.told l.fn.asker) l.fn.link
+      → Asks nodes (l.fn.self.context.now.page.doc ∷ []) (g.A.Reader.told l.fn.asker) (g.A.Reader.told l.asker);
   stand : g.A.Reader.stand l.asker ≡ g.A.Reader.stand l.fn.asker;
   grows : Grows (g.A.Reader.told l.fn.asker) (g.A.Reader.told l.asker);
+  walked : (world : World) (here : Here) (one : Taken) → Agrees world (g.A.Reader.told l.asker)
+      → IsReady world (g.A.Reader.stand l.fn.asker) l.at.links here l.fn.self l.fn.places → IsLink l.link one
+      → Left (arc_value l.link.doc) here l.at.links l.at.is_range l.at.topic.now l.link.to
+      (among_made here l.at.is_range l.at.topic.now one.range) l.fn.self l.self l.places l.place l.counter;
 }

@@ -4,7 +4,7 @@ use Rattle.readers.proofs.DocumentLaws.{asks_after, asks_one}
 use Rattle.readers.proofs.FoundedLaws.{stays_after, stays_one}
 use Rattle.readers.proofs.GrowthLaws.{agrees_before}
 use Rattle.conref_pull.specs.Rules.{HasAll}
-use Rattle.conref_pull.proofs.RuleLaws.{keeps_same, keeps_trans, read_next}
+use Rattle.conref_pull.proofs.RuleLaws.{keeps_trans, read_next}
 use Rattle.conref_pull.proofs.Telling.{name_among, telling}
 use Rattle.conref_pull.proofs.rules.RuleLists.read_filters.Goals as goal
 

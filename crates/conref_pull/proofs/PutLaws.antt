@@ -1,0 +1,46 @@
+-- Content that is put piece by piece.
+use Rattle.std.specs.Prelude.{◌≡◌, ◌+◌, ◌++◌, ◌≤◌, List, []}
+use Rattle.std.proofs.Common.{sym, ap, ◌∙◌, arith, append_assoc, append-nil}
+use Rattle.dita_doc.specs.declared.fault.Fault.{Fault}
+use Rattle.doc_maker.specs.Building.{Building, behind}
+use Rattle.doc_maker.proofs.BuildingLaws.{behind_behind, behind_end, beside_end}
+use Rattle.map_spec.specs.Written.{Written}
+use Rattle.page_spec.specs.Content.{Made, count_limit, made_beside, nothing_made}
+use Rattle.conref_pull.specs.Putting.{IsPut, built}
+use Rattle.conref_pull.specs.declared.resolver.Resolver.{Resolver}
+
+pub put_nothing : (a b : Resolver) → b ≡ a → a.count ≤ count_limit → IsPut nothing_made a b
+put_nothing a b same room = record {
+  nodes = ap built same ∙ sym (behind_end (built a));
+  count = (let e : a.count ≡ a.count + 0 = omega arith in ap (λ (r : Resolver). r.count) same ∙ e);
+  room = (let e = ap (λ (r : Resolver). r.count) same in omega (arith, e));
+  faults = ap (λ (r : Resolver). r.faults) same ∙ sym (append-nil a.faults);
+}
+
+pub put_then : (first second : Made) (a b c : Resolver) → IsPut first a b → IsPut second b c
+    → IsPut (made_beside first second) a c
+put_then first second a b c one two = record {
+  nodes = two.nodes ∙ ap (λ (x : Building). behind x second.nodes) one.nodes
+      ∙ behind_behind (built a) first.nodes second.nodes;
+  count = omega (arith, one.count, two.count);
+  room = two.room;
+  faults = two.faults ∙ ap (λ (fs : List Fault). fs ++ second.faults) one.faults
+      ∙ append_assoc a.faults first.faults second.faults;
+}
+
+pub beside_nothing : (made : Made) → made_beside made nothing_made ≡ made
+beside_nothing made =
+    let count : made.count + 0 ≡ made.count = omega arith in
+    ap (λ (nodes : Written). (let all : Made = record {
+      nodes = nodes;
+      count = made.count + 0;
+      faults = made.faults ++ [];
+    } in all)) (beside_end made.nodes)
+    ∙ ap (λ n. (let all : Made = record { nodes = made.nodes; count = n; faults = made.faults ++ [] } in all)) count
+    ∙ ap (λ (fs : List Fault). (let all : Made =
+    record { nodes = made.nodes; count = made.count; faults = fs } in all)) (append-nil made.faults)
+
+pub nothing_beside : (made : Made) → made_beside nothing_made made ≡ made
+nothing_beside made =
+    let count : 0 + made.count ≡ made.count = omega arith in
+    ap (λ n. (let all : Made = record { nodes = made.nodes; count = n; faults = made.faults } in all)) count

@@ -1,0 +1,15 @@
+use Rattle.std.proofs.Common.{Result, sym, subst}
+use Rattle.std.proofs.lemmas.Result.{on_ok_weaker}
+use Rattle.dita_doc.specs.declared.stop.Stop.{Stop}
+use Rattle.conref_pull.specs.Resolved.{HasMemory, IsDone}
+use Rattle.conref_pull.specs.declared.resolver.TooMany.{TooMany}
+use Rattle.conref_pull.proofs.calls.finish.Goals as goal
+
+pub returns-in-Err-clause-known : goal.returns-in-Err-clause-known
+returns-in-Err-clause-known g c = λ world made agrees done.
+    c.stopped.ensures.known world made agrees
+    (subst (λ (d : Result (Unit {0}) (Stop TooMany)). IsDone d made c.args.resolver) c.in-Err.is done)
+
+pub returns-in-Err-clause-memory : goal.returns-in-Err-clause-memory
+returns-in-Err-clause-memory g c = on_ok_weaker c.stopped.result
+    (λ room. subst (λ (d : Result (Unit {0}) (Stop TooMany)). HasMemory d) (sym c.in-Err.is) room) c.stopped.ensures.memory

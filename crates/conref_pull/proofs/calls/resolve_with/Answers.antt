@@ -1,0 +1,176 @@
+use Rattle.std.proofs.Common.{Option, sym, ap, refl, subst, ◌∙◌, unwrap_or, false, ◌+◌}
+use Rattle.std.specs.declared.alloc.Global.{Global}
+use Rattle.std.specs.declared.sync.Arc.{Arc}
+use Rattle.std.proofs.lemmas.Bool.{false≢true}
+use Rattle.dita_doc.specs.declared.doc.Doc.{Doc}
+use Rattle.dita_doc.specs.declared.plan.Context.{Context}
+use Rattle.map_spec.specs.Written.{Written, End}
+use Rattle.readers.specs.Founded.{AreAllowed}
+use Rattle.readers.specs.Named.{named_found, names_of_found, named_tree}
+use Rattle.readers.specs.Setting.{Stand}
+use Rattle.readers.proofs.GrowthLaws.{grows_trans, agrees_before}
+use Rattle.conref_pull.specs.Asking.{AreGiven, names_of_doc}
+use Rattle.conref_pull.proofs.AskingLaws.{about_next, about_page, about_rules, about_then, given_later, none_among}
+use Rattle.std.proofs.lemmas.Result.{on_ok_weaker}
+use Rattle.page_spec.specs.Content.{Made, page_root, resolved_in}
+use Rattle.conref_pull.specs.Resolved.{IsResolved, too_many_faults}
+use Rattle.conref_pull.specs.Rules.{ditavals, page_rules}
+use Rattle.conref_pull.specs.Setting.{setting_of}
+use Rattle.conref_pull.specs.Walking.{among_made}
+use Rattle.conref_pull.proofs.CallLaws.{Begins, all_made, done_of, here_begins, ready_begins, setting_begins, tables_kept, no_node_made}
+use Rattle.conref_pull.proofs.RuleLaws.{rules_of_page}
+use Rattle.conref_pull.proofs.WalkLaws.{walks_as}
+use Rattle.conref_pull.specs.Around.{Around, alone_at, around_at, nothing_around}
+use Rattle.conref_pull.proofs.StandingLaws.{node_walks}
+use Rattle.conref_pull.proofs.calls.resolve_with.Goals as goal
+
+pub returns-in_err-doc-clause-founded : goal.returns-in_err-doc-clause-founded
+returns-in_err-doc-clause-founded g c = (about_page (g.A.Reader.stand c.args.asker.now).setting.nodes _ _ _ _ c.pushed.ensures.founded c.pushed.ensures.asks).founded
+
+pub returns-in_err-doc-clause-asks : goal.returns-in_err-doc-clause-asks
+returns-in_err-doc-clause-asks g c = (about_page (g.A.Reader.stand c.args.asker.now).setting.nodes _ _ _ _ c.pushed.ensures.founded c.pushed.ensures.asks).asks
+
+pub returns-in_default-clause-founded : goal.returns-in_default-clause-founded
+returns-in_default-clause-founded g c = (about_page (g.A.Reader.stand c.args.asker.now).setting.nodes _ _ _ _ c.pushed.ensures.founded c.pushed.ensures.asks).founded
+
+pub returns-in_default-clause-asks : goal.returns-in_default-clause-asks
+returns-in_default-clause-asks g c = (about_page (g.A.Reader.stand c.args.asker.now).setting.nodes _ _ _ _ c.pushed.ensures.founded c.pushed.ensures.asks).asks
+
+pub returns-in_err-read-clause-founded : goal.returns-in_err-read-clause-founded
+returns-in_err-read-clause-founded g c = (about_rules (g.A.Reader.stand c.args.asker.now).setting.nodes _ _ _ _ _ c.pushed.ensures.grows c.pushed.ensures.founded c.pushed.ensures.asks
+    c.read.ensures.founded c.read.ensures.asks).founded
+
+pub returns-in_err-read-clause-asks : goal.returns-in_err-read-clause-asks
+returns-in_err-read-clause-asks g c = (about_rules (g.A.Reader.stand c.args.asker.now).setting.nodes _ _ _ _ _ c.pushed.ensures.grows c.pushed.ensures.founded c.pushed.ensures.asks
+    c.read.ensures.founded c.read.ensures.asks).asks
+
+pub returns-in_err-rules-clause-founded : goal.returns-in_err-rules-clause-founded
+returns-in_err-rules-clause-founded g c = (about_rules (g.A.Reader.stand c.args.asker.now).setting.nodes _ _ _ _ _ c.pushed.ensures.grows c.pushed.ensures.founded c.pushed.ensures.asks
+    c.read.ensures.founded c.read.ensures.asks).founded
+
+pub returns-in_err-rules-clause-asks : goal.returns-in_err-rules-clause-asks
+returns-in_err-rules-clause-asks g c = (about_rules (g.A.Reader.stand c.args.asker.now).setting.nodes _ _ _ _ _ c.pushed.ensures.grows c.pushed.ensures.founded c.pushed.ensures.asks
+    c.read.ensures.founded c.read.ensures.asks).asks
+
+pub returns-clause-founded : goal.returns-clause-founded
+returns-clause-founded g c = (about_next (g.A.Reader.stand c.args.asker.now).setting.nodes _ _ _ _ _ _ _ refl (none_among _)
+    (grows_trans _ _ _ (grows_trans _ _ _ c.pushed.ensures.grows c.read.ensures.grows) c.node_at-done.ensures.grows)
+    (about_then (g.A.Reader.stand c.args.asker.now).setting.nodes _ _ _ _ _ _ _
+    (ap (λ (context : Context). context.page.doc) c.new-resolver.ensures.context)
+    (record { by = λ roots. record { each = λ m here. absurd (false≢true here) } }) (grows_trans _ _ _ c.pushed.ensures.grows c.read.ensures.grows)
+    (about_rules (g.A.Reader.stand c.args.asker.now).setting.nodes _ _ _ _ _ c.pushed.ensures.grows c.pushed.ensures.founded c.pushed.ensures.asks
+    c.read.ensures.founded c.read.ensures.asks) (c.node_at-done.ensures.asks (g.A.Reader.stand c.args.asker.now).setting.nodes
+    (ap (λ (stand : Stand). stand.setting.nodes) (c.in_ok-read.ensures.stand ∙ c.in_ok-doc.ensures.stand))
+    (subst (λ (doc : Doc). AreGiven (g.A.Reader.told c.read.new.reader) (names_of_doc doc)) (sym c.deref-2.ensures)
+    (given_later _ _ _ c.in_ok-read.ensures.grows
+    (record {
+      by = λ roots. subst (λ (found : Option (Arc Doc Global)). AreAllowed roots (g.A.Reader.told c.pushed.new.self)
+          (names_of_found (named_found found))) c.in-Some.is (c.in_ok-doc.ensures.given roots);
+    }))))) (c.finish.ensures.asks (g.A.Reader.stand c.args.asker.now).setting.nodes)).founded
+
+pub returns-clause-asks : goal.returns-clause-asks
+returns-clause-asks g c = (about_next (g.A.Reader.stand c.args.asker.now).setting.nodes _ _ _ _ _ _ _ refl (none_among _)
+    (grows_trans _ _ _ (grows_trans _ _ _ c.pushed.ensures.grows c.read.ensures.grows) c.node_at-done.ensures.grows)
+    (about_then (g.A.Reader.stand c.args.asker.now).setting.nodes _ _ _ _ _ _ _
+    (ap (λ (context : Context). context.page.doc) c.new-resolver.ensures.context)
+    (record { by = λ roots. record { each = λ m here. absurd (false≢true here) } }) (grows_trans _ _ _ c.pushed.ensures.grows c.read.ensures.grows)
+    (about_rules (g.A.Reader.stand c.args.asker.now).setting.nodes _ _ _ _ _ c.pushed.ensures.grows c.pushed.ensures.founded c.pushed.ensures.asks
+    c.read.ensures.founded c.read.ensures.asks) (c.node_at-done.ensures.asks (g.A.Reader.stand c.args.asker.now).setting.nodes
+    (ap (λ (stand : Stand). stand.setting.nodes) (c.in_ok-read.ensures.stand ∙ c.in_ok-doc.ensures.stand))
+    (subst (λ (doc : Doc). AreGiven (g.A.Reader.told c.read.new.reader) (names_of_doc doc)) (sym c.deref-2.ensures)
+    (given_later _ _ _ c.in_ok-read.ensures.grows
+    (record {
+      by = λ roots. subst (λ (found : Option (Arc Doc Global)). AreAllowed roots (g.A.Reader.told c.pushed.new.self)
+          (names_of_found (named_found found))) c.in-Some.is (c.in_ok-doc.ensures.given roots);
+    }))))) (c.finish.ensures.asks (g.A.Reader.stand c.args.asker.now).setting.nodes)).asks
+
+pub returns-in_default-clause-known : goal.returns-in_default-clause-known
+returns-in_default-clause-known g c = λ world agrees rules tables.
+    (let stand = g.A.Reader.stand c.args.asker.now in
+    let page = c.args.context.now.page in
+    let setting = setting_of world stand.setting page
+    (page_rules world (ditavals c.args.context.now.val page.filters)) in
+    subst (λ (m : Made). IsResolved c.nothing.result m)
+    (no_node_made setting (too_many_faults world page.doc) c.args.place
+    (sym (c.in_ok-doc.ensures.known world agrees) ∙ ap named_found c.in_default.is)) c.nothing.ensures)
+
+pub returns-clause-known : goal.returns-clause-known
+returns-clause-known g c = λ world agrees rules tables.
+    (let stand = g.A.Reader.stand c.args.asker.now in
+    let page = c.args.context.now.page in
+    let names = ditavals c.args.context.now.val page.filters in
+    let setting = setting_of world stand.setting page (page_rules world names) in
+    let later = agrees_before world _ _ c.finish.ensures.grows agrees in
+    let read = agrees_before world _ _ c.node_at-done.ensures.grows later in
+    let are = c.in_ok-read.ensures.known world read rules in
+    let stands = c.in_ok-read.ensures.stand ∙ c.in_ok-doc.ensures.stand in
+    let begins : Begins c.new-resolver.result = record {
+      nodes = c.new-resolver.ensures.nodes;
+      count = c.new-resolver.ensures.count;
+      faults = c.new-resolver.ensures.faults;
+      path = c.new-resolver.ensures.path;
+    } in
+    let is = setting_begins world stand (g.A.Reader.stand c.read.new.reader) c.args.context.now c.new-resolver.result
+    (page_rules world names) (sym stands) c.new-resolver.ensures.context
+    (c.new-resolver.ensures.rules ∙ c.in_ok-rules.ensures ∙ rules_of_page world c.read.new.self names are
+    c.in_ok-read.ensures.has) in
+    let ready = ready_begins world (g.A.Reader.stand c.read.new.reader) setting c.at-standing.result.depth
+    c.new-resolver.result c.args.tables.now.places begins is
+    (c.new-resolver.ensures.deepest ∙ c.saturating_sub-deepest.ensures) tables in
+    let root = ap (λ (found : Option Written). unwrap_or found End) (ap named_found (sym c.in-Some.is)
+    ∙ c.in_ok-doc.ensures.known world (agrees_before world _ _ c.in_ok-read.ensures.grows read)) in
+    let here = here_begins setting (c.at-standing.result.depth + 1) in
+    let topic = c.at-standing.result.topic.now in
+    let meant = around_at nothing_around (page_root setting) c.args.place in
+    let all = resolved_in setting meant.topic (meant.depth + 1) (alone_at (page_root setting) c.args.place) in
+    let alone = alone_at (named_tree c.deref-2.result.now) c.args.place in
+    c.finish.ensures.known world all agrees
+    (done_of c.node_at-done.result setting.pushed 0 all c.new-resolver.result c.node_at-done.new.self
+    c.node_at-done.new.places begins
+    (walks_as c.node_at-done.result setting.pushed 0 (among_made here false topic alone) all c.new-resolver.result
+    c.node_at-done.new.self c.node_at-done.new.places
+    (all_made setting topic (c.at-standing.result.depth + 1) alone
+    ∙ ap (λ (around : Around). resolved_in setting around.topic (around.depth + 1) alone)
+    (c.at-standing.ensures ∙ ap (λ (nodes : Written). around_at nothing_around nodes c.args.place)
+    (ap named_tree c.deref.ensures ∙ root))
+    ∙ ap (λ (nodes : Written). resolved_in setting meant.topic (meant.depth + 1) (alone_at nodes c.args.place))
+    (ap named_tree c.deref-2.ensures ∙ root))
+    (node_walks c.deref-2.result.now c.args.place c.node_at-done.result here false topic setting.pushed 0
+    c.new-resolver.result c.node_at-done.new.self c.node_at-done.new.places
+    (λ part there some. c.node_at-done.ensures.known world here part later ready there some)
+    (λ none. c.node_at-done.ensures.missing world here later ready none)))))
+
+pub returns-clause-kept : goal.returns-clause-kept
+returns-clause-kept g c = λ world agrees rules tables.
+    (let stand = g.A.Reader.stand c.args.asker.now in
+    let names = ditavals c.args.context.now.val c.args.context.now.page.filters in
+    let setting = setting_of world stand.setting c.args.context.now.page (page_rules world names) in
+    let later = agrees_before world _ _ c.finish.ensures.grows agrees in
+    let are = c.in_ok-read.ensures.known world (agrees_before world _ _ c.node_at-done.ensures.grows later) rules in
+    let begins : Begins c.new-resolver.result = record {
+      nodes = c.new-resolver.ensures.nodes;
+      count = c.new-resolver.ensures.count;
+      faults = c.new-resolver.ensures.faults;
+      path = c.new-resolver.ensures.path;
+    } in
+    let is = setting_begins world stand (g.A.Reader.stand c.read.new.reader) c.args.context.now c.new-resolver.result
+    (page_rules world names) (sym (c.in_ok-read.ensures.stand ∙ c.in_ok-doc.ensures.stand))
+    c.new-resolver.ensures.context
+    (c.new-resolver.ensures.rules ∙ c.in_ok-rules.ensures ∙ rules_of_page world c.read.new.self names are
+    c.in_ok-read.ensures.has) in
+    let ready = ready_begins world (g.A.Reader.stand c.read.new.reader) setting c.at-standing.result.depth
+    c.new-resolver.result c.args.tables.now.places begins is
+    (c.new-resolver.ensures.deepest ∙ c.saturating_sub-deepest.ensures) tables in
+    let here = here_begins setting (c.at-standing.result.depth + 1) in
+    let topic = c.at-standing.result.topic.now in
+    on_ok_weaker c.finish.result
+    (λ memory. (
+      are,
+      tables_kept c.node_at-done.result setting.pushed 0
+          (among_made here false topic (alone_at (named_tree c.deref-2.result.now) c.args.place)) c.new-resolver.result
+          c.node_at-done.new.self c.node_at-done.new.places memory
+          (node_walks c.deref-2.result.now c.args.place c.node_at-done.result here false topic setting.pushed 0
+          c.new-resolver.result c.node_at-done.new.self c.node_at-done.new.places
+          (λ part there some. c.node_at-done.ensures.known world here part later ready there some)
+          (λ none. c.node_at-done.ensures.missing world here later ready none)),
+    )) c.finish.ensures.memory)

@@ -1,0 +1,55 @@
+use Rattle.std.proofs.Common.{List, ℕ, Option, None, false, [], sym, ap, refl, subst, ◌∙◌}
+use Rattle.std.specs.Borrow.{Bor}
+use Rattle.std.specs.Option.{option_copied}
+use Rattle.dita_doc.specs.declared.plan.PlanNode.{PlanNode}
+use Rattle.map_spec.specs.Keys.{key_answer}
+use Rattle.readers.specs.Founded.{StaysFounded, homes}
+use Rattle.readers.specs.Setting.{Stand}
+use Rattle.readers.proofs.FoundedLaws.{given_allowed}
+use Rattle.readers.proofs.GrowthLaws.{agrees_before, told_answer}
+use Rattle.conref_pull.specs.Found.{IsKeyed}
+use Rattle.conref_pull.specs.Setting.{setting_of}
+use Rattle.conref_pull.proofs.AskingLaws.{about_after, about_key}
+use Rattle.conref_pull.proofs.FindLaws.{keyed_none, keyed_some, target_there}
+use Rattle.conref_pull.proofs.find.find_by_key.Goals as goal
+
+pub returns-in_default-clause-known : goal.returns-in_default-clause-known
+returns-in_default-clause-known g c = λ world rules agrees are.
+    (let setting = setting_of world (g.A.Reader.stand c.args.asker.now).setting c.args.context.now.page rules in
+    subst (λ (v : Option (Bor (List ℕ))). IsKeyed setting (option_copied v) c.args.faults.now c.args.faults.now
+    c.args.places.now (record { found = None; is_defined = false })) (sym c.in_default.is)
+    (keyed_none setting c.args.places.now (record { found = None; is_defined = false }) c.args.faults.now are refl refl))
+
+pub returns-clause-known : goal.returns-clause-known
+returns-clause-known g c = λ world rules agrees are.
+    (let stand = g.A.Reader.stand c.args.asker.now in
+    let setting = setting_of world stand.setting c.args.context.now.page rules in
+    let answer = c.in_ok-node.field-0 in
+    let before = agrees_before world _ _ c.in_ok-find_target.ensures.grows agrees in
+    let holds = told_answer world _ _ _ c.in_ok-node.ensures.told before in
+    let key_is = c.in_ok-text.ensures ∙ c.split_key.ensures.key in
+    subst (λ (v : Option (Bor (List ℕ))). IsKeyed setting (option_copied v) c.args.faults.now c.append_faults.new.out
+    c.find_target.new.places (record { found = c.in_ok-find_target.field-0; is_defined = c.is_some.result }))
+    (sym c.in-Some.is)
+    (keyed_some setting c.in-Some.keyref.now answer c.find_target.new.places
+    (record { found = c.in_ok-find_target.field-0; is_defined = c.is_some.result }) c.args.faults.now
+    c.append_faults.new.out
+    (ap (λ (k : List ℕ). key_answer world stand.setting.nodes c.args.context.now.page.scope k) (sym key_is) ∙ holds)
+    (target_there world c.args.context.now.page rules c.in-Some.keyref.now answer.target answer.target
+    c.args.places.now c.find_target.new.places c.in_ok-find_target.field-0 stand
+    (g.A.Reader.stand c.key.new.self) c.in_ok-node.ensures.stand refl
+    (λ there. c.in_ok-find_target.ensures.known world c.args.context.now.page rules agrees there
+    c.split_key.ensures.id) are)
+    c.is_some.ensures
+    c.in_ok-append_faults.ensures))
+
+pub returns-clause-asks : goal.returns-clause-asks
+returns-clause-asks g c = λ nodes same.
+    about_after nodes [] (g.A.Reader.told c.args.asker.now) (g.A.Reader.told c.key.new.self) _
+    c.in_ok-node.ensures.grows
+    (about_key nodes _ _ (subst (λ (all : List PlanNode). StaysFounded (homes all)
+    (g.A.Reader.told c.args.asker.now) (g.A.Reader.told c.key.new.self)) same c.in_ok-node.ensures.founded)
+    c.in_ok-node.ensures.asks)
+    (c.in_ok-find_target.ensures.asks nodes
+    (ap (λ (stand : Stand). stand.setting.nodes) c.in_ok-node.ensures.stand ∙ same)
+    (record { by = λ roots. given_allowed roots _ _ _ c.in_ok-node.ensures.told }))

@@ -1,0 +1,109 @@
+use Rattle.std.proofs.Common.{◌+◌, ◌<◌, List, Option, IsSome, arith, sym, ap, refl, subst, ◌∙◌}
+use Rattle.std.specs.Borrow.{Bor}
+use Rattle.dita_doc.specs.declared.plan.Context.{Context}
+use Rattle.doc_elements.specs.Walk.{element_of}
+use Rattle.readers.specs.Setting.{Stand}
+use Rattle.conref_pull.specs.Asking.{AreGivenTo, IsGivenIf}
+use Rattle.readers.proofs.GrowthLaws.{agrees_before}
+use Rattle.conref_pull.specs.Linked.{IsStep}
+use Rattle.conref_pull.specs.Origin.{whole_of}
+use Rattle.conref_pull.specs.Setting.{path_within, setting_of}
+use Rattle.conref_pull.specs.Step.{step_of}
+use Rattle.conref_pull.specs.declared.chain.Link.{Link}
+use Rattle.conref_pull.specs.declared.resolver.Resolver.{Resolver}
+use Rattle.conref_pull.proofs.AskingLaws.{about_then, given_later, given_some, links_later, links_more, whole_element}
+use Rattle.conref_pull.proofs.FollowLaws.{follow_ended, follow_lost, follow_on, followed_there, page_same_setting, step_room}
+use Rattle.conref_pull.proofs.TakeLaws.{depth_same}
+use Rattle.conref_pull.proofs.resolver.Resolver.+follow.Goals as goal
+
+pub returns-in_default-clause-given : goal.returns-in_default-clause-given
+returns-in_default-clause-given g t c = λ given. links_later _ _ _ c.take.ensures.grows given
+
+pub returns-in_default-whole-clause-given : goal.returns-in_default-whole-clause-given
+returns-in_default-whole-clause-given g t c = λ given. links_later _ _ _ c.take.ensures.grows given
+
+pub returns-in_err-end-clause-asks : goal.returns-in_err-end-clause-asks
+returns-in_err-end-clause-asks g t c = λ nodes same.
+    about_then nodes _ _ _ _ _ _ _
+    (ap (λ (context : Bor Context). context.now.page.doc) c.in_ok-link.ensures.page.context)
+    (given_some _ _ _ (whole_element c.in-Some-whole.target _ c.in-Some-whole.ensures.names)
+    (subst (λ (link : Option Link). IsGivenIf (g.A.Reader.told c.take.new.asker) link) c.in-Some.is
+    c.in_ok-link.ensures.given)) c.take.ensures.grows (c.take.ensures.asks nodes same)
+    (c.follow.ensures.asks nodes
+    (ap (λ (stand : Stand). stand.setting.nodes) c.take.ensures.stand ∙ same))
+
+pub returns-in_err-push-clause-asks : goal.returns-in_err-push-clause-asks
+returns-in_err-push-clause-asks g t c = λ nodes same.
+    about_then nodes _ _ _ _ _ _ _
+    (ap (λ (context : Bor Context). context.now.page.doc) c.in_ok-link.ensures.page.context)
+    (given_some _ _ _ (whole_element c.in-Some-whole.target _ c.in-Some-whole.ensures.names)
+    (subst (λ (link : Option Link). IsGivenIf (g.A.Reader.told c.take.new.asker) link) c.in-Some.is
+    c.in_ok-link.ensures.given)) c.take.ensures.grows (c.take.ensures.asks nodes same)
+    (c.follow.ensures.asks nodes
+    (ap (λ (stand : Stand). stand.setting.nodes) c.take.ensures.stand ∙ same))
+
+pub returns-clause-asks : goal.returns-clause-asks
+returns-clause-asks g t c = λ nodes same.
+    about_then nodes _ _ _ _ _ _ _
+    (ap (λ (context : Bor Context). context.now.page.doc) c.in_ok-link.ensures.page.context)
+    (given_some _ _ _ (whole_element c.in-Some-whole.target _ c.in-Some-whole.ensures.names)
+    (subst (λ (link : Option Link). IsGivenIf (g.A.Reader.told c.take.new.asker) link) c.in-Some.is
+    c.in_ok-link.ensures.given)) c.take.ensures.grows (c.take.ensures.asks nodes same)
+    (c.follow.ensures.asks nodes
+    (ap (λ (stand : Stand). stand.setting.nodes) c.take.ensures.stand ∙ same))
+
+pub returns-clause-given : goal.returns-clause-given
+returns-clause-given g t c = λ given.
+    subst (λ (links : List Link). AreGivenTo (g.A.Reader.told c.follow.new.asker) links) (sym c.in_ok-push.ensures.items)
+    (links_more _ _ _ (c.in_ok-end.ensures.given (links_later _ _ _ c.take.ensures.grows given))
+    (given_later _ _ _ c.follow.ensures.grows
+    (subst (λ (link : Option Link). IsGivenIf (g.A.Reader.told c.take.new.asker) link) c.in-Some.is
+    c.in_ok-link.ensures.given)))
+
+pub returns-in_default-clause-known : goal.returns-in_default-clause-known
+returns-in_default-clause-known g t c = λ world at steps inside agrees are deep some far room.
+    (let setting = setting_of world (g.A.Reader.stand c.args.asker.now).setting c.args.self.now.context.now.page
+    c.args.self.now.rules in
+    follow_ended setting c.args.topic.now at c.args.links (element_of c.args.origin.now c.args.element.now) inside
+    c.args.self.now c.take.new.self c.take.new.places room steps c.args.taken.now.items _ some c.in_default.is
+    (c.in_ok-link.ensures.known world at agrees are deep room))
+
+pub returns-in_default-whole-clause-known : goal.returns-in_default-whole-clause-known
+returns-in_default-whole-clause-known g t c = λ world at steps inside agrees are deep some far room.
+    (let setting = setting_of world (g.A.Reader.stand c.args.asker.now).setting c.args.self.now.context.now.page
+    c.args.self.now.rules in
+    let element = element_of c.args.origin.now c.args.element.now in
+    let step = subst (λ (link : Option Link). IsStep setting.pushed (step_of setting c.args.topic.now at
+    (path_within c.args.self.now c.args.links) element) c.args.self.now c.take.new.self c.take.new.places link)
+    c.in-Some.is (c.in_ok-link.ensures.known world at agrees are deep room) in
+    follow_lost setting c.args.topic.now at c.args.links element inside c.args.self.now c.take.new.self
+    c.take.new.places room c.in-Some.link step c.in_default-whole.ensures.target steps c.args.taken.now.items)
+
+pub returns-clause-known : goal.returns-clause-known
+returns-clause-known g t c = λ world at steps inside agrees are deep some far room.
+    (let stand = g.A.Reader.stand c.args.asker.now in
+    let other = g.A.Reader.stand c.take.new.asker in
+    let old = c.args.self.now in
+    let mid = c.take.new.self in
+    let setting = setting_of world stand.setting old.context.now.page old.rules in
+    let element = element_of c.args.origin.now c.args.element.now in
+    let links = c.args.links in
+    let taken = subst (λ (link : Option Link). IsStep setting.pushed (step_of setting c.args.topic.now at
+    (path_within old links) element) old mid c.take.new.places link) c.in-Some.is
+    (c.in_ok-link.ensures.known world at (agrees_before world _ _ c.in_ok-end.ensures.grows agrees) are deep room) in
+    let few : links < 32 = subst (λ (link : Option Link). IsSome link → links < 32) c.in-Some.is
+    c.in_ok-link.ensures.limit refl in
+    let target = c.in-Some-whole.target in
+    follow_on setting c.args.topic.now at links element inside old mid c.take.new.places room c.in-Some.link taken target
+    c.in-Some-whole.ensures.target c.follow.new.self c.follow.new.places steps c.in_ok-end.end c.args.taken.now.items
+    c.follow.new.taken.items c.push.new.self.items some
+    (λ n is. followed_there setting (setting_of world other.setting mid.context.now.page mid.rules) c.args.topic.now at n
+    (links + 1) c.in_ok-end.end (path_within mid (links + 1)) (whole_of target).0 (whole_of target).1
+    c.args.taken.now.items c.follow.new.taken.items mid c.follow.new.self c.take.new.places c.follow.new.places
+    (page_same_setting world stand other old mid c.take.ensures.stand c.in_ok-link.ensures.page)
+    (λ tables. c.in_ok-end.ensures.known world at n (whole_of target).1 agrees tables
+    (depth_same old mid at (ap (λ (r : Resolver). r.maker) taken.state) (ap (λ (r : Resolver). r.deepest) taken.state)
+    deep) (omega arith) (omega arith)
+    (step_room setting c.args.topic.now at links element inside old mid c.take.new.places room c.in-Some.link taken))
+    taken.tables)
+    c.in_ok-push.ensures.items)

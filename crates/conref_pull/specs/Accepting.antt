@@ -1,0 +1,47 @@
+-- Whether a target can be taken (own): within the targets that are being resolved, and with the range behind it.
+use Rattle.std.specs.Prelude.{◌≡◌, ◌+◌, ◌-◌, ◌||◌, ◌≤◌, ℕ, Bool, List, [], ◌∷◌, ◌++◌, Option, Some, None, map, nat_le, take, if◌then◌else◌}
+use Rattle.dita_doc.specs.declared.fault.FaultCode.{FaultCode}
+use Rattle.dita_doc.specs.declared.fault.FaultCode.TheVariants as faults
+use Rattle.map_spec.specs.Written.{Written, size}
+use Rattle.page_spec.specs.Content.{Place, is_place, path_limit}
+use Rattle.conref_pull.specs.Parts.{among_first}
+use Rattle.conref_pull.specs.Setting.{place_shown}
+use Rattle.conref_pull.specs.declared.chain.Link.{Link}
+use Rattle.conref_pull.specs.declared.find.Found.{Found}
+use Rattle.conref_pull.specs.declared.place.Place as kept
+
+abbrev pub place_of : Found → Place
+place_of found = record { doc = found.name; at = found.place }
+
+abbrev pub is_at : Found → kept.Place → Bool
+is_at found place = is_place (place_of found) (place_shown place)
+
+-- why a target can't be taken, by whether it is one of those that are being resolved, and whether they or the elements
+-- around it are too many
+abbrev pub refusal_by : Bool → Bool → Option FaultCode
+refusal_by on_path too_deep =
+    if on_path then Some faults.ConrefCycle else if too_deep then Some faults.ConrefDepth else None
+
+-- so many targets, or so many open elements of those that may be open, are too many
+abbrev pub is_too_deep : ℕ → ℕ → ℕ → Bool
+is_too_deep links deepest opened = nat_le path_limit links || nat_le deepest opened
+
+abbrev pub link_of : Found → ℕ → ℕ → Link
+link_of found from to = record { doc = found.doc; place = found.place; from = from; to = to }
+
+-- a path goes on with the target, behind its first so many
+abbrev pub GoesOn : List kept.Place → List kept.Place → Found → ℕ → Type 0
+GoesOn old new found links = map place_shown new ≡ take links (map place_shown old) ++ place_of found ∷ []
+
+-- the range goes from one place up to another, among what stands behind
+pub record IsUpTo (from : ℕ) (behind meant : Written) (to : ℕ) : Type 0 where
+  pub forward : from ≤ to
+  pub fits : to ≤ from + size behind
+  pub range : meant ≡ among_first (to - from) behind
+
+-- where a range ends, if it has an end
+abbrev pub IsRangeEnd : ℕ → Written → Option Written → Option ℕ → Type 0
+IsRangeEnd from behind None None = Unit {0}
+IsRangeEnd from behind None (Some to) = ⊥
+IsRangeEnd from behind (Some meant) None = ⊥
+IsRangeEnd from behind (Some meant) (Some to) = IsUpTo from behind meant to

@@ -1,0 +1,25 @@
+-- Content that is put: into what is made, its nodes; to the count and to the faults, its own (own).
+use Rattle.std.specs.Prelude.{◌≡◌, ◌+◌, ◌++◌, ◌<◌, ◌≤◌, Result, Ok, Err}
+use Rattle.dita_doc.specs.declared.stop.Stop.{Stop}
+use Rattle.dita_doc.specs.declared.stop.Stop.TheVariants as stops
+use Rattle.doc_maker.specs.Building.{Building, behind}
+use Rattle.doc_maker.specs.Made.{building}
+use Rattle.page_spec.specs.Content.{Made, count_limit}
+use Rattle.conref_pull.specs.declared.resolver.Resolver.{Resolver}
+use Rattle.conref_pull.specs.declared.resolver.TooMany.{TooMany}
+
+abbrev pub built : Resolver → Building
+built resolver = building resolver.maker
+
+-- this content was put, and it is not too much
+pub record IsPut (made : Made) (old new : Resolver) : Type 0 where
+  pub nodes : built new ≡ behind (built old) made.nodes
+  pub count : new.count ≡ old.count + made.count
+  pub room : new.count ≤ count_limit
+  pub faults : new.faults ≡ old.faults ++ made.faults
+
+-- it was put, or it is too much; out of memory, nothing is said
+abbrev pub Puts : Result (Unit {0}) (Stop TooMany) → Made → Resolver → Resolver → Type 0
+Puts (Ok done) made old new = IsPut made old new
+Puts (Err (stops.Fault fault)) made old new = count_limit < old.count + made.count
+Puts (Err stops.NoMemory) made old new = Unit {0}

@@ -1,0 +1,101 @@
+-- Nodes that are resolved where they stand, and what is put in their place (own).
+use Rattle.std.specs.Prelude.{◌≡◌, ◌+◌, ◌-◌, ◌<◌, ◌≤◌, ℕ, Bool, false, List, Result, Ok, Err, length, if◌then◌else◌}
+use Rattle.std.specs.List.{flat_map}
+use Rattle.dita_doc.specs.declared.stop.Stop.{Stop}
+use Rattle.dita_doc.specs.declared.stop.Stop.TheVariants as stops
+use Rattle.doc_maker.specs.Building.{depth}
+use Rattle.map_spec.specs.Judged.{group_faults}
+use Rattle.map_spec.specs.Written.{Element, Written, End, Chars, Node}
+use Rattle.page_spec.specs.Content.{Made, Place, Setting, count_limit, depth_limit, element_made, element_resolved, goes, made_with, nothing_made, path_limit, ranges_made, resolved_among, resolved_from, topic_within}
+use Rattle.reader_spec.specs.World.{World}
+use Rattle.readers.specs.Setting.{Stand}
+use Rattle.conref_pull.specs.Putting.{IsPut, built}
+use Rattle.conref_pull.specs.Setting.{path_within, setting_of}
+use Rattle.conref_pull.specs.Step.{Taken, range_of_one}
+use Rattle.conref_pull.specs.Tables.{AreTables, Documents}
+use Rattle.conref_pull.specs.declared.resolver.Resolver.{Resolver}
+use Rattle.conref_pull.specs.declared.resolver.TooMany.{TooMany}
+use Rattle.conref_pull.specs.declared.tables.PlaceTables.{PlaceTables}
+
+-- where nodes are resolved: in this setting, at this depth, within the targets of this path, and within so many more
+pub record Here : Type 0 where
+  pub setting : Setting
+  pub depth : ℕ
+  pub path : List Place
+  pub steps : ℕ
+
+abbrev pub inside_of : Here → Here
+inside_of here = record here { depth = here.depth + 1 }
+
+-- What is put in the place of siblings, in this topic
+
+abbrev pub among_made : Here → Bool → List ℕ → Written → Made
+among_made here is_range topic nodes =
+    resolved_among (resolved_from here.steps here.setting) here.setting is_range topic here.depth here.path nodes
+
+-- in the place of an element
+abbrev pub whole_made : Here → Bool → List ℕ → Element → Written → Made
+whole_made here is_range topic element inside =
+    element_resolved (resolved_from here.steps here.setting) here.setting is_range topic here.depth here.path element
+    inside (λ shown. among_made (inside_of here) false shown inside)
+
+-- in the place of an element that takes nothing
+abbrev pub kept_made : Here → Bool → List ℕ → Element → Written → Made
+kept_made here is_range topic element inside =
+    element_made is_range element (among_made (inside_of here) false (topic_within is_range element topic) inside)
+
+-- in the place of an element with what it takes, which holds the content of a target
+abbrev pub merged_made : Here → Bool → List ℕ → Element → Written → Made
+merged_made here is_range topic merged inside = made_with (group_faults merged) (if goes here.setting merged
+    then record nothing_made { count = 1 } else kept_made here is_range topic merged inside)
+
+-- in the place of the ranges behind the targets that were taken
+abbrev pub ranges_put : Here → List ℕ → List Taken → Made
+ranges_put here topic taken =
+    ranges_made (resolved_from here.steps here.setting) topic here.depth (flat_map range_of_one taken)
+
+-- the first of some siblings alone
+abbrev pub first_alone : Written → Written
+first_alone End = End
+first_alone (Chars text doc rest) = Chars text doc End
+first_alone (Node element inside rest) = Node element inside End
+
+-- The state of the page
+
+-- what is put next stands at this depth: behind so many elements around all that is resolved, and those that are open
+pub record StandsDeep (resolver : Resolver) (at : ℕ) : Type 0 where
+  pub around : ℕ
+  pub deepest : resolver.deepest ≡ depth_limit - around
+  pub is : at ≡ around + 1 + depth (built resolver)
+
+-- nodes can be resolved here, within so many targets
+pub record IsReady (world : World) (stand : Stand) (links : ℕ) (here : Here) (resolver : Resolver) (places : PlaceTables)
+    : Type 0 where
+  pub setting :
+      here.setting ≡ setting_of world stand.setting resolver.context.now.page resolver.rules
+  pub path : here.path ≡ path_within resolver links
+  pub within : links ≤ length resolver.path.items
+  pub limit : links ≤ path_limit
+  pub steps : path_limit ≤ here.steps + links
+  pub depth : StandsDeep resolver here.depth
+  pub room : resolver.count ≤ count_limit
+  pub tables : AreTables here.setting.pushed places
+
+-- content was put within so many targets, which are the same as before
+pub record IsWalked (documents : Documents) (links : ℕ) (made : Made) (old new : Resolver) (places : PlaceTables) : Type 0
+  where
+    pub put : IsPut made old new
+    pub path : path_within new links ≡ path_within old links
+    pub within : links ≤ length new.path.items
+    pub tables : AreTables documents places
+
+-- it is too much, and the tables are right all the same
+pub record IsFull (documents : Documents) (made : Made) (old : Resolver) (places : PlaceTables) : Type 0 where
+  pub much : count_limit < old.count + made.count
+  pub tables : AreTables documents places
+
+-- it was put, or it is too much; out of memory, nothing is said
+abbrev pub Walks : Result (Unit {0}) (Stop TooMany) → Documents → ℕ → Made → Resolver → Resolver → PlaceTables → Type 0
+Walks (Ok done) documents links made old new places = IsWalked documents links made old new places
+Walks (Err (stops.Fault fault)) documents links made old new places = IsFull documents made old places
+Walks (Err stops.NoMemory) documents links made old new places = Unit {0}
