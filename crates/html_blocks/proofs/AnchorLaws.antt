@@ -1,5 +1,5 @@
 -- Anchors that rise by their places: a search by halving finds what a search from the front finds.
-use Rattle.std.specs.Prelude.{◌≡◌, ◌+◌, ◌<◌, ◌≤◌, ◌==◌, ℕ, zero, suc, true, false, List, [], ◌∷◌, Option, Some, None, Err, MatchOption, length, map}
+use Rattle.std.specs.Prelude.{◌≡◌, ◌+◌, ◌<◌, ◌≤◌, ◌==◌, slice_index, ℕ, zero, suc, true, false, List, [], ◌∷◌, Option, Some, None, Err, MatchOption, length, map}
 use Rattle.std.specs.Borrow.{Bor}
 use Rattle.std.specs.Cmp.{nat_cmp_is}
 use Rattle.std.specs.Option.{option_copied}
@@ -98,3 +98,27 @@ module _ (anchors : List Anchor) (rise : AreByPlace anchors) where
       find_none anchors place (λ k d inside. either k at
       (λ low. other_place Less _ place (parts.0 k d (omega arith) low) less≢equal)
       (λ high. other_place Greater _ place (parts.1 k d high inside) greater≢equal))
+
+-- Anchors that were seen to rise
+
+abbrev pub places_of : List Anchor → List ℕ
+places_of anchors = map (λ (anchor : Anchor). anchor.place) anchors
+
+-- the places of so many anchors rise
+abbrev pub RiseUpTo : List Anchor → ℕ → Type 0
+RiseUpTo anchors end = (k : ℕ) → k + 1 < end → slice_index (places_of anchors) k < slice_index (places_of anchors) (k + 1)
+
+place_at : (anchors : List Anchor) (at : ℕ) (d : Anchor) → at < length anchors
+    → slice_index (places_of anchors) at ≡ (get_or anchors at d).place
+place_at anchors at d within = get_or-map (λ (anchor : Anchor). anchor.place) anchors at d 0 within
+
+pub rises_more : (anchors : List Anchor) (at last : ℕ) (d e : Anchor) → last + 1 ≡ at → at < length anchors
+    → (get_or anchors last d).place < (get_or anchors at e).place → RiseUpTo anchors at → RiseUpTo anchors (at + 1)
+rises_more anchors at last d e next within less rise = λ k low.
+    either (k + 1) at (λ below. rise k below)
+    (λ high.
+    (let here : k ≡ last = omega (arith, next) in
+    let there : k + 1 ≡ at = omega (arith, next) in
+    let one = ap (slice_index (places_of anchors)) here ∙ place_at anchors last d (omega (arith, next)) in
+    let other = ap (slice_index (places_of anchors)) there ∙ place_at anchors at e within in
+    omega (arith, one, other, less)))

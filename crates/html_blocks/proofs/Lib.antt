@@ -1,2 +1,10 @@
 pub mod AnchorLaws
+pub mod BareLaws
+pub mod BodyLaws
+pub mod ContextLaws
 pub mod NameLaws
+pub mod NodeLaws
+pub mod OpenLaws
+pub mod RowLaws
+pub mod TagLaws
+pub mod WayLaws

@@ -1,2 +1,5 @@
 pub mod Anchors
+pub mod Body
+pub mod Opened
 pub mod Shown
+pub mod Walk

@@ -1,40 +1,60 @@
 //! The walk over a body.
 
+ghost use Rattle.std.specs.Prelude.{◌≡◌, ◌+◌, ◌++◌, ◌<◌, IfOk, OnOk};
+ghost use Rattle.dita_doc.specs.HtmlEscapes as html_escapes_spec;
+ghost use Rattle.dita_doc.specs.Siblings as siblings_spec;
+ghost use Rattle.dita_doc.specs.Tree as tree_spec;
+ghost use Rattle.html_blocks.specs.Body as body_spec;
+ghost use Rattle.html_blocks.specs.Opened as opened_spec;
+ghost use Rattle.html_blocks.specs.Walk as walk_spec;
+ghost use Rattle.map_spec.specs.Written.{Written};
+ghost use Rattle.page_spec.specs.Blocks as blocks_spec;
+
 use crate::context::Context;
 use crate::element::Element;
+use crate::link::Links;
 use crate::page::Page;
-use dita_doc::{Anchor, First, Html, List, NoMemory, Resolved, Siblings, append_html};
-use std::alloc::Global;
+use dita_doc::{Anchor, First, Html, List, NoMemory, Node, Resolved, Siblings, Text, append_html};
+use std::alloc::{AllocError, Global};
 
-/// The HTML of a page's body, and the faults of its elements. The anchors stand by their places, at
-/// most one at each.
-pub fn body_html(alloc: Global, body: &Resolved, anchors: &List<Anchor>) -> Result<Html, NoMemory> {
+/// The HTML of a page's body, and the faults of its elements. Of several anchors at one place the
+/// first counts. Anchors that stand by their places, at most one at each, are searched by halving.
+pub fn body_html(alloc: Global, body: &Resolved, anchors: &List<Anchor>) -> Result<Html, NoMemory>
+    ensures { (nodes : Written) → body_spec.AreNodesOf body.now nodes
+        → IfOk result (λ html. html ≡ blocks_spec.body_html anchors.now nodes) }
+{
     let mut page = Page::new(alloc);
+    let links = Links::of(anchors.as_slice());
     let siblings = Siblings::of(&body.doc);
-    append_siblings(
-        alloc,
-        &mut page,
-        anchors.as_slice(),
-        siblings,
-        Context::outside(),
-    )?;
+    append_siblings(alloc, &mut page, links, siblings, 0, Context::outside())?;
     Ok(page.into_html())
 }
 
-// Appends some siblings, with what they hold.
+// Appends some siblings, with what they hold. The first of them stands at this place.
+#[cycle(append)]
 fn append_siblings(
     alloc: Global,
     page: &mut Page,
-    anchors: &[Anchor],
+    links: Links<'_>,
     siblings: Siblings<'_>,
+    place: u32,
     context: Context<'_>,
-) -> Result<(), NoMemory> {
+) -> Result<(), NoMemory>
+    requires { place + tree_spec.size_of (siblings_spec.content siblings)
+        < tree_spec.node_limit }
+    ensures { (around : blocks_spec.Context)
+        → walk_spec.IsWithin page.old.groups context.entry around
+        → OnOk result (opened_spec.HasMore page.old page.new (blocks_spec.shown_from around
+        links.entry.anchors.now place (walk_spec.content_of siblings.entry))) }
+{
     let mut left = siblings;
+    let mut here = place;
     loop {
         match left.split_first() {
             First::End => return Ok(()),
             First::Chars { node, rest, .. } => {
-                append_html(&mut page.text, node.text.as_str())?;
+                append_characters(&mut page.text, node)?;
+                here += 1;
                 left = rest;
             }
             First::Element {
@@ -44,16 +64,56 @@ fn append_siblings(
                 rest,
             } => {
                 let element = Element {
-                    place,
+                    place: here,
                     node,
                     inside,
                 };
-                if let Some(opened) = page.open(alloc, anchors, element, context)? {
-                    append_siblings(alloc, page, anchors, inside, opened.within)?;
-                    page.close(opened)?;
-                }
+                append_element(alloc, page, links, element, context)?;
+                let count = node.end - place;
+                here += count;
                 left = rest;
             }
         }
     }
+}
+
+// Appends an element, with what it holds.
+#[cycle(append)]
+fn append_element(
+    alloc: Global,
+    page: &mut Page,
+    links: Links<'_>,
+    element: Element<'_>,
+    context: Context<'_>,
+) -> Result<(), NoMemory>
+    requires { element.place + 1 + tree_spec.size_of (siblings_spec.content element.inside)
+        < tree_spec.node_limit }
+    ensures { (around : blocks_spec.Context)
+        → walk_spec.IsWithin page.old.groups context.entry around
+        → OnOk result (opened_spec.HasMore page.old page.new
+        (walk_spec.whole_shown around links.entry.anchors.now element.entry)) }
+{
+    let opened = page.open(alloc, links, element, context)?;
+    match opened {
+        Some(opened) => {
+            append_siblings(
+                alloc,
+                page,
+                links,
+                element.inside,
+                element.place + 1,
+                opened.within,
+            )?;
+            page.close(opened)?;
+            Ok(())
+        }
+        None => Ok(()),
+    }
+}
+
+// Appends the characters of a text.
+fn append_characters(out: &mut Text, text: &Node) -> Result<(), AllocError>
+    ensures { OnOk result (out.new ≡ out.old ++ html_escapes_spec.escaped text.now.text) }
+{
+    append_html(out, text.text.as_str())
 }

@@ -27,8 +27,18 @@ pub(crate) struct Context<'a> {
 }
 
 impl<'a> Context<'a> {
+    ghost use Rattle.std.specs.Prelude.{◌≡◌, ℕ, List};
+    ghost use Rattle.doc_elements.specs.Walk as elements_walk;
+    ghost use Rattle.html_blocks.specs.Opened as opened_spec;
+    ghost use Rattle.html_blocks.specs.Shown as shown_spec;
+    ghost use Rattle.html_blocks.specs.Walk as walk_spec;
+    ghost use Rattle.html_tables.specs.declared.groups.Groups.{Groups};
+    ghost use Rattle.page_spec.specs.Blocks as blocks_spec;
+
     /// Where nothing stands around.
-    pub fn outside() -> Context<'a> {
+    pub fn outside() -> Context<'a>
+        ensures { (groups : Groups) → walk_spec.IsWithin groups result blocks_spec.outside }
+    {
         Context {
             topic: "",
             depth: 0,
@@ -39,17 +49,36 @@ impl<'a> Context<'a> {
 
     /// Where what an element holds stands, by the token that counts for the element and the nearest
     /// group of rows.
-    pub fn within(self, token: &str, element: &'a Node, group: Option<usize>) -> Context<'a> {
+    pub fn within(self, token: &str, element: &'a Node, group: Option<usize>) -> Context<'a>
+        ensures topic { (name : List ℕ) → result.topic.now ≡ opened_spec.topic_within token.now
+            (elements_walk.element_of name element.now) self.entry.topic.now }
+        ensures depth { result.depth ≡ opened_spec.depth_within token.now self.entry.depth }
+        ensures nearest { shown_spec.around_shown result.around
+            ≡ blocks_spec.around_in token.now (shown_spec.around_shown self.entry.around) }
+        ensures head { result.tables.head
+            ≡ blocks_spec.head_in token.now self.entry.tables.head }
+        ensures simple_head { result.tables.simple_head
+            ≡ blocks_spec.simple_head_in token.now self.entry.tables.simple_head }
+        ensures group { result.tables.group ≡ group }
+    {
         let context = self.in_topic(token, element);
         Context {
+            topic: context.topic,
+            depth: context.depth,
             around: around_in(token, context.around),
             tables: context.tables.within(token, group),
-            ..context
         }
     }
 
     /// Where what an element of no form holds stands, by the nearest group of rows.
-    pub fn in_group(self, group: Option<usize>) -> Context<'a> {
+    pub fn in_group(self, group: Option<usize>) -> Context<'a>
+        ensures topic { result.topic.now ≡ self.entry.topic.now }
+        ensures depth { result.depth ≡ self.entry.depth }
+        ensures nearest { result.around ≡ self.entry.around }
+        ensures head { result.tables.head ≡ self.entry.tables.head }
+        ensures simple_head { result.tables.simple_head ≡ self.entry.tables.simple_head }
+        ensures group { result.tables.group ≡ group }
+    {
         let tables = TableContext {
             group,
             ..self.tables
@@ -57,7 +86,14 @@ impl<'a> Context<'a> {
         Context { tables, ..self }
     }
 
-    fn in_topic(self, token: &str, element: &'a Node) -> Context<'a> {
+    // Where what an element holds stands, by the topic that the element may be.
+    fn in_topic(self, token: &str, element: &'a Node) -> Context<'a>
+        ensures topic { (name : List ℕ) → result.topic.now ≡ opened_spec.topic_within token.now
+            (elements_walk.element_of name element.now) self.entry.topic.now }
+        ensures depth { result.depth ≡ opened_spec.depth_within token.now self.entry.depth }
+        ensures nearest { result.around ≡ self.entry.around }
+        ensures tables { result.tables ≡ self.entry.tables }
+    {
         if token != "topic/topic" {
             return self;
         }

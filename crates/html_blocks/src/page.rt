@@ -1,12 +1,20 @@
 //! The HTML of a body as it grows: what stands before and behind the content of an element.
 
+ghost use Rattle.std.specs.Prelude.{◌≡◌, ◌++◌, ◌==◌, OnOk, IfOk, is_some, length};
+ghost use Rattle.std.specs.Option.{option_copied};
+ghost use Rattle.dita_doc.specs.ClassValue.{words_of};
+ghost use Rattle.html_blocks.specs.Opened as opened_spec;
+ghost use Rattle.html_blocks.specs.Walk as walk_spec;
+ghost use Rattle.html_forms.specs.Shown.{form_shown_of};
+
 use crate::context::Context;
 use crate::element::Element;
-use crate::link::{Link, link_at};
+use crate::link::{Link, Links};
 use crate::names::name_of;
+use crate::start::{append_image, append_start};
 use crate::tags::{append_end, append_link};
-use dita_doc::{Anchor, Fault, Html, List, NoMemory, Text, append_html};
-use doc_elements::{class_fault, tokens_of};
+use dita_doc::{Fault, FaultCode, Html, List, NoMemory, Text, append_html, split_word};
+use doc_elements::{class_fault, fault_at, tokens_of};
 use html_forms::{Form, row_among};
 use html_tables::Groups;
 use std::alloc::{AllocError, Global};
@@ -24,13 +32,29 @@ pub(crate) struct Page {
 #[derive(Clone, Copy, Debug)]
 pub(crate) struct Opened<'a> {
     pub within: Context<'a>,
-    name: Option<&'static str>,
-    is_linked: bool,
+    pub name: Option<&'static str>,
+    pub is_linked: bool,
 }
 
 impl Page {
+    ghost use Rattle.std.specs.Prelude.{◌≡◌, ◌++◌, [], ◌∷◌, ℕ, List, Some, None, IfOk, OnOk, false, is_some, true};
+    ghost use Rattle.std.specs.Option.{option_copied};
+    ghost use Rattle.dita_doc.specs.ClassValue.{words_of};
+    ghost use Rattle.dita_doc.specs.declared.content.Anchor.{Anchor};
+    ghost use Rattle.dita_doc.specs.declared.fault.FaultCode.TheVariants as faults_spec;
+    ghost use Rattle.html_blocks.specs.Anchors as anchors_spec;
+    ghost use Rattle.html_blocks.specs.Opened as opened_spec;
+    ghost use Rattle.html_blocks.specs.Walk as walk_spec;
+    ghost use Rattle.html_forms.specs.Shown.{form_shown_of};
+    ghost use Rattle.html_tables.specs.Walk.{HasColumns, KeepsGroups, Names, columns_within};
+    ghost use Rattle.map_spec.specs.Elements as elements_spec;
+    ghost use Rattle.page_spec.specs.Blocks as blocks_spec;
+
     /// Nothing was written.
-    pub fn new(alloc: Global) -> Page {
+    pub fn new(alloc: Global) -> Page
+        ensures text { result.text ≡ [] }
+        ensures faults { result.faults ≡ [] }
+    {
         Page {
             text: Text::new(alloc),
             faults: List::new(alloc),
@@ -39,7 +63,10 @@ impl Page {
     }
 
     /// All that was written.
-    pub fn into_html(self) -> Html {
+    pub fn into_html(self) -> Html
+        ensures bytes { result.bytes ≡ self.text }
+        ensures faults { result.faults ≡ self.faults }
+    {
         let Page { text, faults, .. } = self;
         Html {
             bytes: text.into_bytes(),
@@ -52,60 +79,234 @@ impl Page {
     pub fn open<'a>(
         &mut self,
         alloc: Global,
-        anchors: &[Anchor],
+        links: Links<'_>,
         element: Element<'a>,
         context: Context<'a>,
-    ) -> Result<Option<Opened<'a>>, NoMemory> {
+    ) -> Result<Option<Opened<'a>>, NoMemory>
+        ensures { (around : blocks_spec.Context)
+            → walk_spec.IsWithin self.old.groups context.entry around
+            → IfOk result (λ opened. opened_spec.HasOpened self.old self.new opened
+            links.entry.anchors.now element.entry
+            (walk_spec.whole_shown around links.entry.anchors.now element.entry)) }
+    {
         let tokens = tokens_of(element.node);
-        if tokens.is_empty() {
-            self.append_class_fault(alloc, element)?;
-            return Ok(Some(Opened {
-                within: context,
-                name: None,
-                is_linked: false,
-            }));
+        if has_no_token(tokens) {
+            let untyped = self.open_untyped(alloc, element, context)?;
+            return Ok(Some(untyped));
         }
-        let link = link_at(anchors, element.place);
-        let Some((token, form)) = row_among(tokens) else {
-            let group = self.enter(alloc, tokens, element, context)?;
-            return Ok(Some(Opened {
-                within: context.in_group(group),
-                name: None,
-                is_linked: self.open_content(element, link.label, link.href)?,
-            }));
-        };
-        let Some(name) = name_of(form, link, context) else {
-            self.append_whole(alloc, form, element, link, context)?;
-            return Ok(None);
-        };
-        self.append_start(alloc, name, form, element, link, context)?;
+        let link = links.at(element.place);
+        match row_among(tokens) {
+            Some((token, form)) => {
+                let opened = self.open_row(alloc, tokens, token, form, element, link, context)?;
+                Ok(opened)
+            }
+            None => {
+                let formless = self.open_formless(alloc, tokens, element, link, context)?;
+                Ok(Some(formless))
+            }
+        }
+    }
+
+    // Opens an element without types.
+    fn open_untyped<'a>(
+        &mut self,
+        alloc: Global,
+        element: Element<'a>,
+        context: Context<'a>,
+    ) -> Result<Opened<'a>, NoMemory>
+        ensures { (around : blocks_spec.Context) (anchors : List Anchor)
+            → walk_spec.IsWithin self.old.groups context.entry around
+            → elements_spec.has_types (walk_spec.element_of element.entry) ≡ false
+            → IfOk result (λ opened. opened_spec.IsOpen self.old self.new opened anchors
+            element.entry (walk_spec.whole_shown around anchors element.entry)) }
+    {
+        self.append_class_fault(alloc, element)?;
+        Ok(Opened {
+            within: context,
+            name: None,
+            is_linked: false,
+        })
+    }
+
+    // Opens an element of a form, unless its content is not shown.
+    fn open_row<'a>(
+        &mut self,
+        alloc: Global,
+        tokens: &[u8],
+        token: &str,
+        form: Form,
+        element: Element<'a>,
+        link: Link<'_>,
+        context: Context<'a>,
+    ) -> Result<Option<Opened<'a>>, NoMemory>
+        ensures { (around : blocks_spec.Context) (anchors : List Anchor)
+            → walk_spec.IsWithin self.old.groups context.entry around
+            → words_of tokens.now ≡ elements_spec.tokens_of (walk_spec.element_of element.entry)
+            → elements_spec.has_types (walk_spec.element_of element.entry) ≡ true
+            → blocks_spec.row_for (walk_spec.element_of element.entry)
+            ≡ Some (token.now, form_shown_of form)
+            → anchors_spec.IsLinkAt anchors element.entry.place (option_copied link.entry.href)
+            link.entry.label.now
+            → IfOk result (λ opened. opened_spec.HasOpened self.old self.new opened anchors
+            element.entry (walk_spec.whole_shown around anchors element.entry)) }
+    {
+        match name_of(form, link, context) {
+            Some(name) => {
+                let opened = self.open_named(
+                    alloc, tokens, token, name, form, element, link, context,
+                )?;
+                Ok(Some(opened))
+            }
+            None => {
+                self.append_whole(alloc, form, element, link, context)?;
+                Ok(None)
+            }
+        }
+    }
+
+    // Opens an element of a form, with this name around its content.
+    fn open_named<'a>(
+        &mut self,
+        alloc: Global,
+        tokens: &[u8],
+        token: &str,
+        name: &'static str,
+        form: Form,
+        element: Element<'a>,
+        link: Link<'_>,
+        context: Context<'a>,
+    ) -> Result<Opened<'a>, NoMemory>
+        ensures begun { (around : blocks_spec.Context)
+            → walk_spec.IsWithin self.old.groups context.entry around
+            → words_of tokens.now ≡ elements_spec.tokens_of (walk_spec.element_of element.entry)
+            → IfOk result (λ opened. opened_spec.IsBegun self.old self.new opened
+            (blocks_spec.context_in (walk_spec.element_of element.entry)
+            (walk_spec.inside_of element.entry) (Some (token.now, form_shown_of form)) around)
+            (opened_spec.start_by around (option_copied link.entry.href)
+            (walk_spec.element_of element.entry) name.now (form_shown_of form)
+            ++ opened_spec.content_begun (opened_spec.href_within (form_shown_of form)
+            (option_copied link.entry.href)) (walk_spec.inside_of element.entry)
+            link.entry.label.now)) }
+        ensures ended { IfOk result (λ opened. opened_spec.closing opened
+            ≡ opened_spec.link_ended (is_some (opened_spec.href_within (form_shown_of form)
+            (option_copied link.entry.href))) ++ blocks_spec.end_tag name.now) }
+    {
+        append_start(
+            alloc,
+            &mut self.text,
+            &self.groups,
+            name,
+            form,
+            element,
+            link,
+            context,
+        )?;
         let group = self.enter(alloc, tokens, element, context)?;
-        Ok(Some(Opened {
+        let href = href_within(form, link);
+        let is_linked = open_content(&mut self.text, element, link.label, href)?;
+        Ok(Opened {
             within: context.within(token, element.node, group),
             name: Some(name),
-            is_linked: self.open_content(element, link.label, href_around(form, link))?,
-        }))
+            is_linked,
+        })
+    }
+
+    // Opens an element of no form.
+    fn open_formless<'a>(
+        &mut self,
+        alloc: Global,
+        tokens: &[u8],
+        element: Element<'a>,
+        link: Link<'_>,
+        context: Context<'a>,
+    ) -> Result<Opened<'a>, NoMemory>
+        ensures begun { (around : blocks_spec.Context)
+            → walk_spec.IsWithin self.old.groups context.entry around
+            → words_of tokens.now ≡ elements_spec.tokens_of (walk_spec.element_of element.entry)
+            → IfOk result (λ opened. opened_spec.IsBegun self.old self.new opened
+            (blocks_spec.columns_in (walk_spec.element_of element.entry)
+            (walk_spec.inside_of element.entry) around)
+            (opened_spec.content_begun (option_copied link.entry.href)
+            (walk_spec.inside_of element.entry) link.entry.label.now)) }
+        ensures ended { IfOk result (λ opened. opened_spec.closing opened
+            ≡ opened_spec.link_ended (is_some (option_copied link.entry.href))) }
+    {
+        let group = self.enter(alloc, tokens, element, context)?;
+        let is_linked = open_content(&mut self.text, element, link.label, link.href)?;
+        Ok(Opened {
+            within: context.in_group(group),
+            name: None,
+            is_linked,
+        })
     }
 
     /// Writes what stands behind the content of an element.
-    pub fn close(&mut self, opened: Opened<'_>) -> Result<(), AllocError> {
-        if opened.is_linked {
-            append_end(&mut self.text, "a")?;
-        }
-        match opened.name {
-            Some(name) => append_end(&mut self.text, name),
+    pub fn close(&mut self, opened: Opened<'_>) -> Result<(), AllocError>
+        ensures text { OnOk result (self.new.text ≡ self.old.text
+            ++ opened_spec.closing opened.entry) }
+        ensures faults { self.new.faults ≡ self.old.faults }
+        ensures groups { self.new.groups ≡ self.old.groups }
+    {
+        append_closing(&mut self.text, opened)
+    }
+
+    // Appends the fault of an element without a class that can be read.
+    fn append_class_fault(&mut self, alloc: Global, element: Element<'_>) -> Result<(), NoMemory>
+        ensures faults { OnOk result (self.new.faults ≡ self.old.faults
+            ++ elements_spec.class_faults (walk_spec.element_of element.entry)) }
+        ensures text { self.new.text ≡ self.old.text }
+        ensures groups { self.new.groups ≡ self.old.groups }
+    {
+        match class_fault(alloc, element.origin(), element.node)? {
+            Some(fault) => {
+                self.faults.push(fault)?;
+                Ok(())
+            }
             None => Ok(()),
         }
     }
 
-    // Appends the fault of an element without a class that can be read.
-    fn append_class_fault(&mut self, alloc: Global, element: Element<'_>) -> Result<(), NoMemory> {
-        let Some(origin) = element.origin() else {
-            return Ok(());
-        };
-        if let Some(fault) = class_fault(alloc, origin, element.node)? {
-            self.faults.push(fault)?;
+    // Writes an element of a form whose content is not shown: an image, a fault, or nothing.
+    fn append_whole(
+        &mut self,
+        alloc: Global,
+        form: Form,
+        element: Element<'_>,
+        link: Link<'_>,
+        context: Context<'_>,
+    ) -> Result<(), NoMemory>
+        ensures { (around : blocks_spec.Context) → context.entry.topic.now ≡ around.topic
+            → OnOk result (opened_spec.HasMore self.old self.new (opened_spec.whole_by around
+            (option_copied link.entry.href) (walk_spec.element_of element.entry)
+            (walk_spec.inside_of element.entry) (form_shown_of form))) }
+    {
+        match form {
+            Form::Image => {
+                append_image(alloc, &mut self.text, element, link, context)?;
+                Ok(())
+            }
+            Form::Foreign => self.append_foreign(alloc, element),
+            _ => Ok(()),
         }
+    }
+
+    // Appends the fault of an element of a foreign vocabulary.
+    fn append_foreign(&mut self, alloc: Global, element: Element<'_>) -> Result<(), NoMemory>
+        ensures faults { OnOk result (self.new.faults ≡ self.old.faults
+            ++ elements_spec.fault_at (walk_spec.element_of element.entry) faults_spec.Foreign
+            (walk_spec.element_of element.entry).name ∷ []) }
+        ensures text { self.new.text ≡ self.old.text }
+        ensures groups { self.new.groups ≡ self.old.groups }
+    {
+        let node = element.node;
+        let fault = fault_at(
+            alloc,
+            element.origin(),
+            node,
+            FaultCode::Foreign,
+            node.text.as_str(),
+        )?;
+        self.faults.push(fault)?;
         Ok(())
     }
 
@@ -116,31 +317,91 @@ impl Page {
         tokens: &[u8],
         element: Element<'_>,
         context: Context<'_>,
-    ) -> Result<Option<usize>, NoMemory> {
+    ) -> Result<Option<usize>, NoMemory>
+        ensures kept { OnOk result (KeepsGroups self.old.groups self.new.groups) }
+        ensures nearest { (columns : Names)
+            → HasColumns self.old.groups context.entry.tables.group columns
+            → IfOk result (λ group. HasColumns self.new.groups group
+            (columns_within (words_of tokens.now) (walk_spec.inside_of element.entry) columns)) }
+        ensures text { self.new.text ≡ self.old.text }
+        ensures faults { self.new.faults ≡ self.old.faults }
+    {
         self.groups
             .enter(alloc, tokens, element.inside, context.tables.group)
     }
+}
 
-    // Writes the start of a link around the content, if it leads anywhere, and the label in the
-    // place of content that is not there. Tells whether there is a link.
-    fn open_content(
-        &mut self,
-        element: Element<'_>,
-        label: &str,
-        href: Option<&str>,
-    ) -> Result<bool, AllocError> {
-        if let Some(href) = href {
-            append_link(&mut self.text, href)?;
-        }
-        if element.is_empty() {
-            append_html(&mut self.text, label)?;
-        }
-        Ok(href.is_some())
+// Whether a text has no word.
+fn has_no_token(tokens: &[u8]) -> bool
+    ensures { result ≡ (length (words_of tokens.now) == 0) }
+{
+    split_word(tokens).is_none()
+}
+
+// Appends the start of a link around the content, if it leads anywhere, and the label in the place
+// of content that is not there. Tells whether there is a link.
+fn open_content(
+    out: &mut Text,
+    element: Element<'_>,
+    label: &str,
+    href: Option<&str>,
+) -> Result<bool, AllocError>
+    ensures linked { IfOk result (λ linked. linked ≡ is_some (option_copied href.entry)) }
+    ensures begun { OnOk result (out.new ≡ out.old ++ opened_spec.content_begun
+        (option_copied href.entry) (walk_spec.inside_of element.entry) label.now) }
+{
+    begin_link(out, href)?;
+    append_label(out, element, label)?;
+    Ok(href.is_some())
+}
+
+fn begin_link(out: &mut Text, href: Option<&str>) -> Result<(), AllocError>
+    ensures { OnOk result (out.new
+        ≡ out.old ++ opened_spec.link_begun (option_copied href.entry)) }
+{
+    match href {
+        Some(href) => append_link(out, href),
+        None => Ok(()),
+    }
+}
+
+fn append_label(out: &mut Text, element: Element<'_>, label: &str) -> Result<(), AllocError>
+    ensures { OnOk result (out.new ≡ out.old
+        ++ opened_spec.label_in (walk_spec.inside_of element.entry) label.now) }
+{
+    if element.is_empty() {
+        append_html(out, label)
+    } else {
+        Ok(())
+    }
+}
+
+// Appends what stands behind the content of an element.
+fn append_closing(out: &mut Text, opened: Opened<'_>) -> Result<(), AllocError>
+    ensures { OnOk result (out.new ≡ out.old ++ opened_spec.closing opened.entry) }
+{
+    end_link(out, opened.is_linked)?;
+    match opened.name {
+        Some(name) => append_end(out, name),
+        None => Ok(()),
+    }
+}
+
+fn end_link(out: &mut Text, is_linked: bool) -> Result<(), AllocError>
+    ensures { OnOk result (out.new ≡ out.old ++ opened_spec.link_ended is_linked) }
+{
+    if is_linked {
+        append_end(out, "a")
+    } else {
+        Ok(())
     }
 }
 
 // What the link around the content leads to: a reference is a link itself.
-fn href_around(form: Form, link: Link<'_>) -> Option<&str> {
+fn href_within(form: Form, link: Link<'_>) -> Option<&str>
+    ensures { option_copied result
+        ≡ opened_spec.href_within (form_shown_of form) (option_copied link.entry.href) }
+{
     match form {
         Form::Reference => None,
         _ => link.href,

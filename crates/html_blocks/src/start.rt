@@ -1,116 +1,119 @@
-//! The start tags of elements, and elements whose content is not shown.
+//! The start tags of elements.
 
-ghost use Rattle.std.specs.Prelude.{◌≡◌, ◌++◌, OnOk, codes};
+ghost use Rattle.std.specs.Prelude.{◌≡◌, ◌++◌, [], ℕ, List, Some, None, OnOk, codes, unwrap_or, if◌then◌else◌};
 ghost use Rattle.std.specs.Option.{option_copied};
+ghost use Rattle.doc_elements.specs.Walk as elements_walk;
+ghost use Rattle.html_blocks.specs.Opened as opened_spec;
+ghost use Rattle.html_blocks.specs.Walk as walk_spec;
+ghost use Rattle.html_forms.specs.Shown.{form_shown_of};
+ghost use Rattle.html_tables.specs.Walk.{HasColumns};
+ghost use Rattle.map_spec.specs.Elements as elements_spec;
 ghost use Rattle.page_spec.specs.Blocks as blocks_spec;
 
 use crate::context::Context;
 use crate::element::Element;
 use crate::link::Link;
-use crate::page::Page;
 use crate::tags::{append_attribute, append_if_some, append_name, append_span};
-use dita_doc::{FaultCode, NoMemory, Node, Text, append_html_value};
-use doc_elements::{fault_at, first_child, plain_text};
+use dita_doc::{Node, Siblings, Text, append_html_value};
+use doc_elements::{first_child, plain_text};
 use html_forms::Form;
-use html_tables::rows_spanned;
+use html_tables::{Groups, rows_spanned};
 use std::alloc::{AllocError, Global};
 
-impl Page {
-    /// Writes the start tag of an element of this form and name.
-    pub fn append_start(
-        &mut self,
-        alloc: Global,
-        name: &str,
-        form: Form,
-        element: Element<'_>,
-        link: Link<'_>,
-        context: Context<'_>,
-    ) -> Result<(), NoMemory> {
-        let topic = match form {
-            Form::Topic => None,
-            _ => Some(context.topic),
-        };
-        append_name(&mut self.text, name, topic, element.node)?;
-        match form {
-            Form::Tag(_, class) => append_if_some(&mut self.text, "class", class)?,
-            Form::Note => append_note_class(&mut self.text, element.node)?,
-            Form::Reference => append_href(&mut self.text, link)?,
-            Form::Cell => self.append_spans(alloc, element.node, context)?,
-            _ => {}
-        }
-        self.text.append(">")?;
-        Ok(())
-    }
+/// Appends the start tag of an element of this form and name.
+pub(crate) fn append_start(
+    alloc: Global,
+    out: &mut Text,
+    groups: &Groups,
+    name: &str,
+    form: Form,
+    element: Element<'_>,
+    link: Link<'_>,
+    context: Context<'_>,
+) -> Result<(), AllocError>
+    ensures { (around : blocks_spec.Context) → walk_spec.IsWithin groups.now context.entry around
+        → OnOk result (out.new ≡ out.old ++ opened_spec.start_by around
+        (option_copied link.entry.href) (walk_spec.element_of element.entry) name.now
+        (form_shown_of form)) }
+{
+    append_name(out, name, topic_before(form, context), element.node)?;
+    append_class(out, form, element.node)?;
+    append_more(alloc, out, groups, form, element.node, link, context)?;
+    out.append(">")
+}
 
-    /// Writes an element of a form whose content is not shown: an image, a fault, or nothing.
-    pub fn append_whole(
-        &mut self,
-        alloc: Global,
-        form: Form,
-        element: Element<'_>,
-        link: Link<'_>,
-        context: Context<'_>,
-    ) -> Result<(), NoMemory> {
-        match form {
-            Form::Image => self.append_image(alloc, element, link, context),
-            Form::Foreign => self.append_foreign(alloc, element),
-            _ => Ok(()),
-        }
-    }
-
-    // Writes the rows and columns that a cell spans.
-    fn append_spans(
-        &mut self,
-        alloc: Global,
-        cell: &Node,
-        context: Context<'_>,
-    ) -> Result<(), AllocError> {
-        let columns = self.groups.columns_spanned(context.tables.group, cell);
-        append_span(alloc, &mut self.text, "rowspan", rows_spanned(cell))?;
-        append_span(alloc, &mut self.text, "colspan", columns)
-    }
-
-    // Writes an image, with the text of its attribute or else of its first child for that.
-    fn append_image(
-        &mut self,
-        alloc: Global,
-        image: Element<'_>,
-        link: Link<'_>,
-        context: Context<'_>,
-    ) -> Result<(), NoMemory> {
-        append_name(&mut self.text, "img", Some(context.topic), image.node)?;
-        append_attribute(&mut self.text, "src", link.href.unwrap_or(""))?;
-        if let Some(text) = image.node.value_of("alt") {
-            append_attribute(&mut self.text, "alt", text)?;
-        } else if let Some((_, inside)) = first_child(image.inside, "topic/alt") {
-            append_attribute(&mut self.text, "alt", plain_text(alloc, inside)?.as_str())?;
-        } else {
-            append_attribute(&mut self.text, "alt", "")?;
-        }
-        self.text.append(">")?;
-        Ok(())
-    }
-
-    // Appends the fault of an element of a foreign vocabulary.
-    fn append_foreign(&mut self, alloc: Global, element: Element<'_>) -> Result<(), NoMemory> {
-        let Some(origin) = element.origin() else {
-            return Ok(());
-        };
-        let node = element.node;
-        self.faults.push(fault_at(alloc, origin, node, FaultCode::Foreign, node.text.as_str())?)?;
-        Ok(())
+// The id of the topic that stands before the id of an element; a topic has none.
+fn topic_before<'a>(form: Form, context: Context<'a>) -> Option<&'a str>
+    ensures { option_copied result ≡ (if opened_spec.is_topic (form_shown_of form) then None
+        else Some context.entry.topic.now) }
+{
+    match form {
+        Form::Topic => None,
+        _ => Some(context.topic),
     }
 }
 
-// Appends the class of a note, with its type if it says one.
-fn append_note_class(out: &mut Text, note: &Node) -> Result<(), AllocError> {
-    out.append(" class=\"note")?;
-    let kind = note.value_of("type").unwrap_or("");
-    if !kind.is_empty() {
-        out.append(" ")?;
-        append_html_value(out, kind)?;
+// Appends the class of an element of this form, if it has one.
+fn append_class(out: &mut Text, form: Form, element: &Node) -> Result<(), AllocError>
+    ensures { (name : List ℕ) → OnOk result (out.new ≡ out.old
+        ++ blocks_spec.attribute_text (codes "class") (blocks_spec.if_some_text
+        (opened_spec.class_by (elements_walk.element_of name element.now) (form_shown_of form)))) }
+{
+    match form {
+        Form::Tag(_, class) => append_if_some(out, "class", class),
+        Form::Note => append_note_class(out, kind_of(element)),
+        _ => Ok(()),
     }
+}
+
+// The type that a note says; empty if it says none.
+fn kind_of(note: &Node) -> &str
+    ensures { (name : List ℕ) → result.now ≡ unwrap_or (elements_spec.attribute (codes "type")
+        (elements_walk.element_of name note.now)) [] }
+{
+    note.value_of("type").unwrap_or("")
+}
+
+// Appends the class of a note of this type.
+fn append_note_class(out: &mut Text, kind: &str) -> Result<(), AllocError>
+    ensures { OnOk result (out.new ≡ out.old ++ opened_spec.note_text kind.now) }
+{
+    out.append(" class=\"note")?;
+    append_kind(out, kind)?;
     out.append("\"")
+}
+
+fn append_kind(out: &mut Text, kind: &str) -> Result<(), AllocError>
+    ensures { OnOk result (out.new ≡ out.old ++ opened_spec.kind_text kind.now) }
+{
+    if kind.is_empty() {
+        return Ok(());
+    }
+    out.append(" ")?;
+    append_html_value(out, kind)
+}
+
+// Appends what stands behind the id and the class of an element of this form.
+fn append_more(
+    alloc: Global,
+    out: &mut Text,
+    groups: &Groups,
+    form: Form,
+    element: &Node,
+    link: Link<'_>,
+    context: Context<'_>,
+) -> Result<(), AllocError>
+    ensures { (name : List ℕ) (around : blocks_spec.Context)
+        → HasColumns groups.now context.entry.tables.group around.columns
+        → OnOk result (out.new ≡ out.old ++ opened_spec.more_by around
+        (option_copied link.entry.href) (elements_walk.element_of name element.now)
+        (form_shown_of form)) }
+{
+    match form {
+        Form::Reference => append_href(out, link),
+        Form::Cell => append_spans(alloc, out, groups, element, context),
+        _ => Ok(()),
+    }
 }
 
 fn append_href(out: &mut Text, link: Link<'_>) -> Result<(), AllocError>
@@ -120,5 +123,68 @@ fn append_href(out: &mut Text, link: Link<'_>) -> Result<(), AllocError>
     match link.href {
         Some(href) => append_attribute(out, "href", href),
         None => Ok(()),
+    }
+}
+
+// Appends the rows and columns that a cell spans.
+fn append_spans(
+    alloc: Global,
+    out: &mut Text,
+    groups: &Groups,
+    cell: &Node,
+    context: Context<'_>,
+) -> Result<(), AllocError>
+    ensures { (name : List ℕ) (around : blocks_spec.Context)
+        → HasColumns groups.now context.entry.tables.group around.columns
+        → OnOk result (out.new ≡ out.old
+        ++ blocks_spec.spans around (elements_walk.element_of name cell.now)) }
+{
+    let rows = rows_spanned(cell);
+    let columns = groups.columns_spanned(context.tables.group, cell);
+    append_span(alloc, out, "rowspan", rows)?;
+    append_span(alloc, out, "colspan", columns)
+}
+
+/// Appends an image, with the text of its attribute or else of its first child for that.
+pub(crate) fn append_image(
+    alloc: Global,
+    out: &mut Text,
+    image: Element<'_>,
+    link: Link<'_>,
+    context: Context<'_>,
+) -> Result<(), AllocError>
+    ensures { (around : blocks_spec.Context) → context.entry.topic.now ≡ around.topic
+        → OnOk result (out.new ≡ out.old ++ opened_spec.image_by around
+        (option_copied link.entry.href) (walk_spec.element_of image.entry)
+        (walk_spec.inside_of image.entry)) }
+{
+    append_name(out, "img", Some(context.topic), image.node)?;
+    append_attribute(out, "src", link.href.unwrap_or(""))?;
+    append_alt(alloc, out, image)?;
+    out.append(">")
+}
+
+fn append_alt(alloc: Global, out: &mut Text, image: Element<'_>) -> Result<(), AllocError>
+    ensures { OnOk result (out.new ≡ out.old ++ blocks_spec.attribute_text (codes "alt")
+        (Some (blocks_spec.alt_of (walk_spec.element_of image.entry)
+        (walk_spec.inside_of image.entry)))) }
+{
+    match image.node.value_of("alt") {
+        Some(text) => append_attribute(out, "alt", text),
+        None => append_child_alt(alloc, out, image.inside),
+    }
+}
+
+fn append_child_alt(alloc: Global, out: &mut Text, inside: Siblings<'_>) -> Result<(), AllocError>
+    ensures { OnOk result (out.new ≡ out.old ++ blocks_spec.attribute_text (codes "alt")
+        (Some (elements_spec.text_of (elements_spec.first_child (codes "topic/alt")
+        (walk_spec.content_of inside.entry))))) }
+{
+    match first_child(inside, "topic/alt") {
+        Some((_, held)) => {
+            let text = plain_text(alloc, held)?;
+            append_attribute(out, "alt", text.as_str())
+        }
+        None => append_attribute(out, "alt", ""),
     }
 }

@@ -3,7 +3,7 @@ use Rattle.std.proofs.lemmas.Fn.{always_returns_same}
 use Rattle.std.specs.Ordering.{nat_cmp}
 use Rattle.dita_doc.specs.declared.content.Anchor.{Anchor}
 use Rattle.html_blocks.proofs.AnchorLaws.{got_anchor, no_anchor}
-use Rattle.html_blocks.proofs.link.anchor_at.Goals as goal
+use Rattle.html_blocks.proofs.link.anchor_halving.Goals as goal
 
 pub returns-in-Ok : goal.returns-in-Ok
 returns-in-Ok c = λ rise.

@@ -1,0 +1,118 @@
+-- In which document an href was written does not matter to what is shown.
+use Rattle.std.specs.Prelude.{◌≡◌, ◌+◌, ◌++◌, ℕ, false, List, [], Option, Some, None, codes, unwrap_or, if◌then◌else◌}
+use Rattle.std.proofs.Common.{refl, sym, ap, ◌∙◌}
+use Rattle.std.proofs.Math.Path.{fun_ext}
+use Rattle.dita_doc.specs.HtmlEscapes.{escaped}
+use Rattle.dita_doc.specs.declared.content.Anchor.{Anchor}
+use Rattle.dita_doc.specs.declared.content.Resolved.{Resolved}
+use Rattle.dita_doc.specs.declared.fact.Html.{Html}
+use Rattle.html_blocks.specs.Body.{AreNodesOf, with_own_hrefs}
+use Rattle.html_blocks.proofs.BareLaws.{bare, bare_element, columns_same, text_same}
+use Rattle.map_spec.specs.Elements.{attribute, class_faults, has_types}
+use Rattle.map_spec.specs.Written.{Element, Written, End, Chars, Node, size}
+use Rattle.page_spec.specs.Blocks as blocks
+use Rattle.page_spec.specs.Blocks.{Context, Form, alt_of, attribute_text, body_html, columns_in, content_or_label, element_shown, form_shown, href_at, linked_at, outside, row_for, row_shown, shown, shown_beside, shown_from, shown_with, start_of, within_type}
+use Rattle.page_spec.specs.Tables.{is_group}
+use Rattle.readers.specs.Named.{named_tree}
+
+own_bare : (nodes : Written) → bare (with_own_hrefs nodes) ≡ bare nodes
+own_bare End = refl
+own_bare (Chars text doc rest) = ap (Chars text []) (own_bare rest)
+own_bare (Node element inside rest) =
+    ap (λ held. Node (bare_element element) held (bare (with_own_hrefs rest))) (own_bare inside)
+    ∙ ap (Node (bare_element element) (bare inside)) (own_bare rest)
+
+own_size : (nodes : Written) → size (with_own_hrefs nodes) ≡ size nodes
+own_size End = refl
+own_size (Chars text doc rest) = ap (λ n. 1 + n) (own_size rest)
+own_size (Node element inside rest) =
+    ap (λ n. 1 + (n + size (with_own_hrefs rest))) (own_size inside)
+    ∙ ap (λ n. 1 + (size inside + n)) (own_size rest)
+
+-- content, or the label in its place
+own_label : (anchors : List Anchor) (place : ℕ) (inside : Written) (content : Html)
+    → content_or_label anchors place (with_own_hrefs inside) content ≡ content_or_label anchors place inside content
+own_label anchors place End content = refl
+own_label anchors place (Chars text doc rest) content = refl
+own_label anchors place (Node element inside rest) content = refl
+
+own_columns : (element : Element) (inside : Written) (around : Context)
+    → columns_in element (with_own_hrefs inside) around ≡ columns_in element inside around
+own_columns element inside around =
+    ap (λ names. if is_group element then record around { columns = names } else around)
+    (columns_same (with_own_hrefs inside) inside (own_bare inside))
+
+own_alt : (element : Element) (inside : Written) → alt_of element (with_own_hrefs inside) ≡ alt_of element inside
+own_alt element inside = ap (λ text. unwrap_or (attribute (codes "alt") element) text)
+    (text_same (codes "topic/alt") (with_own_hrefs inside) inside (own_bare inside))
+
+module _ (around : Context) (anchors : List Anchor) (place : ℕ) (element : Element) (inside : Written)
+    (content : Context → Html) where
+  held_same : (context : Context)
+      → content_or_label anchors place (with_own_hrefs inside) (content (columns_in element (with_own_hrefs inside) context))
+      ≡ content_or_label anchors place inside (content (columns_in element inside context))
+  held_same context =
+      own_label anchors place inside (content (columns_in element (with_own_hrefs inside) context))
+      ∙ ap (λ within. content_or_label anchors place inside (content within)) (own_columns element inside context)
+
+  form_same : (held : Html) (form : Form)
+      → form_shown around anchors place element (with_own_hrefs inside) held form
+      ≡ form_shown around anchors place element inside held form
+  form_same held (blocks.Tag name class) = refl
+  form_same held blocks.Topic = refl
+  form_same held blocks.Title = refl
+  form_same held blocks.Note = refl
+  form_same held blocks.Reference = refl
+  form_same held blocks.Image = ap (λ alt. shown (start_of around false element (codes "img") []
+      (attribute_text (codes "src") (Some (unwrap_or (href_at anchors place) []))
+      ++ attribute_text (codes "alt") (Some alt)))) (own_alt element inside)
+  form_same held blocks.Cell = refl
+  form_same held blocks.SimpleCell = refl
+  form_same held blocks.Left = refl
+  form_same held blocks.Foreign = refl
+
+  row_same : (row : Option (List ℕ × Form))
+      → row_shown around anchors place element (with_own_hrefs inside) content row
+      ≡ row_shown around anchors place element inside content row
+  row_same None = ap (linked_at anchors place) (held_same around)
+  row_same (Some row) =
+      form_same (content_or_label anchors place (with_own_hrefs inside)
+      (content (columns_in element (with_own_hrefs inside) (within_type row.0 element around)))) row.1
+      ∙ ap (λ held. form_shown around anchors place element inside held row.1) (held_same (within_type row.0 element around))
+
+  inside_same : element_shown around anchors place element (with_own_hrefs inside) content
+      ≡ element_shown around anchors place element inside content
+  inside_same = ap (λ html. if has_types element then html else shown_with (class_faults element) (content around))
+      (row_same (row_for element))
+
+  -- nor does it to the element itself
+  element_same : element_shown around anchors place (record element { href_doc = element.doc }) (with_own_hrefs inside) content
+      ≡ element_shown around anchors place element inside content
+  element_same = inside_same
+
+own_shown : (anchors : List Anchor) (nodes : Written) (around : Context) (place : ℕ)
+    → shown_from around anchors place (with_own_hrefs nodes) ≡ shown_from around anchors place nodes
+own_shown anchors End around place = refl
+own_shown anchors (Chars text doc rest) around place =
+    ap (shown_beside (shown (escaped text))) (own_shown anchors rest around (place + 1))
+own_shown anchors (Node element inside rest) around place =
+    let own : Element = record element { href_doc = element.doc } in
+    let held = with_own_hrefs inside in
+    let behind = shown_from around anchors (place + 1 + size held) (with_own_hrefs rest) in
+    ap (λ content. shown_beside (element_shown around anchors place own held content) behind)
+    (fun_ext (λ within. own_shown anchors inside within (place + 1)))
+    ∙ ap (λ html. shown_beside html behind)
+    (element_same around anchors place element inside (λ within. shown_from within anchors (place + 1) inside))
+    ∙ ap (λ n. shown_beside (element_shown around anchors place element inside
+    (λ within. shown_from within anchors (place + 1) inside))
+    (shown_from around anchors (place + 1 + n) (with_own_hrefs rest))) (own_size inside)
+    ∙ ap (shown_beside (element_shown around anchors place element inside
+    (λ within. shown_from within anchors (place + 1) inside)))
+    (own_shown anchors rest around (place + 1 + size inside))
+
+-- what is shown of a body is shown of each content that is its own
+pub body_shown : (body : Resolved) (nodes : Written) (anchors : List Anchor) (html : Html) → AreNodesOf body nodes
+    → html ≡ shown_from outside anchors 0 (named_tree body.doc) → html ≡ body_html anchors nodes
+unfolding body_html
+body_shown body nodes anchors html are is =
+    is ∙ ap (shown_from outside anchors 0) (sym are) ∙ own_shown anchors nodes outside 0

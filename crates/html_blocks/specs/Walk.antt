@@ -1,0 +1,49 @@
+-- What the siblings and the elements of a walk are, and where they stand.
+use Rattle.std.specs.Prelude.{◌≡◌, ◌+◌, ℕ, Bool, true, false, List}
+use Rattle.dita_doc.specs.Siblings.{document}
+use Rattle.dita_doc.specs.declared.content.Anchor.{Anchor}
+use Rattle.dita_doc.specs.declared.fact.Html.{Html}
+use Rattle.dita_doc.specs.declared.siblings.Siblings.{Siblings}
+use Rattle.html_blocks.specs.Shown.{around_shown, counted}
+use Rattle.html_blocks.specs.declared.context.Context.{Context}
+use Rattle.html_blocks.specs.declared.element.Element.{Element}
+use Rattle.html_tables.specs.Walk.{IsContext, content_named, element_named}
+use Rattle.html_tables.specs.declared.groups.Groups.{Groups}
+use Rattle.map_spec.specs.Written as written
+use Rattle.map_spec.specs.Written.{Written}
+use Rattle.page_spec.specs.Blocks as blocks
+use Rattle.page_spec.specs.Blocks.{element_shown, shown_from}
+
+-- the names of the documents in which the nodes of a document were written
+abbrev pub names_of : Siblings → List (List ℕ)
+names_of siblings = (document siblings).origins
+
+abbrev pub content_of : Siblings → Written
+content_of siblings = content_named (names_of siblings) siblings
+
+abbrev pub element_of : Element → written.Element
+element_of element = element_named (names_of element.inside) element.node.now
+
+abbrev pub inside_of : Element → Written
+inside_of element = content_of element.inside
+
+abbrev pub is_empty : Written → Bool
+is_empty written.End = true
+is_empty (written.Chars text doc rest) = false
+is_empty (written.Node element inside rest) = false
+
+-- where an element stands, as the definition has it; a depth has 32 bits at most
+pub record IsWithin (groups : Groups) (context : Context) (around : blocks.Context) : Type 0 where
+  pub topic : context.topic.now ≡ around.topic
+  pub depth : context.depth ≡ counted around.depth
+  pub nearest : around_shown context.around ≡ around.around
+  pub tables : IsContext groups context.tables around
+
+-- what an element holds, as it is shown where it stands then
+abbrev pub content_shown : List Anchor → Element → blocks.Context → Html
+content_shown anchors element within = shown_from within anchors (element.place + 1) (inside_of element)
+
+-- an element as it is shown with what it holds
+abbrev pub whole_shown : blocks.Context → List Anchor → Element → Html
+whole_shown around anchors element = element_shown around anchors element.place (element_of element)
+    (inside_of element) (content_shown anchors element)
