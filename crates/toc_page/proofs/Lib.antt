@@ -1,1 +1,12 @@
 pub mod Walking
+pub mod TreeTexts
+pub mod BelowLaws
+pub mod WalkLaws
+pub mod ItemLaws
+pub mod GroupedLaws
+pub mod FaultLaws
+pub mod NameLaws
+pub mod NodeLaws
+pub mod TextLaws
+pub mod LabelLaws
+pub mod StackLaws

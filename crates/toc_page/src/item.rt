@@ -1,18 +1,33 @@
 //! The items, each with its label and its link.
 
-ghost use Rattle.std.specs.Prelude.{◌≡◌};
-ghost use Rattle.readers.specs.Founded.{Grows};
+ghost use Rattle.std.specs.Prelude.{◌≡◌, ◌++◌, [], codes, false, slice_get, unwrap_or, OnOk, Some};
+ghost use Rattle.std.specs.List.{flat_map};
+ghost use Rattle.std.specs.Option.{option_copied};
+ghost use Rattle.dita_doc.specs.HtmlEscapes as html_escapes_spec;
+ghost use Rattle.ditaval_rules.specs.Verdict as verdict_spec;
+ghost use Rattle.page_spec.specs.Blocks as blocks_spec;
+ghost use Rattle.page_spec.specs.Contents as contents_spec;
+ghost use Rattle.page_spec.specs.Links as links_spec;
+ghost use Rattle.plan_nodes.specs.Preorder as preorder_spec;
+ghost use Rattle.reader_spec.specs.World.{World};
+ghost use Rattle.readers.specs.Documents as documents_spec;
+ghost use Rattle.readers.specs.Documents.{AsksOnly};
+ghost use Rattle.readers.specs.Founded.{Grows, StaysFounded};
+ghost use Rattle.readers.specs.Told.{Agrees};
+ghost use Rattle.toc_page.specs.Made as made_spec;
+ghost use Rattle.toc_page.specs.Opened as opened_spec;
+ghost use Rattle.toc_page.specs.Toc as spec;
 
-use crate::keys::is_keyed;
+use crate::href::href_of;
+use crate::label::label_of;
 use crate::list::OpenItems;
 use crate::titles::navtitle_of;
 use dita_doc::{
-    Attribute, Context, Name, NoMemory, PageId, Plan, PlanKind, PlanNode, Target, Text,
-    append_html, append_html_value,
+    Attribute, NoMemory, Plan, PlanKind, PlanNode, Target, Text, append_html, append_html_value,
 };
 use html_page::append_anchor;
 use key_scopes::ScopeTable;
-use plan_nodes::{Homes, copy_affixes, copy_names};
+use plan_nodes::Homes;
 use readers::Asker;
 use std::alloc::{AllocError, Global};
 
@@ -34,189 +49,179 @@ pub(crate) fn append_items<A: Asker>(
     toc: Toc<'_>,
     out: &mut Text,
 ) -> Result<(), NoMemory>
+    ensures known { (world : World) → Agrees world (A.told asker.new)
+        → spec.IsToc world toc.entry
+        → (A.stand asker.old).setting.pages ≡ toc.entry.plan.now.pages
+        → preorder_spec.IsTree toc.entry.plan.now.nodes → OnOk result (out.new ≡ out.old
+        ++ contents_spec.list_text (contents_spec.items world toc.entry.plan.now)) }
     ensures stand { A.stand asker.new ≡ A.stand asker.old }
+    ensures founded { StaysFounded (made_spec.contents_names toc.entry.plan.now)
+        (A.told asker.old) (A.told asker.new) }
+    ensures asks { AsksOnly documents_spec.nothing [] (A.told asker.old) (A.told asker.new) }
     ensures grows { Grows (A.told asker.old) (A.told asker.new) }
 {
-    let mut open = OpenItems::new(alloc);
-    for (at, node) in toc.plan.nodes.as_slice().iter().enumerate().skip(1) {
-        if !may_be_item(toc, at, node) {
-            continue;
-        }
-        let navtitle = navtitle_of(alloc, toc.homes, at)?;
-        let target = toc.plan.targets.as_slice().get(at);
-        if is_nothing(target) && navtitle.is_empty() {
-            continue;
-        }
-        open.open(out, at, node.end)?;
-        append_data(out, node.cascaded.as_slice())?;
-        let label = label_of(alloc, asker, toc, at, node, navtitle)?;
-        match href_of(alloc, asker, toc, at, node)? {
-            Some(href) => append_anchor(out, href.as_str(), label.as_str())?,
-            None => append_html(out, label.as_str())?,
-        }
+    let mut items = OpenItems::new(alloc);
+    let count = toc.plan.nodes.len();
+    for at in 1..count {
+        append_node(alloc, asker, toc, at, &mut items, out)?;
     }
-    open.close(out)?;
+    items.close(out)?;
     Ok(())
 }
 
-// Whether a node is an item, if it has a target or a title.
-fn may_be_item(toc: Toc<'_>, at: usize, node: &PlanNode) -> bool {
-    let is_in_table = toc.in_tables.get(at).copied().unwrap_or(false);
-    node.kind == PlanKind::Reference
-        && !is_in_table
-        && has_cascaded(node, "processing-role", "normal")
-        && !has_cascaded(node, "toc", "no")
-}
-
-fn has_cascaded(node: &PlanNode, name: &str, value: &str) -> bool {
-    node.cascaded.as_slice().iter().any(|given| given.name.as_str() == name
-        && given.value.as_str() == value)
-}
-
-fn is_nothing(target: Option<&Target>) -> bool {
-    matches!(target, None | Some(Target::Nothing))
-}
-
-// Appends the start tag of an item, with the conditional attributes of its node.
-fn append_data(out: &mut Text, cascaded: &[Attribute]) -> Result<(), AllocError> {
-    out.append("<li")?;
-    for given in cascaded {
-        if is_conditional(given.name.as_str()) {
-            out.append(" data-")?;
-            out.append(given.name.as_str())?;
-            out.append("=\"")?;
-            append_html_value(out, given.value.as_str())?;
-            out.append("\"")?;
-        }
-    }
-    out.append(">")
-}
-
-fn is_conditional(name: &str) -> bool {
-    matches!(
-        name,
-        "audience" | "platform" | "product" | "otherprops" | "props" | "deliveryTarget"
-    )
-}
-
-// The label of an item. The title that the node says of itself counts if it is locked, or if the
-// target is no document of ours.
+// Appends the item that the node at this place is, up to the items below it, if it is one.
 #[tactic(auto, using(crate::proofs::Walking::walking))]
-fn label_of<A: Asker>(
+fn append_node<A: Asker>(
+    alloc: Global,
+    asker: &mut A,
+    toc: Toc<'_>,
+    at: usize,
+    items: &mut OpenItems,
+    out: &mut Text,
+) -> Result<(), NoMemory>
+    ensures known { (world : World) → Agrees world (A.told asker.new)
+        → spec.IsToc world toc.entry
+        → (A.stand asker.old).setting.pages ≡ toc.entry.plan.now.pages
+        → OnOk result (spec.IsStep world toc.entry.plan.now at items.old items.new out.old
+        out.new) }
+    ensures stand { A.stand asker.new ≡ A.stand asker.old }
+    ensures founded { StaysFounded (made_spec.contents_names toc.entry.plan.now)
+        (A.told asker.old) (A.told asker.new) }
+    ensures asks { AsksOnly documents_spec.nothing [] (A.told asker.old) (A.told asker.new) }
+    ensures grows { Grows (A.told asker.old) (A.told asker.new) }
+{
+    let Some(node) = node_at(toc.plan, at) else {
+        return Ok(());
+    };
+    if !may_be_item(node, is_within(toc.in_tables, at)) {
+        return Ok(());
+    }
+    let navtitle = navtitle_of(alloc, toc.homes, at)?;
+    if !is_told(toc, at, &navtitle) {
+        return Ok(());
+    }
+    items.begin_item(out, at, node.end)?;
+    append_front(alloc, asker, toc, at, node, navtitle, out)?;
+    Ok(())
+}
+
+fn node_at(plan: &Plan, at: usize) -> Option<&PlanNode>
+    ensures { option_copied result ≡ slice_get plan.now.nodes at }
+{
+    plan.nodes.as_slice().get(at)
+}
+
+// Appends an item up to the items below it.
+#[tactic(auto, using(crate::proofs::Walking::walking))]
+fn append_front<A: Asker>(
     alloc: Global,
     asker: &mut A,
     toc: Toc<'_>,
     at: usize,
     node: &PlanNode,
     navtitle: Text,
-) -> Result<Text, NoMemory>
+    out: &mut Text,
+) -> Result<(), NoMemory>
+    ensures known { (world : World) → Agrees world (A.told asker.new)
+        → spec.IsToc world toc.entry
+        → (A.stand asker.old).setting.pages ≡ toc.entry.plan.now.pages
+        → slice_get toc.entry.plan.now.nodes at ≡ Some node.now
+        → navtitle ≡ contents_spec.navtitle_of world node.now → OnOk result (out.new
+        ≡ out.old ++ spec.item_front world toc.entry.plan.now at node.now) }
     ensures stand { A.stand asker.new ≡ A.stand asker.old }
+    ensures founded { StaysFounded (made_spec.contents_names toc.entry.plan.now)
+        (A.told asker.old) (A.told asker.new) }
+    ensures asks { AsksOnly documents_spec.nothing [] (A.told asker.old) (A.told asker.new) }
     ensures grows { Grows (A.told asker.old) (A.told asker.new) }
 {
-    let target = toc.plan.targets.as_slice().get(at);
-    if !navtitle.is_empty() && (!is_local(target) || is_locked(toc, at)) {
-        return Ok(navtitle);
-    }
-    match target {
-        Some(Target::Local(name, _)) => asker.title(alloc, name, &Text::new(alloc)),
-        Some(Target::File(name, rest)) => file_label(alloc, toc, at, node, name, rest),
-        Some(Target::Other(value)) => Ok(value.clone()?),
-        Some(Target::Nothing) | None => Ok(Text::new(alloc)),
-    }
+    append_start(out, node.cascaded.as_slice())?;
+    let label = label_of(alloc, asker, toc, at, node, navtitle)?;
+    let href = href_of(alloc, asker, toc.plan, at, node)?;
+    Ok(append_linked(out, href, &label)?)
 }
 
-fn is_local(target: Option<&Target>) -> bool {
-    matches!(target, Some(Target::Local(_, _)))
-}
-
-fn is_locked(toc: Toc<'_>, at: usize) -> bool {
-    toc.homes.value(at, "locktitle") == Some("yes")
-}
-
-// The label of a file: the value as it was written, or its name if a key gives the file.
-fn file_label(
-    alloc: Global,
-    toc: Toc<'_>,
-    at: usize,
-    node: &PlanNode,
-    name: &Name,
-    rest: &Text,
-) -> Result<Text, NoMemory> {
-    if is_keyed(toc.keys, toc.homes, at, node) {
-        return file_href(alloc, name, rest);
-    }
-    Ok(Text::from_str(alloc, toc.homes.value(at, "href").unwrap_or(""))?)
-}
-
-// What an item leads to: the page of its document, or a target that is no document of ours.
-#[tactic(auto, using(crate::proofs::Walking::walking))]
-fn href_of<A: Asker>(
-    alloc: Global,
-    asker: &mut A,
-    toc: Toc<'_>,
-    at: usize,
-    node: &PlanNode,
-) -> Result<Option<Text>, NoMemory>
-    ensures stand { A.stand asker.new ≡ A.stand asker.old }
-    ensures grows { Grows (A.told asker.old) (A.told asker.new) }
+// Whether a node is an item, if it has a target or a title.
+fn may_be_item(node: &PlanNode, is_in_table: bool) -> bool
+    ensures { result ≡ spec.may_be_item is_in_table node.now }
 {
-    match toc.plan.targets.as_slice().get(at) {
-        Some(Target::Local(name, _)) => page_href(alloc, asker, toc.plan, node, name),
-        Some(Target::File(name, rest)) => Ok(Some(file_href(alloc, name, rest)?)),
-        Some(Target::Other(value)) => Ok(Some(value.clone()?)),
-        Some(Target::Nothing) | None => Ok(None),
-    }
+    node.kind == PlanKind::Reference
+        && !is_in_table
+        && has_cascaded(node, "processing-role", "normal")
+        && !has_cascaded(node, "toc", "no")
 }
 
-fn file_href(alloc: Global, name: &Name, rest: &Text) -> Result<Text, NoMemory> {
-    let mut href = Text::from_str(alloc, name.as_str())?;
-    href.append(rest.as_str())?;
-    Ok(href)
-}
-
-// The name of the page that a document has for a node, if it has one.
-#[tactic(auto, using(crate::proofs::Walking::walking))]
-fn page_href<A: Asker>(
-    alloc: Global,
-    asker: &mut A,
-    plan: &Plan,
-    node: &PlanNode,
-    name: &Name,
-) -> Result<Option<Text>, NoMemory>
-    ensures stand { A.stand asker.new ≡ A.stand asker.old }
-    ensures grows { Grows (A.told asker.old) (A.told asker.new) }
+// Whether a place stands in a relationship table, as the list for all places tells it.
+fn is_within(in_tables: &[bool], at: usize) -> bool
+    ensures { result ≡ unwrap_or (slice_get in_tables.now at) false }
 {
-    let context = context_of(alloc, plan, node, name)?;
-    let Some(page) = asker.page_of(alloc, name, &context)? else {
-        return Ok(None);
-    };
-    match plan.pages.as_slice().get(page as usize) {
-        Some(page) => Ok(Some(Text::from_str(alloc, page.name.as_str())?)),
-        None => Ok(None),
-    }
+    in_tables.get(at).copied().unwrap_or(false)
 }
 
-// What sets the page of a node apart from others of its document. The page alone counts: no page is
-// being made here that could have a name.
-fn context_of(
-    alloc: Global,
-    plan: &Plan,
-    node: &PlanNode,
-    name: &Name,
-) -> Result<Context, NoMemory> {
-    let map = match plan.nodes.as_slice().first() {
-        Some(root) => root.doc.clone()?,
-        None => node.doc.clone()?,
-    };
-    Ok(Context {
-        map,
-        val: None,
-        page: PageId {
-            doc: name.clone()?,
-            scope: node.scope,
-            filters: copy_names(alloc, node.filters.as_slice())?,
-            affixes: copy_affixes(alloc, node.affixes.as_slice())?,
-        },
-        name: name.clone()?,
-    })
+fn has_cascaded(node: &PlanNode, name: &str, value: &str) -> bool
+    ensures { result ≡ contents_spec.cascaded_is name.now value.now node.now }
+{
+    node.cascaded.as_slice().iter().any(|given| given.name.as_str() == name
+        && given.value.as_str() == value)
+}
+
+// Whether a node has a target or a title.
+fn is_told(toc: Toc<'_>, at: usize, navtitle: &Text) -> bool
+    ensures { result ≡ spec.is_told toc.entry.plan.now at navtitle.now }
+{
+    !is_nothing(toc, at) || !navtitle.is_empty()
+}
+
+fn is_nothing(toc: Toc<'_>, at: usize) -> bool
+    ensures { result ≡ contents_spec.is_nothing (links_spec.target_of toc.entry.plan.now at) }
+{
+    matches!(
+        toc.plan.targets.as_slice().get(at),
+        None | Some(Target::Nothing)
+    )
+}
+
+// Appends the start tag of an item, with the conditional attributes of its node.
+fn append_start(out: &mut Text, cascaded: &[Attribute]) -> Result<(), AllocError>
+    ensures { OnOk result (out.new ≡ out.old ++ blocks_spec.start_tag (codes "li")
+        (flat_map contents_spec.data_text cascaded.now)) }
+{
+    out.append("<li")?;
+    for given in cascaded {
+        append_data(out, given)?;
+    }
+    out.append(">")
+}
+
+// Appends an attribute, if it is a conditional one.
+fn append_data(out: &mut Text, given: &Attribute) -> Result<(), AllocError>
+    ensures { OnOk result (out.new ≡ out.old ++ contents_spec.data_text given.now) }
+{
+    if !is_conditional(given.name.as_str()) {
+        return Ok(());
+    }
+    out.append(" data-")?;
+    out.append(given.name.as_str())?;
+    out.append("=\"")?;
+    append_html_value(out, given.value.as_str())?;
+    out.append("\"")
+}
+
+fn is_conditional(name: &str) -> bool
+    ensures { result ≡ verdict_spec.is_conditional name.now }
+{
+    matches!(
+        name,
+        "audience" | "platform" | "product" | "otherprops" | "props" | "deliveryTarget"
+    )
+}
+
+// Appends a label, which leads where the item leads.
+fn append_linked(out: &mut Text, href: Option<Text>, label: &Text) -> Result<(), AllocError>
+    ensures { OnOk result (out.new ≡ out.old
+        ++ contents_spec.linked href (html_escapes_spec.escaped label.now)) }
+{
+    match href {
+        Some(href) => append_anchor(out, href.as_str(), label.as_str()),
+        None => append_html(out, label.as_str()),
+    }
 }

@@ -1,8 +1,20 @@
 //! Whether a node has its target by its key.
 
-ghost use Rattle.std.specs.Prelude.{◌≡◌};
-ghost use Rattle.readers.specs.Founded.{Grows};
+ghost use Rattle.std.specs.Prelude.{◌≡◌, ℕ, true, false, map, slice_get, IfOk, Some};
+ghost use Rattle.dita_doc.specs.declared.plan.Plan as plan_spec;
+ghost use Rattle.map_spec.specs.Cascade as cascade_spec;
+ghost use Rattle.page_spec.specs.Contents as contents_spec;
+ghost use Rattle.page_spec.specs.Links as links_spec;
+ghost use Rattle.plan_nodes.specs.Preorder as preorder_spec;
+ghost use Rattle.reader_spec.specs.World.{World};
+ghost use Rattle.readers.specs.Documents as documents_spec;
+ghost use Rattle.readers.specs.Documents.{AsksOnly};
+ghost use Rattle.readers.specs.Founded as founded_spec;
+ghost use Rattle.readers.specs.Founded.{Grows, StaysFounded};
+ghost use Rattle.readers.specs.Told.{Agrees};
+ghost use Rattle.toc_page.specs.Toc as spec;
 
+use crate::href::target_at;
 use dita_doc::{NoMemory, Plan, PlanNode, Target};
 use key_scopes::{ScopeTable, find, scopes};
 use plan_nodes::Homes;
@@ -19,28 +31,61 @@ pub(crate) fn key_table<A: Asker>(
     plan: &Plan,
     homes: &Homes,
 ) -> Result<Option<ScopeTable>, NoMemory>
+    ensures known { (world : World) → Agrees world (A.told asker.new)
+        → preorder_spec.IsTree plan.now.nodes
+        → homes.now ≡ map (cascade_spec.whole_at world) plan.now.nodes
+        → IfOk result (λ keys. spec.AreKeys world plan.now keys) }
     ensures stand { A.stand asker.new ≡ A.stand asker.old }
+    ensures founded { StaysFounded (founded_spec.homes plan.now.nodes) (A.told asker.old)
+        (A.told asker.new) }
+    ensures asks { AsksOnly documents_spec.nothing (founded_spec.homes plan.now.nodes)
+        (A.told asker.old) (A.told asker.new) }
     ensures grows { Grows (A.told asker.old) (A.told asker.new) }
 {
-    for (at, target) in plan.targets.as_slice().iter().enumerate() {
-        if is_file(target) && homes.value(at, "keyref").is_some() {
-            return Ok(Some(scopes(alloc, asker, &plan.nodes)?.table));
-        }
+    if !needs_keys(plan, homes) {
+        return Ok(None);
     }
-    Ok(None)
+    let made = scopes(alloc, asker, &plan.nodes)?;
+    Ok(Some(made.table))
 }
 
-fn is_file(target: &Target) -> bool {
+// Whether there is a node of whose label a key decides.
+fn needs_keys(plan: &Plan, homes: &Homes) -> bool
+    ensures { (at : ℕ) → result ≡ false → spec.needs_keys_in plan.now homes.now at ≡ false }
+{
+    let count = plan.targets.len();
+    for at in 0..count {
+        if node_needs_keys(plan, homes, at) {
+            return true;
+        }
+    }
+    false
+}
+
+// Whether a key decides of the label of the node at this place.
+fn node_needs_keys(plan: &Plan, homes: &Homes, at: usize) -> bool
+    ensures { result ≡ spec.needs_keys_in plan.now homes.now at }
+{
+    match target_at(plan, at) {
+        Some(target) => is_file(target) && homes.value(at, "keyref").is_some(),
+        None => false,
+    }
+}
+
+fn is_file(target: &Target) -> bool
+    ensures { result ≡ spec.is_file target.now }
+{
     matches!(target, Target::File(_, _))
 }
 
-/// Whether a node refers to a key that is defined.
-pub(crate) fn is_keyed(
-    keys: &Option<ScopeTable>,
-    homes: &Homes,
-    at: usize,
-    node: &PlanNode,
-) -> bool {
+/// Whether a node refers to a key that is defined. The node's target is a file.
+pub(crate) fn is_keyed(keys: &Option<ScopeTable>, homes: &Homes, at: usize, node: &PlanNode) -> bool
+    ensures { (world : World) (plan : plan_spec.Plan)
+        → homes.now ≡ map (cascade_spec.whole_at world) plan.nodes
+        → spec.AreKeys world plan keys.now → slice_get plan.nodes at ≡ Some node.now
+        → spec.is_file (links_spec.target_of plan at) ≡ true
+        → result ≡ contents_spec.is_keyed world plan node.now }
+{
     let (Some(keys), Some(keyref)) = (keys, homes.value(at, "keyref")) else {
         return false;
     };

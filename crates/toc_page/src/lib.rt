@@ -3,8 +3,10 @@
 //! What is used above it: `contents`.
 #![tactic(auto)]
 
+mod href;
 mod item;
 mod keys;
+mod label;
 mod list;
 mod page;
 mod titles;

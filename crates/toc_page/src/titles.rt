@@ -1,12 +1,23 @@
 //! Titles that elements of maps say themselves.
 
-use dita_doc::{NoMemory, Text};
+ghost use Rattle.std.specs.Prelude.{◌≡◌, ◌∷◌, [], ℕ, List, codes, IfOk};
+ghost use Rattle.doc_elements.specs.Walk as walk_spec;
+ghost use Rattle.map_spec.specs.Elements as elements_spec;
+ghost use Rattle.map_spec.specs.Titles as titles_spec;
+ghost use Rattle.page_spec.specs.Contents as contents_spec;
+ghost use Rattle.plan_nodes.specs.Home as home_spec;
+ghost use Rattle.toc_page.specs.Toc as spec;
+
+use dita_doc::{NoMemory, Siblings, Text};
 use doc_elements::{first_child, first_under, plain_text};
 use plan_nodes::Homes;
-use std::alloc::Global;
+use std::alloc::{AllocError, Global};
 
 /// The title of the page: that of the root map, its attribute, or a word of ours.
-pub(crate) fn contents_title(alloc: Global, homes: &Homes) -> Result<Text, NoMemory> {
+pub(crate) fn contents_title(alloc: Global, homes: &Homes) -> Result<Text, NoMemory>
+    ensures { IfOk result (λ title. title ≡ titles_spec.first_text
+        (spec.title_in (home_spec.whole_at homes.now 0) ∷ codes "Contents" ∷ [])) }
+{
     let title = root_title(alloc, homes)?;
     if title.is_empty() {
         return Ok(Text::from_str(alloc, "Contents")?);
@@ -14,29 +25,53 @@ pub(crate) fn contents_title(alloc: Global, homes: &Homes) -> Result<Text, NoMem
     Ok(title)
 }
 
-fn root_title(alloc: Global, homes: &Homes) -> Result<Text, NoMemory> {
+fn root_title(alloc: Global, homes: &Homes) -> Result<Text, AllocError>
+    ensures { IfOk result (λ title. title ≡ spec.title_in (home_spec.whole_at homes.now 0)) }
+{
     let Some((root, inside)) = homes.whole(0) else {
         return Ok(Text::new(alloc));
     };
-    if let Some((_, inside)) = first_child(inside, "topic/title") {
-        let title = plain_text(alloc, inside)?;
-        if !title.is_empty() {
-            return Ok(title);
-        }
+    let title = title_child(alloc, inside)?;
+    if !title.is_empty() {
+        return Ok(title);
     }
-    Ok(Text::from_str(alloc, root.value_of("title").unwrap_or(""))?)
+    Text::from_str(alloc, root.value_of("title").unwrap_or(""))
+}
+
+// The text of the first title among the children of an element; else the empty text.
+fn title_child(alloc: Global, inside: Siblings<'_>) -> Result<Text, AllocError>
+    ensures { (name : List ℕ) → IfOk result (λ text. text ≡ elements_spec.text_of
+        (elements_spec.first_child (codes "topic/title")
+        (walk_spec.content_in name inside.entry))) }
+{
+    match first_child(inside, "topic/title") {
+        Some((_, inside)) => plain_text(alloc, inside),
+        None => Ok(Text::new(alloc)),
+    }
 }
 
 /// The title that a node says of itself: its element comes before its attribute.
-pub(crate) fn navtitle_of(alloc: Global, homes: &Homes, at: usize) -> Result<Text, NoMemory> {
+pub(crate) fn navtitle_of(alloc: Global, homes: &Homes, at: usize) -> Result<Text, AllocError>
+    ensures { IfOk result (λ title. title
+        ≡ spec.navtitle_in (home_spec.whole_at homes.now at)) }
+{
     let Some((element, inside)) = homes.whole(at) else {
         return Ok(Text::new(alloc));
     };
-    if let Some((_, inside)) = first_under(inside, "map/topicmeta", "topic/navtitle") {
-        let title = plain_text(alloc, inside)?;
-        if !title.is_empty() {
-            return Ok(title);
-        }
+    let title = navtitle_element(alloc, inside)?;
+    if !title.is_empty() {
+        return Ok(title);
     }
-    Ok(Text::from_str(alloc, element.value_of("navtitle").unwrap_or(""))?)
+    Text::from_str(alloc, element.value_of("navtitle").unwrap_or(""))
+}
+
+// The text of the first navigation title in the metadata of a node; else the empty text.
+fn navtitle_element(alloc: Global, inside: Siblings<'_>) -> Result<Text, AllocError>
+    ensures { (name : List ℕ) → IfOk result (λ text. text
+        ≡ contents_spec.navtitle_element (walk_spec.content_in name inside.entry)) }
+{
+    match first_under(inside, "map/topicmeta", "topic/navtitle") {
+        Some((_, inside)) => plain_text(alloc, inside),
+        None => Ok(Text::new(alloc)),
+    }
 }

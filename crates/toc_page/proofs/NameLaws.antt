@@ -1,0 +1,79 @@
+-- The documents that the contents page of a plan is about.
+use Rattle.std.specs.Prelude.{◌≡◌, ℕ, zero, suc, List, [], ◌∷◌, ◌++◌, Option, Some, None, IsTrue, bytes_eq, slice_get, unwrap_or}
+use Rattle.std.specs.List.{filter_map}
+use Rattle.std.specs.Option.{option_to_list}
+use Rattle.std.proofs.Common.{refl, sym, ap, subst, ◌∙◌}
+use Rattle.std.proofs.Math.Logic.{⊎_elim}
+use Rattle.std.proofs.lemmas.Bool.{false≢true, or_cases, or_left, or_right}
+use Rattle.dita_doc.specs.declared.plan.Plan.{Plan}
+use Rattle.dita_doc.specs.declared.plan.PlanNode.{PlanNode}
+use Rattle.dita_doc.specs.declared.plan.Target.{Target}
+use Rattle.dita_doc.specs.declared.plan.Target.TheVariants as targets
+use Rattle.map_spec.specs.Pages.{local_name}
+use Rattle.page_spec.specs.Links.{target_of}
+use Rattle.readers.specs.Founded.{StaysFounded, homes, is_among}
+use Rattle.readers.specs.Told.{Told}
+use Rattle.readers.proofs.FoundedLaws.{among_behind, among_first, stays_among, stays_one}
+use Rattle.toc_page.specs.Made.{contents_names}
+
+among_both : (names more : List (List ℕ)) (m : List ℕ) → IsTrue (is_among more m) → IsTrue (is_among (names ++ more) m)
+among_both [] more m among = among
+among_both (name ∷ names) more m among = or_right (bytes_eq name m) _ (among_both names more m among)
+
+among_front : (names more : List (List ℕ)) (m : List ℕ) → IsTrue (is_among names m) → IsTrue (is_among (names ++ more) m)
+among_front [] more m among = absurd (false≢true among)
+among_front (name ∷ names) more m among =
+    ⊎_elim (λ here. or_left (bytes_eq name m) _ here)
+    (λ behind. or_right (bytes_eq name m) _ (among_front names more m behind))
+    (or_cases (bytes_eq name m) (is_among names m) among)
+
+-- the documents to which nodes lead
+among_targets : (all : List Target) (at : ℕ) (name : List ℕ)
+    → local_name (unwrap_or (slice_get all at) targets.Nothing) ≡ Some name
+    → IsTrue (is_among (filter_map local_name all) name)
+among_targets [] zero name named = cc
+among_targets [] (suc at) name named = cc
+among_targets (target ∷ more) zero name named = rw named (among_first name (filter_map local_name more))
+among_targets (target ∷ more) (suc at) name named =
+    by_name (among_targets more at name named) (local_name target) refl
+  where
+    by_name : IsTrue (is_among (filter_map local_name more) name) → (other : Option (List ℕ)) → local_name target ≡ other
+        → IsTrue (is_among (filter_map local_name (target ∷ more)) name)
+    by_name behind None e = rw e behind
+    by_name behind (Some other) e = rw e (among_behind other (filter_map local_name more) name behind)
+
+-- a call about the document to which a node leads
+pub target_stays : (plan : Plan) (at : ℕ) (name : List ℕ) (old new : List Told)
+    → local_name (target_of plan at) ≡ Some name → StaysFounded (name ∷ []) old new
+    → StaysFounded (contents_names plan) old new
+target_stays plan at name old new named = stays_one name (contents_names plan) old new
+    (among_both (homes plan.nodes) _ name
+    (among_front (filter_map local_name plan.targets) plan.documents name (among_targets plan.targets at name named)))
+
+target_named : (plan : Plan) (at : ℕ) (target : Target) (name : Option (List ℕ)) (old new : List Told)
+    → target_of plan at ≡ target → local_name target ≡ name → StaysFounded (option_to_list name) old new
+    → StaysFounded (contents_names plan) old new
+target_named plan at target None old new same is =
+    stays_among [] (contents_names plan) old new (λ m here. absurd (false≢true here))
+target_named plan at target (Some name) old new same is = target_stays plan at name old new (ap local_name same ∙ is)
+
+-- a call about the document of a target, if it has one
+pub targets_stay : (plan : Plan) (at : ℕ) (target : Target) (old new : List Told)
+    → Some target ≡ slice_get plan.targets at → StaysFounded (option_to_list (local_name target)) old new
+    → StaysFounded (contents_names plan) old new
+targets_stay plan at target old new there =
+    target_named plan at target (local_name target) old new
+    (ap (λ found. unwrap_or found targets.Nothing) (sym there)) refl
+
+-- a call about the documents in which nodes stand
+pub homes_stay : (plan : Plan) (nodes : List PlanNode) (old new : List Told) → nodes ≡ plan.nodes
+    → StaysFounded (homes nodes) old new → StaysFounded (contents_names plan) old new
+homes_stay plan nodes old new is stays = stays_among (homes plan.nodes) (contents_names plan) old new
+    (λ m here. among_front (homes plan.nodes) _ m here) (subst (λ l. StaysFounded (homes l) old new) is stays)
+
+-- a call about the documents of the plan
+pub documents_stay : (plan : Plan) (documents : List (List ℕ)) (old new : List Told) → documents ≡ plan.documents
+    → StaysFounded documents old new → StaysFounded (contents_names plan) old new
+documents_stay plan documents old new is stays = stays_among plan.documents (contents_names plan) old new
+    (λ m here. among_both (homes plan.nodes) _ m (among_both (filter_map local_name plan.targets) plan.documents m here))
+    (subst (λ l. StaysFounded l old new) is stays)

@@ -1,0 +1,27 @@
+use Rattle.std.proofs.Common.{◌∙◌, ◌++◌, ap, append_assoc}
+use Rattle.std.specs.Prelude.{codes}
+use Rattle.std.specs.List.{flat_map}
+use Rattle.dita_doc.specs.HtmlEscapes.{escaped}
+use Rattle.page_spec.specs.Blocks.{start_tag}
+use Rattle.page_spec.specs.Contents.{data_text, href_by, label_of, linked}
+use Rattle.page_spec.specs.Links.{target_of}
+use Rattle.readers.proofs.GrowthLaws.{agrees_before}
+use Rattle.readers.specs.Setting.{Stand}
+use Rattle.toc_page.proofs.item.append_front.Goals as goal
+
+pub returns-clause-known : goal.returns-clause-known
+returns-clause-known g c = λ world agrees is pages there title.
+    let out = c.args.out.now in
+    let plan = c.args.toc.plan.now in
+    let start = start_tag (codes "li") (flat_map data_text c.args.node.now.cascaded) in
+    let label =
+    c.in_ok-label.ensures.known world (agrees_before world _ _ c.in_ok-href.ensures.grows agrees) is there title in
+    let href = c.in_ok-href.ensures.known world agrees
+    (ap (λ (s : Stand). s.setting.pages) c.in_ok-label.ensures.stand ∙ pages) there in
+    c.in_ok-append_linked.ensures
+    ∙ ap (λ l. l ++ linked c.in_ok-href.href (escaped c.in_ok-label.label)) c.in_ok-append_start.ensures
+    ∙ ap (λ all. (out ++ start_tag (codes "li") (flat_map data_text all))
+    ++ linked c.in_ok-href.href (escaped c.in_ok-label.label)) c.as_slice.ensures
+    ∙ (λ i. (out ++ start) ++ linked (href i) (escaped (label i)))
+    ∙ append_assoc out start (linked (href_by plan c.args.at (target_of plan c.args.at))
+    (escaped (label_of world plan c.args.at c.args.node.now)))

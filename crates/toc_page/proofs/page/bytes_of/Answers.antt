@@ -1,0 +1,47 @@
+use Rattle.std.proofs.Common.{◌∙◌, [], ap, map}
+use Rattle.map_spec.specs.Cascade.{whole_at}
+use Rattle.page_spec.specs.Contents.{contents, contents_body}
+use Rattle.page_spec.specs.PageHtml as page_html
+use Rattle.readers.proofs.FoundedLaws.{stays_after}
+use Rattle.readers.proofs.GrowthLaws.{agrees_before}
+use Rattle.readers.specs.Setting.{Stand}
+use Rattle.toc_page.proofs.NameLaws.{homes_stay}
+use Rattle.toc_page.proofs.TextLaws.{title_known}
+use Rattle.toc_page.proofs.page.bytes_of.Goals as goal
+
+pub returns-in_err-homes-clause-founded : goal.returns-in_err-homes-clause-founded
+returns-in_err-homes-clause-founded g c =
+    homes_stay c.args.plan.now c.as_slice.result.now _ _ c.as_slice.ensures c.of.ensures.founded
+
+pub returns-in_err-title-clause-founded : goal.returns-in_err-title-clause-founded
+returns-in_err-title-clause-founded g c =
+    homes_stay c.args.plan.now c.as_slice.result.now _ _ c.as_slice.ensures c.of.ensures.founded
+
+pub returns-in_err-body-clause-founded : goal.returns-in_err-body-clause-founded
+returns-in_err-body-clause-founded g c = stays_after _ _ _ _ c.of.ensures.grows
+    (homes_stay c.args.plan.now c.as_slice.result.now _ _ c.as_slice.ensures c.of.ensures.founded)
+    c.body_of.ensures.founded
+
+pub returns-in_err-page_text-clause-founded : goal.returns-in_err-page_text-clause-founded
+returns-in_err-page_text-clause-founded g c = stays_after _ _ _ _ c.of.ensures.grows
+    (homes_stay c.args.plan.now c.as_slice.result.now _ _ c.as_slice.ensures c.of.ensures.founded)
+    c.body_of.ensures.founded
+
+pub returns-clause-founded : goal.returns-clause-founded
+returns-clause-founded g c = stays_after _ _ _ _ c.of.ensures.grows
+    (homes_stay c.args.plan.now c.as_slice.result.now _ _ c.as_slice.ensures c.of.ensures.founded)
+    c.body_of.ensures.founded
+
+pub returns-clause-known : goal.returns-clause-known
+unfolding contents
+returns-clause-known g c = λ world agrees tree pages.
+    let plan = c.args.plan.now in
+    let homes =
+    c.in_ok-homes.ensures.known world (agrees_before world _ _ c.in_ok-body.ensures.grows agrees)
+    ∙ ap (map (whole_at world)) c.as_slice.ensures in
+    let title = c.in_ok-title.ensures ∙ title_known world plan c.in_ok-homes.homes homes in
+    let body = c.in_ok-body.ensures.known world agrees tree
+    (ap (λ (s : Stand). s.setting.pages) c.of.ensures.stand ∙ pages) homes title in
+    c.in_ok-page_text.ensures
+    ∙ ap (λ text. page_html.page_text c.in_ok-title.title text []) (c.as_bytes.ensures.value ∙ body)
+    ∙ ap (λ text. page_html.page_text text (contents_body world plan) []) title
