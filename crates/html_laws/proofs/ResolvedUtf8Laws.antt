@@ -1,0 +1,290 @@
+-- Content that is resolved from documents of UTF-8 is UTF-8.
+use Rattle.std.specs.Prelude.{◌+◌, ℕ, zero, suc, Bool, true, false, not, List, [], ◌∷◌, ◌++◌, Option, Some, None, IfSome, filter, nat_le, option_map, unwrap_or, codes, if◌then◌else◌}
+use Rattle.std.specs.List.{AllByRecursion}
+use Rattle.std.specs.Option.{option_and_then}
+use Rattle.std.specs.Str.{IsUtf8}
+use Rattle.dita_doc.specs.declared.doc.Attribute.{Attribute}
+use Rattle.dita_doc.specs.declared.fault.Fault.{Fault}
+use Rattle.dita_doc.specs.declared.plan.Reference.{Reference}
+use Rattle.dita_doc.specs.declared.plan.Target.{Target}
+use Rattle.dita_doc.specs.declared.plan.Target.TheVariants as targets
+use Rattle.href_text.specs.Joined.{joined}
+use Rattle.href_text.specs.Reference.{reference_of}
+use Rattle.map_spec.specs.Elements.{attribute}
+use Rattle.map_spec.specs.Judged.{group_faults}
+use Rattle.map_spec.specs.Keys.{id_of_key, key_of}
+use Rattle.map_spec.specs.Target.{if_read}
+use Rattle.map_spec.specs.Written.{Element, Written, End, Chars, Node}
+use Rattle.page_spec.specs.Content.{Followed, Found, Made, Place, Range, Resolve, Setting, Sought, by_conref, by_key, conref_named, element_made, element_resolved, end_id, followed, followed_from, followed_to, found_by, found_in, goes, has_end_id, has_reference, is_written_in, key_faults, key_named, made_beside, made_of, made_with, merged_element, names_not_taken, nothing_made, page_root, path_limit, range_behind, range_by, range_from, ranges_made, refused_by, resolved_among, resolved_from, resolved_in, resolved_page, sought_by, specified, taken_or, takes_href, topic_for, topic_within, unchanged, up_to_end, value_used, without_id}
+use Rattle.page_spec.specs.Places.{Standing, target_in}
+use Rattle.page_spec.specs.Pushes.{is_same_topic, without_names}
+use Rattle.html_laws.specs.Utf8.{HasUtf8Value, IsUtf8Content, IsUtf8Element, IsUtf8Target}
+use Rattle.html_laws.proofs.ContentUtf8Laws.{utf8_attribute_of, utf8_beside}
+use Rattle.html_laws.proofs.EachLaws.{always, chosen, of_and_then, of_both, of_either, of_kept, of_option, of_option_map}
+use Rattle.html_laws.proofs.KeyUtf8Laws.{IsUtf8Answer, utf8_key_of}
+use Rattle.html_laws.proofs.PlaceUtf8Laws.{IsUtf8Standing, utf8_target_in}
+use Rattle.html_laws.proofs.PushUtf8Laws.{utf8_without_names}
+use Rattle.html_laws.proofs.ReferenceUtf8Laws.{IsUtf8Reference, utf8_join, utf8_refer}
+
+pub record IsUtf8Setting (setting : Setting) : Type 0 where
+  pub page : IsUtf8 setting.page
+  pub pushed : (name : List ℕ) → IsUtf8 name → IfSome (setting.pushed name) IsUtf8Content
+  pub key : (key : List ℕ) → IsUtf8 key → IsUtf8Answer (setting.key key)
+
+abbrev IsUtf8Found : Found → Type 0
+IsUtf8Found found = IsUtf8Standing found.standing
+
+abbrev IsUtf8Range : Range → Type 0
+IsUtf8Range range = IsUtf8Content range.nodes
+
+record IsUtf8Followed (found : Followed) : Type 0 where
+  element : IsUtf8Element found.element
+  content : IsUtf8Content found.content
+  ranges : AllByRecursion IsUtf8Range found.ranges
+
+-- Ranges
+
+abbrev IsUtf8Nodes : Option Written → Type 0
+IsUtf8Nodes nodes = IfSome nodes IsUtf8Content
+
+utf8_up_to : (id : List ℕ) (nodes : Written) → IsUtf8Content nodes → IsUtf8Nodes (up_to_end id nodes)
+utf8_up_to id End all = tt
+utf8_up_to id (Chars text doc rest) all =
+    of_option_map IsUtf8Content IsUtf8Content (Chars text doc) (up_to_end id rest) (λ nodes is. (all.0, is))
+    (utf8_up_to id rest all.1)
+utf8_up_to id (Node element inside rest) all =
+    chosen IsUtf8Nodes (has_end_id id element) (Some (Node element inside End))
+    (option_map (Node element inside) (up_to_end id rest)) (all.0, all.1, tt)
+    (of_option_map IsUtf8Content IsUtf8Content (Node element inside) (up_to_end id rest)
+    (λ nodes is. (all.0, all.1, is)) (utf8_up_to id rest all.2))
+
+utf8_range_by : (standing : Standing) (value : Option (List ℕ)) → IsUtf8Standing standing
+    → IsUtf8Nodes (range_by standing value)
+utf8_range_by standing None is = tt
+utf8_range_by standing (Some value) is =
+    let any : List ℕ → Type 0 = λ id. Unit {0} in
+    of_and_then any IsUtf8Content (λ id. range_from id standing.whole.0 standing.behind) (end_id value)
+    (λ id one. chosen IsUtf8Nodes (has_end_id id standing.whole.0) (Some End) (up_to_end id standing.behind) tt
+    (utf8_up_to id standing.behind is.behind)) (always (end_id value))
+
+utf8_range_behind : (nodes : Written) (path : List Place) → IsUtf8Content nodes
+    → AllByRecursion IsUtf8Range (range_behind nodes path)
+utf8_range_behind End path all = tt
+utf8_range_behind (Chars text doc rest) path all = (all, tt)
+utf8_range_behind (Node element inside rest) path all = (all, tt)
+
+-- Attributes
+
+utf8_specified : (attributes : List Attribute) → AllByRecursion HasUtf8Value attributes
+    → AllByRecursion HasUtf8Value (specified attributes)
+utf8_specified attributes all = of_kept HasUtf8Value _ attributes all
+
+utf8_merged : (element target : Element) → IsUtf8Element element → IsUtf8Element target
+    → IsUtf8Element (merged_element element target)
+utf8_merged element target first second = (
+  of_both HasUtf8Value (specified element.attributes)
+      (filter (λ (other : Attribute). not (is_written_in (specified element.attributes) other))
+      (without_names names_not_taken target.attributes))
+      (utf8_specified element.attributes first.0)
+      (of_kept HasUtf8Value _ (without_names names_not_taken target.attributes)
+      (utf8_without_names names_not_taken target.attributes second.0)),
+  first.1,
+  chosen IsUtf8 (takes_href element target) target.href_doc element.href_doc second.2 first.2,
+)
+
+utf8_without_id : (is_range : Bool) (element : Element) → IsUtf8Element element
+    → IsUtf8Element (without_id is_range element)
+utf8_without_id true element is = (utf8_without_names (codes "id" ∷ []) element.attributes is.0, is.1, is.2)
+utf8_without_id false element is = is
+
+module _ (setting : Setting) (of_setting : IsUtf8Setting setting) where
+  -- Targets
+
+  utf8_found_in : (doc topic element : List ℕ) → IsUtf8 doc → IfSome (found_in setting doc topic element) IsUtf8Found
+  utf8_found_in doc topic element named =
+      of_and_then IsUtf8Content IsUtf8Found (λ nodes. option_map
+      (λ standing. record { doc = doc; nodes = nodes; standing = standing }) (target_in nodes topic element))
+      (setting.pushed doc)
+      (λ nodes is. of_option_map IsUtf8Standing IsUtf8Found
+      (λ standing. record { doc = doc; nodes = nodes; standing = standing }) (target_in nodes topic element)
+      (λ standing one. one) (utf8_target_in nodes topic element is)) (of_setting.pushed doc named)
+
+  abbrev IsUtf8Sought : Option Found → Type 0
+  IsUtf8Sought found = IfSome found IsUtf8Found
+
+  utf8_conref_named : (topic : List ℕ) (element : Element) (reference : Reference) → IsUtf8Element element
+      → IsUtf8Reference reference → IsUtf8Sought (conref_named setting topic element reference)
+  utf8_conref_named topic element reference first second =
+      let other = option_and_then (λ doc. found_in setting doc reference.topic reference.element)
+      (if_read (joined element.doc reference.file)) in
+      chosen IsUtf8Sought (is_same_topic reference) (found_in setting setting.page topic reference.element) other
+      (utf8_found_in setting.page topic reference.element of_setting.page)
+      (of_and_then IsUtf8 IsUtf8Found (λ doc. found_in setting doc reference.topic reference.element)
+      (if_read (joined element.doc reference.file))
+      (λ doc is. utf8_found_in doc reference.topic reference.element is)
+      (utf8_join element.doc reference.file first.1 second.file))
+
+  utf8_by_conref : (topic : List ℕ) (element : Element) (conref : Option (List ℕ)) → IsUtf8Element element
+      → IfSome conref IsUtf8 → IsUtf8Sought (by_conref setting topic element conref)
+  utf8_by_conref topic element None first second = tt
+  utf8_by_conref topic element (Some conref) first second =
+      of_and_then IsUtf8Reference IsUtf8Found (conref_named setting topic element) (if_read (reference_of conref))
+      (λ reference is. utf8_conref_named topic element reference first is) (utf8_refer conref second)
+
+  utf8_key_named : (keyref : List ℕ) (target : Target) → IsUtf8Target target
+      → IsUtf8Sought (key_named setting keyref target)
+  utf8_key_named keyref targets.Nothing is = tt
+  utf8_key_named keyref (targets.Local doc reference) is =
+      utf8_found_in doc reference.topic (unwrap_or (id_of_key keyref) reference.element) is.0
+  utf8_key_named keyref (targets.File name rest) is = tt
+  utf8_key_named keyref (targets.Other value) is = tt
+
+  utf8_by_key : (keyref : Option (List ℕ)) → IfSome keyref IsUtf8 → IsUtf8Sought (by_key setting keyref)
+  utf8_by_key None is = tt
+  utf8_by_key (Some keyref) is =
+      utf8_key_named keyref (setting.key (key_of keyref)).target
+      (of_setting.key (key_of keyref) (utf8_key_of keyref is)).0
+
+  utf8_found_by : (topic : List ℕ) (element : Element) → IsUtf8Element element
+      → IsUtf8Sought (found_by setting topic element (sought_by element))
+  utf8_found_by topic element is =
+      let conref = attribute (codes "conref") element in
+      let conkeyref = attribute (codes "conkeyref") element in
+      of_either IsUtf8Found (by_key setting conkeyref) (by_conref setting topic element conref)
+      (utf8_by_key conkeyref (utf8_attribute_of (codes "conkeyref") element is.0))
+      (utf8_by_conref topic element conref is (utf8_attribute_of (codes "conref") element is.0))
+
+  -- Following
+
+  abbrev FollowsInUtf8 : (List Place → Element → Written → Followed) → Type 0
+  FollowsInUtf8 follow = (path : List Place) (element : Element) (inside : Written) → IsUtf8Element element
+      → IsUtf8Content inside → IsUtf8Followed (follow path element inside)
+
+  utf8_unchanged : (element : Element) (inside : Written) (path : List Place) (faults : List Fault)
+      → IsUtf8Element element → IsUtf8Content inside → IsUtf8Followed (unchanged element inside path faults)
+  utf8_unchanged element inside path faults first second =
+      record { element = first; content = second; ranges = tt }
+
+  utf8_taken_or : (follow : List Place → Element → Written → Followed) (path : List Place) (element : Element)
+      (inside : Written) (before : List Fault) (target : Found) (refused : Option Fault) → FollowsInUtf8 follow
+      → IsUtf8Element element → IsUtf8Content inside → IsUtf8Found target
+      → IsUtf8Followed (taken_or follow path element inside before target refused)
+  utf8_taken_or follow path element inside before target (Some fault) follows first second is =
+      utf8_unchanged element inside path (before ++ fault ∷ []) first second
+  utf8_taken_or follow path element inside before target None follows first second is =
+      let longer = path ++ record { doc = target.doc; at = target.standing.place } ∷ [] in
+      let range = unwrap_or (range_by target.standing (attribute (codes "conrefend") element)) End in
+      let range_is : IsUtf8Content range =
+      of_option IsUtf8Content (range_by target.standing (attribute (codes "conrefend") element)) End
+      (utf8_range_by target.standing (attribute (codes "conrefend") element) is) tt in
+      let found = follow longer target.standing.whole.0 target.standing.whole.1 in
+      let onward = follows longer target.standing.whole.0 target.standing.whole.1 is.whole.0 is.whole.1 in
+      record {
+        element = utf8_merged element found.element first onward.element;
+        content = onward.content;
+        ranges = of_both IsUtf8Range found.ranges (range_behind range longer) onward.ranges
+            (utf8_range_behind range longer range_is);
+      }
+
+  utf8_followed_to : (follow : List Place → Element → Written → Followed) (depth : ℕ) (path : List Place)
+      (element : Element) (inside : Written) (sought : Sought) (target : Option Found) → FollowsInUtf8 follow
+      → IsUtf8Element element → IsUtf8Content inside → IsUtf8Sought target
+      → IsUtf8Followed (followed_to follow setting depth path element inside sought target)
+  utf8_followed_to follow depth path element inside sought None follows first second is =
+      utf8_unchanged element inside path _ first second
+  utf8_followed_to follow depth path element inside sought (Some target) follows first second is =
+      utf8_taken_or follow path element inside (key_faults setting sought.conkeyref) target
+      (refused_by (value_used setting sought) depth path element target) follows first second is
+
+  utf8_followed_from : (steps : ℕ) (topic : List ℕ) (depth : ℕ) → FollowsInUtf8 (followed_from steps setting topic depth)
+  unfolding followed_from
+  utf8_followed_from zero topic depth path element inside first second =
+      utf8_unchanged element inside path [] first second
+  utf8_followed_from (suc steps) topic depth path element inside first second =
+      let sought = sought_by element in
+      let follow = followed_from steps setting topic depth in
+      chosen IsUtf8Followed (has_reference sought)
+      (followed_to follow setting depth path element inside sought (found_by setting topic element sought))
+      (unchanged element inside path [])
+      (utf8_followed_to follow depth path element inside sought (found_by setting topic element sought)
+      (utf8_followed_from steps topic depth) first second (utf8_found_by topic element first))
+      (utf8_unchanged element inside path [] first second)
+
+  -- Resolving
+
+  abbrev IsUtf8Made : Made → Type 0
+  IsUtf8Made made = IsUtf8Content made.nodes
+
+  abbrev ResolvesInUtf8 : Resolve → Type 0
+  ResolvesInUtf8 resolve = (is_range : Bool) (topic : List ℕ) (depth : ℕ) (path : List Place) (nodes : Written)
+      → IsUtf8Content nodes → IsUtf8Made (resolve is_range topic depth path nodes)
+
+  utf8_ranges : (resolve : Resolve) (topic : List ℕ) (depth : ℕ) (ranges : List Range) → ResolvesInUtf8 resolve
+      → AllByRecursion IsUtf8Range ranges → IsUtf8Made (ranges_made resolve topic depth ranges)
+  utf8_ranges resolve topic depth [] resolves all = tt
+  utf8_ranges resolve topic depth (range ∷ ranges) resolves all =
+      utf8_beside (resolve true topic depth range.path range.nodes).nodes (ranges_made resolve topic depth ranges).nodes
+      (resolves true topic depth range.path range.nodes all.0) (utf8_ranges resolve topic depth ranges resolves all.1)
+
+  utf8_element_made : (is_range : Bool) (element : Element) (content : Made) → IsUtf8Element element
+      → IsUtf8Made content → IsUtf8Made (element_made is_range element content)
+  utf8_element_made is_range element content first second = (utf8_without_id is_range element first, second, tt)
+
+  utf8_made_of : (resolve : Resolve) (is_range : Bool) (topic : List ℕ) (depth : ℕ) (own : List ℕ → Made)
+      (found : Followed) → ResolvesInUtf8 resolve → ((here : List ℕ) → IsUtf8Made (own here)) → IsUtf8Followed found
+      → IsUtf8Made (made_of resolve setting is_range topic depth own found)
+  utf8_made_of resolve is_range topic depth own found resolves owns is =
+      let here = topic_within is_range found.element topic in
+      let deeper = resolve false here (depth + 1) found.path found.content in
+      let kept = element_made is_range found.element deeper in
+      let judged = if goes setting found.element then record nothing_made { count = 1 } else kept in
+      chosen IsUtf8Made found.has_taken (made_with (group_faults found.element) judged)
+      (element_made is_range found.element (own here))
+      (chosen IsUtf8Made (goes setting found.element) (record nothing_made { count = 1 }) kept tt
+      (utf8_element_made is_range found.element deeper is.element
+      (resolves false here (depth + 1) found.path found.content is.content)))
+      (utf8_element_made is_range found.element (own here) is.element (owns here))
+
+  utf8_element : (resolve : Resolve) (is_range : Bool) (topic : List ℕ) (depth : ℕ) (path : List Place)
+      (element : Element) (inside : Written) (own : List ℕ → Made) → ResolvesInUtf8 resolve → IsUtf8Element element
+      → IsUtf8Content inside → ((here : List ℕ) → IsUtf8Made (own here))
+      → IsUtf8Made (element_resolved resolve setting is_range topic depth path element inside own)
+  utf8_element resolve is_range topic depth path element inside own resolves first second owns =
+      let here = topic_for is_range element topic in
+      let found = followed setting here depth path element inside in
+      let found_is = utf8_followed_from (path_limit + 1) here depth path element inside first second in
+      let made = made_of resolve setting is_range here depth own found in
+      let ranges = ranges_made resolve topic depth found.ranges in
+      chosen IsUtf8Made (goes setting element) nothing_made (made_with found.faults (made_beside made ranges)) tt
+      (utf8_beside made.nodes ranges.nodes (utf8_made_of resolve is_range here depth own found resolves owns found_is)
+      (utf8_ranges resolve topic depth found.ranges resolves found_is.ranges))
+
+  utf8_among : (resolve : Resolve) (is_range : Bool) (topic : List ℕ) (depth : ℕ) (path : List Place) (nodes : Written)
+      → ResolvesInUtf8 resolve → IsUtf8Content nodes
+      → IsUtf8Made (resolved_among resolve setting is_range topic depth path nodes)
+  utf8_among resolve is_range topic depth path End resolves all = tt
+  utf8_among resolve is_range topic depth path (Chars text doc rest) resolves all =
+      utf8_beside (Chars text doc End) (resolved_among resolve setting is_range topic depth path rest).nodes (all.0, tt)
+      (utf8_among resolve is_range topic depth path rest resolves all.1)
+  utf8_among resolve is_range topic depth path (Node element inside rest) resolves all =
+      let own = λ (here : List ℕ). resolved_among resolve setting false here (depth + 1) path inside in
+      utf8_beside (element_resolved resolve setting is_range topic depth path element inside own).nodes
+      (resolved_among resolve setting is_range topic depth path rest).nodes
+      (utf8_element resolve is_range topic depth path element inside own resolves all.0 all.1
+      (λ here. utf8_among resolve false here (depth + 1) path inside resolves all.1))
+      (utf8_among resolve is_range topic depth path rest resolves all.2)
+
+  utf8_resolved_from : (steps : ℕ) → ResolvesInUtf8 (resolved_from steps setting)
+  unfolding resolved_from
+  utf8_resolved_from zero is_range topic depth path nodes all = tt
+  utf8_resolved_from (suc steps) is_range topic depth path nodes all =
+      utf8_among (resolved_from steps setting) is_range topic depth path nodes (utf8_resolved_from steps) all
+
+  pub utf8_resolved : (limit : ℕ) (faults : List Fault) → IsUtf8Content (resolved_page limit faults setting).nodes
+  utf8_resolved limit faults =
+      let root = page_root setting in
+      let root_is : IsUtf8Content root =
+      of_option IsUtf8Content (setting.pushed setting.page) End (of_setting.pushed setting.page of_setting.page) tt in
+      let made = resolved_in setting [] 1 root in
+      chosen IsUtf8Made (nat_le made.count limit) made (record { nodes = End; count = limit + 1; faults = faults })
+      (utf8_resolved_from (path_limit + 1) false [] 1 [] root root_is) tt

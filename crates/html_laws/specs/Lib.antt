@@ -1,0 +1,3 @@
+pub mod Markup
+pub mod Tags
+pub mod Utf8
