@@ -1,36 +1,49 @@
-//! What is found once for all pages of a build.
+//! What is found once for all parts of a build.
 
 ghost use Rattle.std.specs.Prelude.{◌≡◌, IfOk};
 ghost use Rattle.build_parts.specs.Tables.{AreTables};
-ghost use Rattle.readers.specs.Founded.{Grows};
+ghost use Rattle.key_layer.specs.Ready.{AreReady};
+ghost use Rattle.key_scopes.specs.Made.{IsTableOf};
+ghost use Rattle.readers.specs.Told.{Knows};
 
 use conref_push::PushTable;
 use dita_doc::{NoMemory, Plan};
+use key_scopes::ScopeTable;
 use page_table::PageTable;
-use plan_layer::PushedDocs;
-use readers::Keys;
+use plan_nodes::Homes;
+use readers::Reader;
 use std::alloc::Global;
 
-/// The pushes of a plan's documents, the documents that were made with the pushes into them, and the
-/// pages of the plan.
+/// The elements and the scopes of a plan's nodes, the pushes of its documents, and its pages.
 #[derive(Debug, Drop)]
 pub(crate) struct BuildTables {
+    pub homes: Homes,
+    pub scopes: ScopeTable,
     pub pushes: PushTable,
-    pub docs: PushedDocs,
     pub pages: PageTable,
 }
 
 impl BuildTables {
-    /// The tables of a plan. No document was made yet.
-    pub fn of<K: Keys>(alloc: Global, keys: &mut K, plan: &Plan) -> Result<BuildTables, NoMemory>
-        ensures tables { IfOk result (λ tables. AreTables (K.told keys.new)
-            (K.stand keys.new).world plan.now.documents plan.now.pages tables) }
-        ensures grows { Grows (K.told keys.old) (K.told keys.new) }
+    /// The tables of a plan, from the elements and the scopes of its nodes.
+    pub fn of<R: Reader>(
+        alloc: Global,
+        reader: &mut R,
+        plan: &Plan,
+        homes: Homes,
+        scopes: ScopeTable,
+    ) -> Result<BuildTables, NoMemory>
+        requires ready { AreReady (R.told reader.old) plan.now.nodes homes }
+        requires scoped { Knows (R.told reader.old)
+            (λ world. ∥ IsTableOf world plan.now.nodes scopes ∥₁) }
+        ensures tables { IfOk result (λ tables. AreTables (R.told reader.new) plan.now tables) }
     {
+        let pushes = PushTable::of(alloc, reader, plan.documents.as_slice())?;
+        let pages = PageTable::of(alloc, plan.pages.as_slice())?;
         Ok(BuildTables {
-            pushes: PushTable::of(alloc, keys, plan.documents.as_slice())?,
-            docs: PushedDocs::new(alloc),
-            pages: PageTable::of(alloc, plan.pages.as_slice())?,
+            homes,
+            scopes,
+            pushes,
+            pages,
         })
     }
 }

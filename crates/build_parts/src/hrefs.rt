@@ -27,7 +27,7 @@ fn are_first(alloc: Global, links: &[PageLink]) -> Result<Vec<bool>, AllocError>
     let mut seen = BTreeSet::new(alloc);
     let mut first = Vec::new(alloc);
     for link in links {
-        first.push(seen.insert(link.href.as_str())?)?;
+        first.push(seen.insert(link.href.as_bytes())?)?;
     }
     Ok(first)
 }

@@ -2,17 +2,10 @@
 
 ghost use Rattle.std.specs.Prelude.{◌≡◌};
 ghost use Rattle.build_parts.specs.Tables.{AreTables};
-ghost use Rattle.conref_push.specs.Table.{IsPushTable};
-ghost use Rattle.page_table.specs.Pages.{IsPageTable};
-ghost use Rattle.plan_layer.specs.Carried.{WereAllowed};
 ghost use Rattle.plan_layer.specs.Made.{AreKept};
-ghost use Rattle.readers.specs.Founded.{Grows};
-ghost use Rattle.readers.specs.Told.{Knows};
 
 use crate::build_tables::BuildTables;
-use conref_push::PushTable;
 use dita_doc::{NoMemory, Plan};
-use page_table::PageTable;
 use plan_layer::{PlanLayer, PushedDocs, PushedMemo};
 use readers::{Asker, Keys, Questions, Since};
 use std::alloc::Global;
@@ -32,38 +25,33 @@ pub(crate) fn over_plan<K: Keys, W: PlanWork>(
     alloc: Global,
     keys: &mut K,
     plan: &Plan,
-    tables: &mut BuildTables,
+    tables: &BuildTables,
+    docs: &mut PushedDocs,
     work: W,
 ) -> Result<W::Made, NoMemory>
-    requires tables { AreTables (K.told keys.old) (K.stand keys.old).world plan.now.documents
-        plan.now.pages tables.old }
-    ensures tables { AreTables (K.told keys.new) (K.stand keys.new).world plan.now.documents
-        plan.now.pages tables.new }
-    ensures grows { Grows (K.told keys.old) (K.told keys.new) }
+    requires tables { AreTables (K.told keys.old) plan.now tables.now }
+    requires kept { AreKept (K.stand keys.old).world plan.now.documents docs.old }
+    ensures kept { AreKept (K.stand keys.old).world plan.now.documents docs.new }
+    ensures stand { K.stand keys.new ≡ K.stand keys.old }
 {
-    let docs = &mut tables.docs;
-    work_since::<K, Brand, W>(alloc, keys, docs, plan, &tables.pushes, &tables.pages, work)
+    plan_since::<K, Brand, W>(alloc, keys, plan, tables, docs, work)
 }
 
 // The same since a start.
-fn work_since<K: Keys, S: Since, W: PlanWork>(
+fn plan_since<K: Keys, S: Since, W: PlanWork>(
     alloc: Global,
     keys: &mut K,
-    docs: &mut PushedDocs,
     plan: &Plan,
-    table: &PushTable,
-    places: &PageTable,
+    tables: &BuildTables,
+    docs: &mut PushedDocs,
     work: W,
 ) -> Result<W::Made, NoMemory>
     requires stand { K.stand keys.old ≡ S.stand }
     requires told { K.told keys.old ≡ S.told }
-    requires tabled { Knows S.told (λ world. IsPushTable world plan.now.documents table.now) }
-    requires paged { IsPageTable plan.now.pages places.now }
-    requires given { WereAllowed S.told plan.now.documents }
+    requires tables { AreTables S.told plan.now tables.now }
     requires kept { AreKept S.stand.world plan.now.documents docs.old }
     ensures kept { AreKept S.stand.world plan.now.documents docs.new }
     ensures stand { K.stand keys.new ≡ S.stand }
-    ensures grows { Grows S.told (K.told keys.new) }
 {
     let mut asked = Questions::new(alloc);
     let mut memo = PushedMemo::new(alloc);
@@ -74,15 +62,15 @@ fn work_since<K: Keys, S: Since, W: PlanWork>(
         docs,
         documents: &plan.documents,
         pages: &plan.pages,
-        table,
-        places,
+        table: &tables.pushes,
+        places: &tables.pages,
         since: PhantomData,
     };
-    work_under(alloc, &mut layer, work)
+    plan_under(alloc, &mut layer, work)
 }
 
 // What the layer keeps of the reader below and of the documents.
-fn work_under<'r, 'q, 'm, 'd, 'n, K: Keys, S: Since, W: PlanWork>(
+fn plan_under<'r, 'q, 'm, 'd, 'n, K: Keys, S: Since, W: PlanWork>(
     alloc: Global,
     layer: &mut PlanLayer<'r, 'q, 'm, 'd, 'n, K, S>,
     work: W,
@@ -91,7 +79,6 @@ fn work_under<'r, 'q, 'm, 'd, 'n, K: Keys, S: Since, W: PlanWork>(
     ensures same { layer.new.lower.ghost_name ≡ layer.old.lower.ghost_name }
     ensures same_docs { layer.new.docs.ghost_name ≡ layer.old.docs.ghost_name }
     ensures stand { K.stand layer.new.lower.now ≡ S.stand }
-    ensures grows { Grows S.told (K.told layer.new.lower.now) }
 {
     work.run(alloc, layer)
 }

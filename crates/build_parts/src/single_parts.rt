@@ -1,14 +1,22 @@
 //! Single parts of a build, over any reader.
 
+ghost use Rattle.std.specs.Prelude.{◌≡◌};
+
 use crate::body::no_html;
+use crate::build_tables::BuildTables;
 use crate::faults::copy_faults;
 use crate::ground::Ground;
-use crate::over_keys::{KeyWork, over_keys};
-use crate::parts::Parts;
+use crate::over_plan::PlanWork;
+use crate::over_titles::over_titles;
+use crate::works::PageWork;
 use build_plan::{Planned, planned};
+use conref_pull::Tables;
 use dita_doc::{Html, Name, NoMemory, Plan, Stop};
-use readers::{Keys, Titles};
+use node_links::NodeLinks;
+use plan_layer::PushedDocs;
+use readers::{Asker, Titles};
 use std::alloc::Global;
+use toc_page::contents;
 
 /// The page of a plan at an index, with all its faults; it is empty if there is no such page. The
 /// plan is that of the map and the DITAVAL over what the reader reads: it is made anew, so that what
@@ -59,38 +67,59 @@ fn single<T: Titles>(
         Err(Stop::Fault(_)) => return Ok(no_html(alloc)),
         Err(Stop::NoMemory) => return Err(NoMemory),
     };
+    let tables = BuildTables::of(alloc, asker, &plan, homes, table)?;
+    let mut docs = PushedDocs::new(alloc);
     let ground = Ground {
         map,
         val,
         plan: &plan,
     };
-    over_keys(
-        alloc,
-        asker,
-        &plan.nodes,
-        &homes,
-        &table,
-        PartWork { ground, part },
-    )
+    let work = PartWork { ground, part };
+    over_titles(alloc, asker, &plan, &tables, &mut docs, work)
 }
 
+// What a part that stands alone needs of its plan is found for it.
 #[derive(Clone, Copy)]
 struct PartWork<'p> {
     ground: Ground<'p>,
     part: Part,
 }
 
-impl<'p> KeyWork for PartWork<'p> {
+impl<'p> PlanWork for PartWork<'p> {
     type Made = Html;
 
-    fn run<K: Keys>(self, alloc: Global, keys: &mut K) -> Result<Html, NoMemory> {
-        let mut parts = Parts::of(alloc, keys, self.ground)?;
+    fn run<A: Asker>(self, alloc: Global, asker: &mut A) -> Result<Html, NoMemory> {
+        let ground = self.ground;
+        let links = NodeLinks::of(alloc, asker, ground.plan)?;
         match self.part {
-            Part::Page(index) => {
-                let row_faults = copy_faults(alloc, parts.row_faults())?;
-                parts.page(alloc, keys, index, row_faults)
-            }
-            Part::Contents => parts.contents(alloc, keys),
+            Part::Page(index) => page_alone(alloc, asker, ground, &links, index),
+            Part::Contents => contents(alloc, asker, ground.plan),
         }
     }
+}
+
+// The page at an index, with all its faults. A page that is not there is empty.
+fn page_alone<A: Asker>(
+    alloc: Global,
+    asker: &mut A,
+    ground: Ground<'_>,
+    links: &NodeLinks,
+    index: u32,
+) -> Result<Html, NoMemory>
+    ensures stand { A.stand asker.new ≡ A.stand asker.old }
+{
+    let Some(page) = ground.plan.pages.as_slice().get(index as usize) else {
+        return Ok(no_html(alloc));
+    };
+    let behind = copy_faults(alloc, links.faults())?;
+    let mut content = Tables::new(alloc);
+    let work = PageWork {
+        ground,
+        page,
+        index,
+        links,
+        content: &mut content,
+        behind,
+    };
+    work.run(alloc, asker)
 }

@@ -1,18 +1,26 @@
 //! The build of a map over stored sources.
 
-ghost use Rattle.build_parts.specs.Tables.{AreTables};
+ghost use Rattle.std.specs.Prelude.{◌≡◌};
+ghost use Rattle.build_parts.specs.Tables.{AreTables, GoesOn};
+ghost use Rattle.reader_spec.specs.World.{world_of};
+ghost use Rattle.readers.specs.Told.{Agrees};
 
+use crate::build_tables::BuildTables;
 use crate::faults::copy_faults;
 use crate::gathered::Gathered;
 use crate::ground::Ground;
-use crate::over_keys::{KeyWork, over_keys};
-use crate::parts::Parts;
+use crate::over_sources::{Lasting, over_sources};
+use crate::works::{ContentsWork, LinksWork, PageWork};
 use build_plan::{Planned, planned};
 use clean_build::Clean;
-use dita_doc::{List, Name, NoMemory, PagePlan, Sources, Stop, Text};
+use conref_pull::Tables;
+use dita_doc::{List, Name, NoMemory, Sources, Stop, Text};
+use node_links::NodeLinks;
+use plan_layer::PushedDocs;
 use plan_nodes::place_of;
-use readers::{Keys, KnownTitles, SourceReader};
+use readers::{KnownTitles, Questions, Since, SourceReader};
 use std::alloc::{AllocError, Global};
+use std::marker::Brand;
 
 /// The build of a map, with a DITAVAL or without: each page of its plan, the contents page, and the
 /// faults of all, each once and in order. If the pages have more than 268,435,456 bytes together, it
@@ -29,66 +37,75 @@ pub fn clean(
         Err(Stop::Fault(stop)) => return Ok(Clean::Stopped(stop)),
         Err(Stop::NoMemory) => return Err(NoMemory),
     };
+    let tables = BuildTables::of(alloc, &mut reader, &plan, homes, table)?;
     let ground = Ground {
         map,
         val,
         plan: &plan,
     };
-    over_keys(
-        alloc,
-        &mut reader,
-        &plan.nodes,
-        &homes,
-        &table,
-        WholeWork { ground },
-    )
+    let (asked, known) = reader.into_asked();
+    parts_since::<Brand>(alloc, &asked, known, ground, &tables)
 }
 
-// All parts of a build.
-#[derive(Clone, Copy)]
-struct WholeWork<'p> {
-    ground: Ground<'p>,
-}
-
-impl<'p> KeyWork for WholeWork<'p> {
-    type Made = Clean;
-
-    fn run<K: Keys>(self, alloc: Global, keys: &mut K) -> Result<Clean, NoMemory> {
-        let plan = self.ground.plan;
-        let mut parts = Parts::of(alloc, keys, self.ground)?;
-        let mut gathered = Gathered::new(alloc);
-        gathered.put_faults(alloc, copy_faults(alloc, plan.faults.as_slice())?)?;
-        // These are faults of each page, so a plan without pages has none of them.
-        if !plan.pages.is_empty() {
-            gathered.put_faults(alloc, copy_faults(alloc, parts.row_faults())?)?;
-        }
-        put_parts(
-            alloc,
-            keys,
-            plan.pages.as_slice(),
-            &mut parts,
-            &mut gathered,
-        )?;
-        gathered.finish(alloc)
+// All parts, by tables that are known by what was told before. Which answers these were is said by
+// the questions, which no code reads here.
+fn parts_since<S: Since>(
+    alloc: Global,
+    asked: &Questions,
+    known: KnownTitles<'_>,
+    ground: Ground<'_>,
+    tables: &BuildTables,
+) -> Result<Clean, NoMemory>
+    requires sources { world_of known.sources.now ≡ S.stand.world }
+    requires agreed { Agrees S.stand.world S.told }
+    requires tables { AreTables S.told ground.plan.now tables.now }
+{
+    let plan = ground.plan;
+    let docs = PushedDocs::new(alloc);
+    let lasting = Lasting { known, docs };
+    let work = LinksWork { plan };
+    let (links, lasting) = over_sources::<S, LinksWork<'_>>(alloc, lasting, plan, tables, work)?;
+    let mut gathered = Gathered::new(alloc);
+    gathered.put_faults(alloc, copy_faults(alloc, plan.faults.as_slice())?)?;
+    // These are faults of each page, so a plan without pages has none of them.
+    if !plan.pages.is_empty() {
+        gathered.put_faults(alloc, copy_faults(alloc, links.faults())?)?;
     }
+    put_parts::<S>(alloc, lasting, ground, tables, &links, &mut gathered)?;
+    gathered.finish(alloc)
 }
 
 // Puts each page, and the contents page last.
-fn put_parts<K: Keys>(
+fn put_parts<S: Since>(
     alloc: Global,
-    keys: &mut K,
-    pages: &[PagePlan],
-    parts: &mut Parts<'_>,
+    lasting: Lasting<'_>,
+    ground: Ground<'_>,
+    tables: &BuildTables,
+    links: &NodeLinks,
     gathered: &mut Gathered,
 ) -> Result<(), NoMemory>
-    requires tables { AreTables (K.told keys.old) (K.stand keys.old).world
-        parts.old.ground.plan.now.documents parts.old.ground.plan.now.pages parts.old.tables }
+    requires agreed { Agrees S.stand.world S.told }
+    requires tables { AreTables S.told ground.plan.now tables.now }
+    requires goes_on { GoesOn S.stand.world ground.plan.now.documents lasting }
 {
-    for (index, page) in pages.iter().enumerate() {
-        let html = parts.page(alloc, keys, place_of(index)?, List::new(alloc))?;
+    let plan = ground.plan;
+    let mut content = Tables::new(alloc);
+    let mut lasting = lasting;
+    for (index, page) in plan.pages.as_slice().iter().enumerate() {
+        let work = PageWork {
+            ground,
+            page,
+            index: place_of(index)?,
+            links,
+            content: &mut content,
+            behind: List::new(alloc),
+        };
+        let (html, next) = over_sources::<S, PageWork<'_, '_>>(alloc, lasting, plan, tables, work)?;
+        lasting = next;
         gathered.put(alloc, page.name.clone()?, html)?;
     }
-    let html = parts.contents(alloc, keys)?;
+    let work = ContentsWork { plan };
+    let (html, _) = over_sources::<S, ContentsWork<'_>>(alloc, lasting, plan, tables, work)?;
     gathered.put(alloc, contents_name(alloc)?, html)
 }
 
