@@ -4,6 +4,7 @@ ghost use Rattle.std.specs.Prelude.{◌≡◌, [], IfOk};
 ghost use Rattle.dita_doc.specs.declared.plan.Plan as plan_spec;
 ghost use Rattle.link_groups.specs.LinkNodes as link_nodes_spec;
 ghost use Rattle.node_links.specs.NodeTable as spec;
+ghost use Rattle.page_spec.specs.Links as links_spec;
 ghost use Rattle.reader_spec.specs.World.{World};
 ghost use Rattle.readers.specs.Documents as documents_spec;
 ghost use Rattle.readers.specs.Documents.{AsksOnly};
@@ -78,6 +79,14 @@ impl NodeLinks {
             → result.now ≡ row_table_spec.cell_faults plan }
     {
         self.faults.as_slice()
+    }
+
+    /// The faults of each row in turn: a node that stands in several rows has its fault in each.
+    pub fn faults_by_row(&self, alloc: Global, plan: &Plan) -> Result<List<Fault>, NoMemory>
+        ensures { (world : World) → spec.AreNodeLinks world plan.now self.now
+            → IfOk result (λ faults. faults ≡ links_spec.row_faults plan.now) }
+    {
+        self.rows.faults_by_row(alloc, plan)
     }
 
     // What `of` says, but of the reader's own world.
