@@ -1,3 +1,13 @@
+pub mod BodyLaws
+pub mod LinkLaws
+pub mod OnceLaws
+pub mod OwnLaws
+pub mod PageLaws
+pub mod PlanLaws
 pub mod Putting
+pub mod ReadyLaws
+pub mod RootLaws
+pub mod SeenLaws
+pub mod SingleLaws
 pub mod StandLaws
 pub mod TableLaws

@@ -1,1 +1,6 @@
+pub mod Bodies
+pub mod Ground
+pub mod Made
+pub mod Root
+pub mod Single
 pub mod Tables

@@ -9,9 +9,14 @@ use Rattle.page_table.specs.Pages.{IsPageTable}
 use Rattle.plan_layer.specs.Carried.{WereAllowed}
 use Rattle.plan_layer.specs.Made.{AreKept}
 use Rattle.reader_spec.specs.World.{World, world_of}
+use Rattle.readers.specs.Setting.{Setting}
 use Rattle.readers.specs.Told.{Told, Knows}
 use Rattle.build_parts.specs.declared.build_tables.BuildTables.{BuildTables}
 use Rattle.build_parts.specs.declared.over_sources.Lasting.{Lasting}
+
+-- what the readers of a plan's parts are made for
+abbrev pub made_for : Plan → Setting
+made_for plan = record { nodes = plan.nodes; documents = plan.documents; pages = plan.pages }
 
 -- they are those of this plan in each world that agrees with what was told, and its documents were asked for
 pub record AreTables (told : List Told) (plan : Plan) (tables : BuildTables) : Type 0 where

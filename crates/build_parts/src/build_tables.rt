@@ -4,6 +4,7 @@ ghost use Rattle.std.specs.Prelude.{◌≡◌, IfOk};
 ghost use Rattle.build_parts.specs.Tables.{AreTables};
 ghost use Rattle.key_layer.specs.Ready.{AreReady};
 ghost use Rattle.key_scopes.specs.Made.{IsTableOf};
+ghost use Rattle.readers.specs.Founded.{Grows};
 ghost use Rattle.readers.specs.Told.{Knows};
 
 use conref_push::PushTable;
@@ -36,6 +37,8 @@ impl BuildTables {
         requires scoped { Knows (R.told reader.old)
             (λ world. ∥ IsTableOf world plan.now.nodes scopes ∥₁) }
         ensures tables { IfOk result (λ tables. AreTables (R.told reader.new) plan.now tables) }
+        ensures stand { R.stand reader.new ≡ R.stand reader.old }
+        ensures grows { Grows (R.told reader.old) (R.told reader.new) }
     {
         let pushes = PushTable::of(alloc, reader, plan.documents.as_slice())?;
         let pages = PageTable::of(alloc, plan.pages.as_slice())?;

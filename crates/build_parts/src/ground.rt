@@ -1,5 +1,8 @@
 //! What a build stands on.
 
+ghost use Rattle.std.specs.Prelude.{◌≡◌, IfOk};
+ghost use Rattle.build_parts.specs.Ground as ground_spec;
+
 use dita_doc::{Context, Name, NoMemory, PageId, PagePlan, Plan};
 use plan_nodes::{copy_affixes, copy_names};
 use std::alloc::Global;
@@ -14,7 +17,9 @@ pub(crate) struct Ground<'p> {
 
 impl<'p> Ground<'p> {
     /// What a page of the plan is made for.
-    pub fn context_of(self, alloc: Global, page: &PagePlan) -> Result<Context, NoMemory> {
+    pub fn context_of(self, alloc: Global, page: &PagePlan) -> Result<Context, NoMemory>
+        ensures { IfOk result (λ context. context ≡ ground_spec.context_for self.entry page.now) }
+    {
         let val = match self.val {
             Some(val) => Some(val.clone()?),
             None => None,

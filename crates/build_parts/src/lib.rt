@@ -1,7 +1,8 @@
 //! The build of a map by the evaluators of the whole language: its plan, each of its pages, the
 //! contents page, and all of them together.
 //!
-//! What is used above it: `clean`. It is proved safe and to return.
+//! What is used above it: `clean`, which is proved safe and to return. `page` and `toc` give the parts
+//! of the plan of a map, as they are defined.
 #![tactic(auto, using(crate::proofs::Putting::putting))]
 
 mod body;

@@ -1,8 +1,13 @@
 //! What is done over a reader that knows a plan.
 
-ghost use Rattle.std.specs.Prelude.{◌≡◌};
+ghost use Rattle.std.specs.Prelude.{◌≡◌, IfOk};
 ghost use Rattle.build_parts.specs.Tables.{AreTables};
+ghost use Rattle.plan_layer.specs.Carried as carried_spec;
 ghost use Rattle.plan_layer.specs.Made.{AreKept};
+ghost use Rattle.reader_spec.specs.World.{World};
+ghost use Rattle.readers.specs.Founded.{Grows};
+ghost use Rattle.readers.specs.Setting.{Setting};
+ghost use Rattle.readers.specs.Told.{Agrees};
 
 use crate::build_tables::BuildTables;
 use dita_doc::{NoMemory, Plan};
@@ -15,8 +20,14 @@ use std::marker::{Brand, PhantomData};
 pub(crate) trait PlanWork {
     type Made;
 
+    /// What is made in a world by a reader that was made for this.
+    ghost makes: { Self → World → Setting → Self.Made → Type 0 };
+
     fn run<A: Asker>(self, alloc: Global, asker: &mut A) -> Result<Self::Made, NoMemory>
-        ensures stand { A.stand asker.new ≡ A.stand asker.old };
+        ensures known { (world : World) → Agrees world (A.told asker.new)
+            → IfOk result (makes self world (A.stand asker.old).setting) }
+        ensures stand { A.stand asker.new ≡ A.stand asker.old }
+        ensures grows { Grows (A.told asker.old) (A.told asker.new) };
 }
 
 /// Does a work over a plan, which is laid over a reader that knows the keys of its nodes. The work
@@ -31,8 +42,12 @@ pub(crate) fn over_plan<K: Keys, W: PlanWork>(
 ) -> Result<W::Made, NoMemory>
     requires tables { AreTables (K.told keys.old) plan.now tables.now }
     requires kept { AreKept (K.stand keys.old).world plan.now.documents docs.old }
+    ensures known { (world : World) → Agrees world (K.told keys.new)
+        → IfOk result (W.makes work world (carried_spec.made_for plan.now.documents plan.now.pages
+        (K.stand keys.old).setting)) }
     ensures kept { AreKept (K.stand keys.old).world plan.now.documents docs.new }
     ensures stand { K.stand keys.new ≡ K.stand keys.old }
+    ensures grows { Grows (K.told keys.old) (K.told keys.new) }
 {
     plan_since::<K, Brand, W>(alloc, keys, plan, tables, docs, work)
 }
@@ -50,8 +65,12 @@ fn plan_since<K: Keys, S: Since, W: PlanWork>(
     requires told { K.told keys.old ≡ S.told }
     requires tables { AreTables S.told plan.now tables.now }
     requires kept { AreKept S.stand.world plan.now.documents docs.old }
+    ensures known { (world : World) → Agrees world (K.told keys.new)
+        → IfOk result (W.makes work world (carried_spec.made_for plan.now.documents plan.now.pages
+        S.stand.setting)) }
     ensures kept { AreKept S.stand.world plan.now.documents docs.new }
     ensures stand { K.stand keys.new ≡ S.stand }
+    ensures grows { Grows S.told (K.told keys.new) }
 {
     let mut asked = Questions::new(alloc);
     let mut memo = PushedMemo::new(alloc);
@@ -75,10 +94,14 @@ fn plan_under<'r, 'q, 'm, 'd, 'n, K: Keys, S: Since, W: PlanWork>(
     layer: &mut PlanLayer<'r, 'q, 'm, 'd, 'n, K, S>,
     work: W,
 ) -> Result<W::Made, NoMemory>
+    ensures known { (world : World) → Agrees world (K.told layer.new.lower.now)
+        → IfOk result (W.makes work world (carried_spec.made_for layer.old.documents.now
+        layer.old.pages.now S.stand.setting)) }
     ensures kept { AreKept S.stand.world layer.old.documents.now layer.new.docs.now }
     ensures same { layer.new.lower.ghost_name ≡ layer.old.lower.ghost_name }
     ensures same_docs { layer.new.docs.ghost_name ≡ layer.old.docs.ghost_name }
     ensures stand { K.stand layer.new.lower.now ≡ S.stand }
+    ensures grows { Grows S.told (K.told layer.new.lower.now) }
 {
     work.run(alloc, layer)
 }

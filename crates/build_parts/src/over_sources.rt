@@ -1,8 +1,9 @@
 //! What is done over stored sources, by a reader of its own.
 
 ghost use Rattle.std.specs.Prelude.{◌≡◌, [], IfOk};
-ghost use Rattle.build_parts.specs.Tables.{AreTables, GoesOn};
+ghost use Rattle.build_parts.specs.Tables.{AreTables, GoesOn, made_for};
 ghost use Rattle.plan_layer.specs.Made.{AreKept};
+ghost use Rattle.reader_spec.specs.World.{World};
 ghost use Rattle.readers.specs.Told.{Agrees};
 
 use crate::build_tables::BuildTables;
@@ -35,6 +36,7 @@ pub(crate) fn over_sources<'a, S: Since, W: PlanWork>(
     requires agreed { Agrees S.stand.world S.told }
     requires tables { AreTables S.told plan.now tables.now }
     requires goes_on { GoesOn S.stand.world plan.now.documents lasting }
+    ensures made { IfOk result (λ done. W.makes work S.stand.world (made_for plan.now) done.0) }
     ensures goes_on { IfOk result (λ done. GoesOn S.stand.world plan.now.documents done.1) }
 {
     let Lasting { known, mut docs } = lasting;
@@ -64,6 +66,7 @@ fn over_later<T: Titles, S: Since, W: PlanWork>(
     requires agreed { Agrees (T.stand reader.old).world S.told }
     requires tables { AreTables S.told plan.now tables.now }
     requires kept { AreKept (T.stand reader.old).world plan.now.documents docs.old }
+    ensures made { IfOk result (W.makes work (T.stand reader.old).world (made_for plan.now)) }
     ensures kept { AreKept (T.stand reader.old).world plan.now.documents docs.new }
     ensures stand { T.stand reader.new ≡ T.stand reader.old }
 {
@@ -86,6 +89,8 @@ fn later_under<'r, T: Titles, S: Since, W: PlanWork>(
     requires new { T.told later.old.lower.now ≡ [] }
     requires tables { AreTables S.told plan.now tables.now }
     requires kept { AreKept (T.stand later.old.lower.now).world plan.now.documents docs.old }
+    ensures known { (world : World) → Agrees world (T.told later.new.lower.now)
+        → Agrees world S.told → IfOk result (W.makes work world (made_for plan.now)) }
     ensures kept { AreKept (T.stand later.old.lower.now).world plan.now.documents docs.new }
     ensures same { later.new.lower.ghost_name ≡ later.old.lower.ghost_name }
     ensures stand { T.stand later.new.lower.now ≡ T.stand later.old.lower.now }

@@ -1,8 +1,11 @@
 //! What is done over a reader that knows titles.
 
-ghost use Rattle.std.specs.Prelude.{◌≡◌, []};
-ghost use Rattle.build_parts.specs.Tables.{AreTables};
+ghost use Rattle.std.specs.Prelude.{◌≡◌, [], IfOk};
+ghost use Rattle.build_parts.specs.Tables.{AreTables, made_for};
 ghost use Rattle.plan_layer.specs.Made.{AreKept};
+ghost use Rattle.reader_spec.specs.World.{World};
+ghost use Rattle.readers.specs.Founded.{Grows};
+ghost use Rattle.readers.specs.Told.{Agrees};
 
 use crate::build_tables::BuildTables;
 use crate::over_plan::{PlanWork, over_plan};
@@ -25,8 +28,11 @@ pub(crate) fn over_titles<T: Titles, W: PlanWork>(
 ) -> Result<W::Made, NoMemory>
     requires tables { AreTables (T.told titles.old) plan.now tables.now }
     requires kept { AreKept (T.stand titles.old).world plan.now.documents docs.old }
+    ensures known { (world : World) → Agrees world (T.told titles.new)
+        → IfOk result (W.makes work world (made_for plan.now)) }
     ensures kept { AreKept (T.stand titles.old).world plan.now.documents docs.new }
     ensures stand { T.stand titles.new ≡ T.stand titles.old }
+    ensures grows { Grows (T.told titles.old) (T.told titles.new) }
 {
     keys_since::<T, Brand, W>(alloc, titles, plan, tables, docs, work)
 }
@@ -44,8 +50,11 @@ fn keys_since<T: Titles, S: Since, W: PlanWork>(
     requires told { T.told titles.old ≡ S.told }
     requires tables { AreTables S.told plan.now tables.now }
     requires kept { AreKept S.stand.world plan.now.documents docs.old }
+    ensures known { (world : World) → Agrees world (T.told titles.new)
+        → IfOk result (W.makes work world (made_for plan.now)) }
     ensures kept { AreKept S.stand.world plan.now.documents docs.new }
     ensures stand { T.stand titles.new ≡ S.stand }
+    ensures grows { Grows S.told (T.told titles.new) }
 {
     let mut asked = Questions::new(alloc);
     let mut memo = KeyMemo::new(alloc);
@@ -71,11 +80,15 @@ fn keys_under<'r, 'q, 'm, 'n, T: Titles, S: Since, W: PlanWork>(
     work: W,
 ) -> Result<W::Made, NoMemory>
     requires asked { layer.old.asked.now ≡ [] }
+    requires nodes { layer.old.nodes.now ≡ plan.now.nodes }
     requires tables { AreTables S.told plan.now tables.now }
     requires kept { AreKept S.stand.world plan.now.documents docs.old }
+    ensures known { (world : World) → Agrees world (T.told layer.new.lower.now)
+        → IfOk result (W.makes work world (made_for plan.now)) }
     ensures kept { AreKept S.stand.world plan.now.documents docs.new }
     ensures same { layer.new.lower.ghost_name ≡ layer.old.lower.ghost_name }
     ensures stand { T.stand layer.new.lower.now ≡ S.stand }
+    ensures grows { Grows S.told (T.told layer.new.lower.now) }
 {
     over_plan(alloc, layer, plan, tables, docs, work)
 }

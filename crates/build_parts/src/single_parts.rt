@@ -1,14 +1,23 @@
 //! Single parts of a build, over any reader.
 
-ghost use Rattle.std.specs.Prelude.{◌≡◌};
+ghost use Rattle.std.specs.Prelude.{◌≡◌, Ok, IfOk};
+ghost use Rattle.std.specs.Option.{option_copied};
+ghost use Rattle.build_parts.specs.Ground.{IsReady};
+ghost use Rattle.build_parts.specs.Single as single_spec;
+ghost use Rattle.dita_doc.specs.declared.plan.Plan as plan_declared;
+ghost use Rattle.map_spec.specs.PlanOf as plan_spec;
+ghost use Rattle.node_links.specs.NodeTable.{AreNodeLinks};
+ghost use Rattle.part_spec.specs.Parts as parts_spec;
+ghost use Rattle.reader_spec.specs.World.{World};
+ghost use Rattle.readers.specs.Founded.{Grows};
+ghost use Rattle.readers.specs.Told.{Agrees};
 
 use crate::body::no_html;
 use crate::build_tables::BuildTables;
-use crate::faults::copy_faults;
 use crate::ground::Ground;
 use crate::over_plan::PlanWork;
 use crate::over_titles::over_titles;
-use crate::works::PageWork;
+use crate::works::{PageMade, PageWork};
 use build_plan::{Planned, planned};
 use conref_pull::Tables;
 use dita_doc::{Html, Name, NoMemory, Plan, Stop};
@@ -28,7 +37,37 @@ pub fn page<T: Titles>(
     map: &Name,
     val: Option<&Name>,
     index: u32,
-) -> Result<Html, NoMemory> {
+) -> Result<Html, NoMemory>
+    ensures known { (world : World) → Agrees world (T.told asker.new)
+        → plan_spec.plan_of plan_spec.limits world map.now (option_copied val.entry) ≡ Ok plan.now
+        → IfOk result (λ html. html ≡ parts_spec.page_part parts_spec.rooms world plan.now
+        (option_copied val.entry) index) }
+    ensures value { plan_spec.plan_of plan_spec.limits (T.stand asker.old).world map.now
+        (option_copied val.entry) ≡ Ok plan.now
+        → IfOk result (λ html. html ≡ parts_spec.page_part parts_spec.rooms
+        (T.stand asker.old).world plan.now (option_copied val.entry) index) }
+    ensures stand { T.stand asker.new ≡ T.stand asker.old }
+    ensures grows { Grows (T.told asker.old) (T.told asker.new) }
+{
+    page_of_plan(alloc, asker, plan, map, val, index)
+}
+
+// What `page` says, but of the reader's own world.
+fn page_of_plan<T: Titles>(
+    alloc: Global,
+    asker: &mut T,
+    plan: &Plan,
+    map: &Name,
+    val: Option<&Name>,
+    index: u32,
+) -> Result<Html, NoMemory>
+    ensures known { (world : World) → Agrees world (T.told asker.new)
+        → plan_spec.plan_of plan_spec.limits world map.now (option_copied val.entry) ≡ Ok plan.now
+        → IfOk result (λ html. html ≡ parts_spec.page_part parts_spec.rooms world plan.now
+        (option_copied val.entry) index) }
+    ensures stand { T.stand asker.new ≡ T.stand asker.old }
+    ensures grows { Grows (T.told asker.old) (T.told asker.new) }
+{
     if plan.pages.as_slice().get(index as usize).is_none() {
         return Ok(no_html(alloc));
     }
@@ -43,7 +82,34 @@ pub fn toc<T: Titles>(
     plan: &Plan,
     map: &Name,
     val: Option<&Name>,
-) -> Result<Html, NoMemory> {
+) -> Result<Html, NoMemory>
+    ensures known { (world : World) → Agrees world (T.told asker.new)
+        → plan_spec.plan_of plan_spec.limits world map.now (option_copied val.entry) ≡ Ok plan.now
+        → IfOk result (λ html. html ≡ parts_spec.contents_part world plan.now) }
+    ensures value { plan_spec.plan_of plan_spec.limits (T.stand asker.old).world map.now
+        (option_copied val.entry) ≡ Ok plan.now
+        → IfOk result (λ html.
+        html ≡ parts_spec.contents_part (T.stand asker.old).world plan.now) }
+    ensures stand { T.stand asker.new ≡ T.stand asker.old }
+    ensures grows { Grows (T.told asker.old) (T.told asker.new) }
+{
+    contents_of_plan(alloc, asker, plan, map, val)
+}
+
+// What `toc` says, but of the reader's own world.
+fn contents_of_plan<T: Titles>(
+    alloc: Global,
+    asker: &mut T,
+    plan: &Plan,
+    map: &Name,
+    val: Option<&Name>,
+) -> Result<Html, NoMemory>
+    ensures known { (world : World) → Agrees world (T.told asker.new)
+        → plan_spec.plan_of plan_spec.limits world map.now (option_copied val.entry) ≡ Ok plan.now
+        → IfOk result (λ html. html ≡ parts_spec.contents_part world plan.now) }
+    ensures stand { T.stand asker.new ≡ T.stand asker.old }
+    ensures grows { Grows (T.told asker.old) (T.told asker.new) }
+{
     single(alloc, asker, map, val, Part::Contents)
 }
 
@@ -61,7 +127,14 @@ fn single<T: Titles>(
     map: &Name,
     val: Option<&Name>,
     part: Part,
-) -> Result<Html, NoMemory> {
+) -> Result<Html, NoMemory>
+    ensures known { (world : World) (plan : plan_declared.Plan) → Agrees world (T.told asker.new)
+        → plan_spec.plan_of plan_spec.limits world map.now (option_copied val.entry) ≡ Ok plan
+        → IfOk result (λ html.
+        html ≡ single_spec.part_html part world plan (option_copied val.entry)) }
+    ensures stand { T.stand asker.new ≡ T.stand asker.old }
+    ensures grows { Grows (T.told asker.old) (T.told asker.new) }
+{
     let Planned { plan, homes, table } = match planned(alloc, asker, map, val) {
         Ok(planned) => planned,
         Err(Stop::Fault(_)) => return Ok(no_html(alloc)),
@@ -86,14 +159,16 @@ struct PartWork<'p> {
 }
 
 impl<'p> PlanWork for PartWork<'p> {
+    ghost use Rattle.build_parts.specs.Single as single_spec;
+
     type Made = Html;
 
+    ghost makes = { single_spec.MakesPart };
+
     fn run<A: Asker>(self, alloc: Global, asker: &mut A) -> Result<Html, NoMemory> {
-        let ground = self.ground;
-        let links = NodeLinks::of(alloc, asker, ground.plan)?;
         match self.part {
-            Part::Page(index) => page_alone(alloc, asker, ground, &links, index),
-            Part::Contents => contents(alloc, asker, ground.plan),
+            Part::Page(index) => page_alone(alloc, asker, self.ground, index),
+            Part::Contents => contents(alloc, asker, self.ground.plan),
         }
     }
 }
@@ -103,23 +178,28 @@ fn page_alone<A: Asker>(
     alloc: Global,
     asker: &mut A,
     ground: Ground<'_>,
-    links: &NodeLinks,
     index: u32,
 ) -> Result<Html, NoMemory>
+    ensures known { (world : World) → Agrees world (A.told asker.new)
+        → IsReady world ground.entry (A.stand asker.old).setting
+        → IfOk result (λ html. html ≡ parts_spec.page_part parts_spec.rooms world
+        ground.entry.plan.now (option_copied ground.entry.val) index) }
     ensures stand { A.stand asker.new ≡ A.stand asker.old }
+    ensures grows { Grows (A.told asker.old) (A.told asker.new) }
 {
-    let Some(page) = ground.plan.pages.as_slice().get(index as usize) else {
+    let plan = ground.plan;
+    let Some(page) = plan.pages.as_slice().get(index as usize) else {
         return Ok(no_html(alloc));
     };
-    let behind = copy_faults(alloc, links.faults())?;
-    let mut content = Tables::new(alloc);
+    let links = NodeLinks::of(alloc, asker, plan)?;
     let work = PageWork {
         ground,
         page,
         index,
-        links,
-        content: &mut content,
-        behind,
+        links: &links,
+        content: Tables::new(alloc),
+        behind: links.faults_by_row(alloc, plan)?,
     };
-    work.run(alloc, asker)
+    let PageMade { html, .. } = work.run(alloc, asker)?;
+    Ok(html)
 }

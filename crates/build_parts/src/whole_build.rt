@@ -10,7 +10,7 @@ use crate::faults::copy_faults;
 use crate::gathered::Gathered;
 use crate::ground::Ground;
 use crate::over_sources::{Lasting, over_sources};
-use crate::works::{ContentsWork, LinksWork, PageWork};
+use crate::works::{ContentsWork, LinksWork, PageMade, PageWork};
 use build_plan::{Planned, planned};
 use clean_build::Clean;
 use conref_pull::Tables;
@@ -63,7 +63,7 @@ fn parts_since<S: Since>(
     let plan = ground.plan;
     let docs = PushedDocs::new(alloc);
     let lasting = Lasting { known, docs };
-    let work = LinksWork { plan };
+    let work = LinksWork { ground };
     let (links, lasting) = over_sources::<S, LinksWork<'_>>(alloc, lasting, plan, tables, work)?;
     let mut gathered = Gathered::new(alloc);
     gathered.put_faults(alloc, copy_faults(alloc, plan.faults.as_slice())?)?;
@@ -97,14 +97,19 @@ fn put_parts<S: Since>(
             page,
             index: place_of(index)?,
             links,
-            content: &mut content,
+            content,
             behind: List::new(alloc),
         };
-        let (html, next) = over_sources::<S, PageWork<'_, '_>>(alloc, lasting, plan, tables, work)?;
+        let (made, next) = over_sources::<S, PageWork<'_, '_>>(alloc, lasting, plan, tables, work)?;
+        let PageMade {
+            html,
+            content: kept,
+        } = made;
+        content = kept;
         lasting = next;
         gathered.put(alloc, page.name.clone()?, html)?;
     }
-    let work = ContentsWork { plan };
+    let work = ContentsWork { ground };
     let (html, _) = over_sources::<S, ContentsWork<'_>>(alloc, lasting, plan, tables, work)?;
     gathered.put(alloc, contents_name(alloc)?, html)
 }
