@@ -1,54 +1,55 @@
 -- Which documents are asked about by calls one after another.
 use Rattle.std.specs.Prelude.{◌≡◌, ◌<◌, ◌++◌, ℕ, zero, suc, false, List, [], ◌∷◌, Option, Some, None, Result, Ok, Err, IfOk, IfSome, IsTrue, bytes_eq, length}
 use Rattle.std.specs.Arc.{arc_value}
+use Rattle.std.specs.Option.{option_to_list}
 use Rattle.std.specs.declared.alloc.Global.{Global}
 use Rattle.std.specs.declared.sync.Arc.{Arc}
 use Rattle.std.proofs.Common.{arith, get_or, subst, sym}
 use Rattle.std.proofs.Math.Logic.{⊎_elim}
 use Rattle.std.proofs.lemmas.Bool.{false≢true, or_cases, or_left, or_right}
+use Rattle.dita_doc.specs.declared.content.KeyAnswer.{KeyAnswer}
 use Rattle.dita_doc.specs.declared.doc.Doc.{Doc}
-use Rattle.dita_doc.specs.declared.stop.NoMemory.{NoMemory}
 use Rattle.dita_doc.specs.declared.plan.PlanNode.{PlanNode}
-use Rattle.readers.specs.Documents.{AsksOnly, Covers, Follows, may_ask, nothing, of_pushes}
-use Rattle.readers.specs.Founded.{Grows, StaysFounded, homes, is_allowed, is_among, names_given}
-use Rattle.readers.specs.Named.{names_in, names_of_element}
+use Rattle.dita_doc.specs.declared.stop.NoMemory.{NoMemory}
+use Rattle.map_spec.specs.Pages.{local_name}
+use Rattle.readers.specs.Documents.{AsksOnly, Covers, IsGiven, may_ask, nothing, of_documents, of_pushes}
+use Rattle.readers.specs.Founded.{Grows, StaysFounded, homes, is_allowed, is_among}
+use Rattle.readers.specs.Named.{named_tree, reused_by, reused_in}
 use Rattle.readers.specs.Told.{Told, document, kind, title, first, key, pushes, page_of, tried, sought}
-use Rattle.readers.proofs.DocumentLaws.{asks_after, asks_among, asks_none, asks_same, covers_nothing}
-use Rattle.readers.proofs.FoundedLaws.{stays_after, stays_among, stays_same}
-use Rattle.readers.proofs.GrowthLaws.{are_allowed_before, growing}
-use Rattle.conref_pull.specs.Asking.{AreAmong, AreGiven, AreGivenTo, Asks, IsGivenIf, IsGivenIn, IsGivenTo, names_of_doc, names_of_whole}
-use Rattle.conref_pull.specs.declared.origin.Whole.{Whole}
-use Rattle.conref_pull.specs.declared.find.Found.{Found}
-use Rattle.conref_pull.specs.declared.chain.Link.{Link}
+use Rattle.readers.proofs.AmongLaws.{among_back, among_either, among_front}
+use Rattle.readers.proofs.DocumentLaws.{asks_after, asks_among, asks_none, asks_same, covers_nothing, covers_same, follows_may}
+use Rattle.readers.proofs.FoundedLaws.{given_allowed, stays_after, stays_among, stays_same}
+use Rattle.readers.proofs.GivenLaws.{given_later, reused_allowed, reused_may}
+use Rattle.readers.proofs.GrowthLaws.{growing}
+use Rattle.conref_pull.specs.Asking.{AreAmong, AreGiven, AreGivenTo, Asks, IsGivenIf, IsGivenIn, IsGivenTo, of_content, reused_of_doc, reused_of_whole}
 use Rattle.conref_pull.specs.Origin.{whole_of}
-use Rattle.conref_pull.proofs.AmongLaws.{among_back, among_front}
-use Rattle.conref_pull.proofs.NameLaws.{among_either}
+use Rattle.conref_pull.specs.declared.chain.Link.{Link}
+use Rattle.conref_pull.specs.declared.find.Found.{Found}
+use Rattle.conref_pull.specs.declared.origin.Whole.{Whole}
 
--- What answers name
+-- What follows for content
 
-pub given_later : (old new : List Told) (names : List (List ℕ)) → Grows old new → AreGiven old names
-    → AreGiven new names
-given_later old new names grows given =
-    record { by = λ roots. are_allowed_before roots old new names grows (given.by roots) }
+-- what content references in documents name
+covers_reused : Covers of_content (of_documents reused_by)
+covers_reused = record { each = covers }
+  where
+    covers : (t : Told) (m : List ℕ) → IsTrue (is_among (of_documents reused_by t) m)
+        → IsTrue (is_among (of_content t) m)
+    covers (document name tree) m among = among
+    covers (kind name answer) m among = absurd (false≢true among)
+    covers (title name topic text) m among = absurd (false≢true among)
+    covers (first name id) m among = absurd (false≢true among)
+    covers (key nodes scope text answer) m among = absurd (false≢true among)
+    covers (pushes documents name answer) m among = absurd (false≢true among)
+    covers (page_of pages name context answer) m among = absurd (false≢true among)
+    covers (tried names) m among = absurd (false≢true among)
+    covers (sought name) m among = absurd (false≢true among)
 
-pub given_some : (told : List Told) (some names : List (List ℕ)) → AreAmong some names → AreGiven told names
-    → AreGiven told some
-given_some told some names among given =
-    record { by = λ roots. record { each = λ m here. (given.by roots).each m (among.each m here) } }
-
-allowed_may : (rule : Follows) (roots : List (List ℕ)) (ts : List Told) (m : List ℕ) → Covers rule names_given
-    → IsTrue (is_allowed roots ts m) → IsTrue (may_ask rule roots ts m)
-allowed_may rule roots [] m covers allowed = allowed
-allowed_may rule roots (t ∷ ts) m covers allowed =
-    ⊎_elim (λ here. or_left (is_among (rule t) m) _ (covers.each t m here))
-    (λ there. or_right (is_among (rule t) m) _ (allowed_may rule roots ts m covers there))
-    (or_cases (is_among (names_given t) m) _ allowed)
-
--- what follows from pushes is named by answers
-pub covers_pushes : Covers names_given of_pushes
+-- where pushes come from
+pub covers_pushes : Covers of_content of_pushes
 covers_pushes = record { each = covers }
   where
-    covers : (t : Told) (m : List ℕ) → IsTrue (is_among (of_pushes t) m) → IsTrue (is_among (names_given t) m)
+    covers : (t : Told) (m : List ℕ) → IsTrue (is_among (of_pushes t) m) → IsTrue (is_among (of_content t) m)
     covers (document name tree) m among = absurd (false≢true among)
     covers (kind name answer) m among = absurd (false≢true among)
     covers (title name topic text) m among = absurd (false≢true among)
@@ -59,18 +60,50 @@ covers_pushes = record { each = covers }
     covers (tried names) m among = absurd (false≢true among)
     covers (sought name) m among = absurd (false≢true among)
 
-pub whole_element : (whole : Whole) (names : List (List ℕ)) → AreAmong (names_of_whole whole) names
-    → AreAmong (names_of_element (whole_of whole).0) names
-whole_element whole names among = record {
-  each = λ m here. among.each m
-      (among_front (names_of_element (whole_of whole).0) (names_in (whole_of whole).1) m here);
+-- What answers name
+
+-- all that the content references of a document name that is given
+pub given_reused : (told : List Told) (doc : Doc) → IsGiven told (Some (named_tree doc))
+    → AreGiven told (reused_of_doc doc)
+given_reused told doc given = record {
+  allowed = λ roots. reused_allowed roots told (Some (named_tree doc)) given;
+  may = λ rule roots covers. reused_may rule roots told (Some (named_tree doc))
+      (record { each = λ t m here. covers.each t m (covers_reused.each t m here) }) given;
 }
 
-pub whole_inside : (whole : Whole) (names : List (List ℕ)) → AreAmong (names_of_whole whole) names
-    → AreAmong (names_in (whole_of whole).1) names
+-- the target of a key that was told last
+pub given_target : (nodes : List PlanNode) (scope : ℕ) (text : List ℕ) (answer : KeyAnswer) (old new : List Told)
+    → new ≡ key nodes scope text answer ∷ old → AreGiven new (option_to_list (local_name answer.target))
+given_target nodes scope text answer old new is = record {
+  allowed = λ roots. given_allowed roots (key nodes scope text answer) old new is;
+  may = λ rule roots covers. follows_may rule of_content roots (key nodes scope text answer) old new covers is;
+}
+
+pub given_some : (told : List Told) (some names : List (List ℕ)) → AreAmong some names → AreGiven told names
+    → AreGiven told some
+given_some told some names among given = record {
+  allowed = λ roots. record { each = λ m here. (given.allowed roots).each m (among.each m here) };
+  may = λ rule roots covers. record { each = λ m here. (given.may rule roots covers).each m (among.each m here) };
+}
+
+pub given_none : (told : List Told) → AreGiven told []
+given_none told = record {
+  allowed = λ roots. record { each = λ m here. absurd (false≢true here) };
+  may = λ rule roots covers. record { each = λ m here. absurd (false≢true here) };
+}
+
+pub whole_element : (whole : Whole) (names : List (List ℕ)) → AreAmong (reused_of_whole whole) names
+    → AreAmong (reused_by (whole_of whole).0) names
+whole_element whole names among = record {
+  each = λ m here. among.each m
+      (among_front (reused_by (whole_of whole).0) (reused_in (whole_of whole).1) m here);
+}
+
+pub whole_inside : (whole : Whole) (names : List (List ℕ)) → AreAmong (reused_of_whole whole) names
+    → AreAmong (reused_in (whole_of whole).1) names
 whole_inside whole names among = record {
   each = λ m here. among.each m
-      (among_back (names_of_element (whole_of whole).0) (names_in (whole_of whole).1) m here);
+      (among_back (reused_by (whole_of whole).0) (reused_in (whole_of whole).1) m here);
 }
 
 -- Calls
@@ -100,14 +133,14 @@ module _ (nodes : List PlanNode) where
   pub about_same : (names : List (List ℕ)) (old new : List Told) → new ≡ old → Asks nodes names old new
   about_same names old new is = record {
     founded = stays_same (homes nodes ++ names) old new is;
-    asks = asks_same names_given names old new is;
+    asks = asks_same of_content names old new is;
   }
 
   pub about_after : (names : List (List ℕ)) (a b c : List Told) → Grows a b → Asks nodes names a b
       → Asks nodes names b c → Asks nodes names a c
   about_after names a b c grows before next = record {
     founded = stays_after (homes nodes ++ names) a b c grows before.founded next.founded;
-    asks = asks_after names_given names a b c grows before.asks next.asks;
+    asks = asks_after of_content names a b c grows before.asks next.asks;
   }
 
   pub about_among : (some names : List (List ℕ)) (old new : List Told) → AreAmong some names
@@ -117,7 +150,7 @@ module _ (nodes : List PlanNode) where
         (λ m here. among_either (homes nodes) some m (IsTrue (is_among (homes nodes ++ names) m))
         (λ h. among_front (homes nodes) names m h) (λ h. among_back (homes nodes) names m (among.each m h)) here)
         call.founded;
-    asks = asks_among names_given names_given some names old new (record { each = λ t m h. h }) among.each call.asks;
+    asks = asks_among of_content of_content some names old new (covers_same of_content) among.each call.asks;
   }
 
   -- a call about what answers name that were told before, and about others
@@ -130,14 +163,15 @@ module _ (nodes : List PlanNode) where
             each = λ m here. among_either (homes nodes) (names ++ more) m (IsTrue (is_allowed roots old m))
                 (λ h. allowed.each m (among_front (homes nodes) names m h))
                 (λ h. among_either names more m (IsTrue (is_allowed roots old m))
-                (λ one. allowed.each m (among_back (homes nodes) names m one)) (λ one. (given.by roots).each m one) h) here;
+                (λ one. allowed.each m (among_back (homes nodes) names m one))
+                (λ one. (given.allowed roots).each m one) h) here;
           }) founded;
     };
     asks = record {
       by = λ rule roots covers may asked. call.asks.by rule roots covers
           (record {
             each = λ m here. among_either names more m (IsTrue (may_ask rule roots old m)) (λ h. may.each m h)
-                (λ h. allowed_may rule roots old m covers ((given.by roots).each m h)) here;
+                (λ h. (given.may rule roots covers).each m h) here;
           }) asked;
     };
   }
@@ -148,7 +182,7 @@ module _ (nodes : List PlanNode) where
   about_pushed name old new founded asks = record {
     founded = stays_among (name ∷ []) (homes nodes ++ name ∷ []) old new
         (λ m here. among_back (homes nodes) (name ∷ []) m here) founded;
-    asks = asks_among names_given of_pushes (name ∷ []) (name ∷ []) old new covers_pushes (λ m here. here) asks;
+    asks = asks_among of_content of_pushes (name ∷ []) (name ∷ []) old new covers_pushes (λ m here. here) asks;
   }
 
   -- a question for a document
@@ -157,7 +191,7 @@ module _ (nodes : List PlanNode) where
   about_doc name old new founded asks = record {
     founded = stays_among (name ∷ []) (homes nodes ++ name ∷ []) old new
         (λ m here. among_back (homes nodes) (name ∷ []) m here) founded;
-    asks = asks_among names_given nothing (name ∷ []) (name ∷ []) old new (covers_nothing names_given)
+    asks = asks_among of_content nothing (name ∷ []) (name ∷ []) old new (covers_nothing of_content)
         (λ m here. here) asks;
   }
 
@@ -167,7 +201,7 @@ module _ (nodes : List PlanNode) where
   about_key old new founded asks = record {
     founded = stays_among (homes nodes) (homes nodes ++ []) old new
         (λ m here. among_front (homes nodes) [] m here) founded;
-    asks = asks_none names_given [] old new asks;
+    asks = asks_none of_content [] old new asks;
   }
 
   -- one call after another, where the second is about some of the same documents
@@ -219,7 +253,7 @@ module _ (nodes : List PlanNode) where
       (record {
         founded = stays_among ditavals (homes nodes ++ ditavals) b c
             (λ m here. among_back (homes nodes) ditavals m here) stays;
-        asks = asks_among names_given nothing ditavals ditavals b c (covers_nothing names_given) (λ m here. here) reads;
+        asks = asks_among of_content nothing ditavals ditavals b c (covers_nothing of_content) (λ m here. here) reads;
       }))
 
 -- what closes most claims on what is asked about
@@ -251,10 +285,11 @@ pub first_given : (told : List Told) (links : List Link) (link : Link) (more : L
 first_given told links link more is given = (subst (AreGivenTo told) is given).0
 
 pub whole_given : (told : List Told) (link : Link) (found : Option Whole) → IsGivenTo told link
-    → IfSome found (λ whole. AreAmong (names_of_whole whole) (names_of_doc (arc_value link.doc)))
-    → IfSome found (λ whole. AreGiven told (names_of_whole whole))
+    → IfSome found (λ whole. AreAmong (reused_of_whole whole) (reused_of_doc (arc_value link.doc)))
+    → IfSome found (λ whole. AreGiven told (reused_of_whole whole))
 whole_given told link None given among = tt
-whole_given told link (Some whole) given among = given_some told (names_of_whole whole) _ among given
+whole_given told link (Some whole) given among =
+    given_some told (reused_of_whole whole) _ among (given_reused told (arc_value link.doc) given)
 
 -- the link to a target that was found
 pub given_link : (told : List Told) (found : Found) (result : Result (Option Link) NoMemory)
@@ -263,4 +298,4 @@ pub given_link : (told : List Told) (found : Found) (result : Result (Option Lin
 given_link told found (Err stop) same given = tt
 given_link told found (Ok None) same given = tt
 given_link told found (Ok (Some link)) same given =
-    subst (λ (d : Arc Doc Global). AreGiven told (names_of_doc (arc_value d))) (sym same) given
+    subst (λ (d : Arc Doc Global). IsGiven told (Some (named_tree (arc_value d)))) (sym same) given

@@ -1,10 +1,8 @@
--- The document that a reference names is one that its element names.
-use Rattle.std.specs.Prelude.{◌≡◌, ℕ, false, List, [], ◌∷◌, Option, Some, None, IsTrue, Result, Ok, Err, bytes_eq, codes}
-use Rattle.std.specs.List.{cons_option}
+-- The document that a content reference names is one that its element names by content references.
+use Rattle.std.specs.Prelude.{◌≡◌, ℕ, false, List, [], ◌∷◌, Option, Some, IsTrue, Result, Ok, Err, bytes_eq, codes}
 use Rattle.std.specs.Option.{option_and_then, option_to_list}
 use Rattle.std.proofs.Common.{refl, sym, ap, ◌∙◌, subst}
-use Rattle.std.proofs.Math.Logic.{⊎_elim}
-use Rattle.std.proofs.lemmas.Bool.{false≢true, or_cases, or_left, or_right}
+use Rattle.std.proofs.lemmas.Bool.{or_right}
 use Rattle.dita_doc.specs.declared.plan.Reference.{Reference}
 use Rattle.href_text.specs.Joined.{joined}
 use Rattle.href_text.specs.Reference.{is_external, reference_of}
@@ -13,7 +11,7 @@ use Rattle.map_spec.specs.Elements.{attribute}
 use Rattle.map_spec.specs.Target.{if_read}
 use Rattle.map_spec.specs.Written.{Element}
 use Rattle.readers.specs.Founded.{is_among}
-use Rattle.readers.specs.Named.{name_joined, names_of_element}
+use Rattle.readers.specs.Named.{name_joined, reused_by}
 use Rattle.readers.proofs.FileLaws.{file_read, not_external}
 use Rattle.conref_pull.specs.Asking.{AreAmong, names_of_value}
 
@@ -33,29 +31,12 @@ pub value_names : (doc value : List ℕ) (reference : Reference) (name : List �
 value_names doc value reference name read is =
     named_by doc value (reference_of value) reference name refl read is
 
--- what a conref names is among what its element names
-
-cons_first : (h : Option (List ℕ)) (xs : List (List ℕ)) (m : List ℕ) → IsTrue (is_among (option_to_list h) m)
-    → IsTrue (is_among (cons_option h xs) m)
-cons_first None xs m among = absurd (false≢true among)
-cons_first (Some name) xs m among =
-    ⊎_elim (λ here. or_left (bytes_eq name m) _ here) (λ no. absurd (false≢true no))
-    (or_cases (bytes_eq name m) false among)
-
-cons_behind : (h : Option (List ℕ)) (xs : List (List ℕ)) (m : List ℕ) → IsTrue (is_among xs m)
-    → IsTrue (is_among (cons_option h xs) m)
-cons_behind None xs m among = among
-cons_behind (Some name) xs m among = or_right (bytes_eq name m) _ among
-
+-- what a conref names, the content references of its element name
 pub conref_among : (element : Element) (doc : List ℕ) (conref : Option (List ℕ)) → element.doc ≡ doc
-    → conref ≡ attribute (codes "conref") element → AreAmong (names_of_value doc conref) (names_of_element element)
+    → conref ≡ attribute (codes "conref") element → AreAmong (names_of_value doc conref) (reused_by element)
 conref_among element doc conref home is = record {
-  each = λ m among.
-      (let here : IsTrue (is_among (names_of_value element.doc (attribute (codes "conref") element)) m) =
-      subst (λ (value : Option (List ℕ)). IsTrue (is_among (names_of_value element.doc value) m)) is
-      (subst (λ (d : List ℕ). IsTrue (is_among (names_of_value d conref) m)) (sym home) among) in
-      cons_behind (option_and_then (name_joined element.doc) (attribute (codes "href") element)) _ m
-      (cons_first (option_and_then (name_joined element.doc) (attribute (codes "conref") element)) _ m here));
+  each = λ m among. subst (λ (value : Option (List ℕ)). IsTrue (is_among (names_of_value element.doc value) m)) is
+      (subst (λ (d : List ℕ). IsTrue (is_among (names_of_value d conref) m)) (sym home) among);
 }
 
 -- a document that a value names is among those that it names

@@ -17,6 +17,7 @@ use Rattle.page_spec.specs.Content as content
 use Rattle.page_spec.specs.Content.{Setting, Sought, by_conref, by_key, found_by, found_in, key_faults, key_named, missing_fault, has_reference, sought_by, value_used}
 use Rattle.page_spec.specs.Places.{Standing, target_in}
 use Rattle.page_spec.specs.Pushes.{is_same_topic}
+use Rattle.readers.specs.Documents.{IsGiven}
 use Rattle.readers.specs.Named.{named_tree}
 use Rattle.topic_find.specs.Walk.{place_of, target_place}
 use Rattle.dita_doc.specs.declared.stop.NoMemory.{NoMemory}
@@ -27,7 +28,7 @@ use Rattle.reader_spec.specs.World.{World}
 use Rattle.readers.specs.Setting.{Stand}
 use Rattle.readers.specs.Told.{Told}
 use Rattle.conref_pull.specs.Setting.{documents_in, setting_of}
-use Rattle.conref_pull.specs.Asking.{AreGiven, IsGivenIn, names_of_doc}
+use Rattle.conref_pull.specs.Asking.{IsGivenIn}
 use Rattle.conref_pull.specs.Found.{AreFound, IsKeyed, IsSearch, IsSought, missing_by, search_faults}
 use Rattle.conref_pull.specs.Sought.{if_reference, sought_found, sought_shown}
 use Rattle.conref_pull.specs.Tables.{AreTables, Documents}
@@ -88,12 +89,12 @@ module _ (setting : Setting) (name topic element value : List ℕ) (places : Pla
 
 -- what is in the document is given, if that is
 pub given_found : (told : List Told) (doc : Arc Doc Global) (result : Result (Option Found) NoMemory)
-    → IfOk result (λ found. IfSome found (λ one. one.doc ≡ doc)) → AreGiven told (names_of_doc (arc_value doc))
+    → IfOk result (λ found. IfSome found (λ one. one.doc ≡ doc)) → IsGiven told (Some (named_tree (arc_value doc)))
     → IfOk result (λ found. IsGivenIn told found)
 given_found told doc (Err stop) same given = tt
 given_found told doc (Ok None) same given = tt
 given_found told doc (Ok (Some found)) same given =
-    subst (λ (d : Arc Doc Global). AreGiven told (names_of_doc (arc_value d))) (sym same) given
+    subst (λ (d : Arc Doc Global). IsGiven told (Some (named_tree (arc_value d)))) (sym same) given
 
 -- By a key, and by a value
 

@@ -1,6 +1,5 @@
 pub mod AcceptLaws
 pub mod AcceptedLaws
-pub mod AmongLaws
 pub mod AroundLaws
 pub mod AskingLaws
 pub mod CallLaws
@@ -15,6 +14,7 @@ pub mod KnownLaws
 pub mod LabelLaws
 pub mod LinkLaws
 pub mod MergeLaws
+pub mod TakingLaws
 pub mod NameLaws
 pub mod NodeLaws
 pub mod OriginLaws

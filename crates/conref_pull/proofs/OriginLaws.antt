@@ -12,12 +12,12 @@ use Rattle.doc_elements.specs.Walk.{element_of}
 use Rattle.map_spec.specs.Written as written
 use Rattle.map_spec.specs.Written.{Whole}
 use Rattle.readers.specs.Founded.{is_among}
-use Rattle.readers.specs.Named.{name_at, named, names_in, names_of_element}
-use Rattle.conref_pull.specs.Asking.{AreAmong, element_around, names_below, names_of_doc, names_of_node}
+use Rattle.readers.specs.Named.{name_at, named, reused_by, reused_in}
+use Rattle.readers.proofs.AmongLaws.{among_back, among_either, among_front}
+use Rattle.conref_pull.specs.Asking.{AreAmong, element_around, reused_below, reused_of_doc, reused_of_node}
 use Rattle.conref_pull.specs.Origin.{begins_element, first_whole, named_content}
 use Rattle.conref_pull.specs.Parts.{IsPart}
-use Rattle.conref_pull.proofs.AmongLaws.{among_back, among_front}
-use Rattle.conref_pull.proofs.NameLaws.{among_either, below_names}
+use Rattle.conref_pull.proofs.NameLaws.{below_reused}
 use Rattle.conref_pull.proofs.PartLaws.{element_there}
 
 -- an element stands at its place
@@ -79,30 +79,30 @@ whole_there doc place (Element label attributes at line held rest) node inside o
     ∙ ap (λ i. f label attributes (name_at doc.origins at) line i (document inside).origins) inside_is
     ∙ ap (λ (d : Doc). f label attributes (name_at doc.origins at) line held d.origins) within
 
--- What an element and all that it holds name, the document names
+-- What content references of an element and of all that it holds name, those of the document name
 
-pub whole_names : (doc : Doc) (place : ℕ) (node : Node) (inside : Siblings) (origin : List ℕ)
+pub whole_reused : (doc : Doc) (place : ℕ) (node : Node) (inside : Siblings) (origin : List ℕ)
     → IsElementAt doc place node inside → Some origin ≡ slice_get doc.origins node.origin
-    → AreAmong (names_below (element_of origin node) (named_content inside)) (names_of_doc doc)
-whole_names doc place node inside origin is name = record {
+    → AreAmong (reused_below (element_of origin node) (named_content inside)) (reused_of_doc doc)
+whole_reused doc place node inside origin is name = record {
   each = λ m among.
       (let doc_is : origin ≡ name_at doc.origins node.origin =
       ap (λ (found : Option (List ℕ)). unwrap_or found []) name in
-      below_names doc.origins (tree_of doc.nodes) place node.text node.attributes node.origin node.line (content inside)
-      m is.element
+      below_reused doc.origins (tree_of doc.nodes) place node.text node.attributes node.origin node.line
+      (content inside) m is.element
       (subst (λ (o : List ℕ). IsTrue (is_among
-      (names_below (element_of o node) (named doc.origins (content inside))) m)) doc_is
+      (reused_below (element_of o node) (named doc.origins (content inside))) m)) doc_is
       (subst (λ (d : Doc). IsTrue (is_among
-      (names_below (element_of origin node) (named d.origins (content inside))) m)) is.within among)));
+      (reused_below (element_of origin node) (named d.origins (content inside))) m)) is.within among)));
 }
 
-pub node_names : (doc : Doc) (place : ℕ) (node : Node) (inside : Siblings) → IsElementAt doc place node inside
-    → AreAmong (names_of_node inside node) (names_of_doc doc)
-node_names doc place node inside is = record {
+pub node_reused : (doc : Doc) (place : ℕ) (node : Node) (inside : Siblings) → IsElementAt doc place node inside
+    → AreAmong (reused_of_node inside node) (reused_of_doc doc)
+node_reused doc place node inside is = record {
   each = λ m among.
-      below_names doc.origins (tree_of doc.nodes) place node.text node.attributes node.origin node.line (content inside)
-      m is.element
-      (subst (λ (d : Doc). IsTrue (is_among (names_below (element_of (name_at d.origins node.origin) node)
+      below_reused doc.origins (tree_of doc.nodes) place node.text node.attributes node.origin node.line
+      (content inside) m is.element
+      (subst (λ (d : Doc). IsTrue (is_among (reused_below (element_of (name_at d.origins node.origin) node)
       (named d.origins (content inside))) m)) is.within among);
 }
 
@@ -124,22 +124,22 @@ module _ (all : Siblings) (node : Node) (inside rest : Siblings)
       ∙ ap (λ (d : Doc). written.Node (element_around inside node) (named_content inside)
       (named d.origins (content rest))) (sym behind)
 
-  pub first_among : AreAmong (names_of_node inside node) (names_in (named_content all))
+  pub first_among : AreAmong (reused_of_node inside node) (reused_in (named_content all))
   first_among = record {
-    each = λ m here. subst (λ (w : written.Written). IsTrue (is_among (names_in w) m)) (sym split_is)
-        (among_either (names_of_element (element_around inside node)) (names_in (named_content inside)) m
-        (IsTrue (is_among (names_of_element (element_around inside node)
-        ++ (names_in (named_content inside) ++ names_in (named_content rest))) m))
-        (λ h. among_front (names_of_element (element_around inside node)) _ m h)
-        (λ h. among_back (names_of_element (element_around inside node)) _ m
-        (among_front (names_in (named_content inside)) (names_in (named_content rest)) m h)) here);
+    each = λ m here. subst (λ (w : written.Written). IsTrue (is_among (reused_in w) m)) (sym split_is)
+        (among_either (reused_by (element_around inside node)) (reused_in (named_content inside)) m
+        (IsTrue (is_among (reused_by (element_around inside node)
+        ++ (reused_in (named_content inside) ++ reused_in (named_content rest))) m))
+        (λ h. among_front (reused_by (element_around inside node)) _ m h)
+        (λ h. among_back (reused_by (element_around inside node)) _ m
+        (among_front (reused_in (named_content inside)) (reused_in (named_content rest)) m h)) here);
   }
 
-  pub rest_among : AreAmong (names_in (named_content rest)) (names_in (named_content all))
+  pub rest_among : AreAmong (reused_in (named_content rest)) (reused_in (named_content all))
   rest_among = record {
-    each = λ m here. subst (λ (w : written.Written). IsTrue (is_among (names_in w) m)) (sym split_is)
-        (among_back (names_of_element (element_around inside node)) _ m
-        (among_back (names_in (named_content inside)) (names_in (named_content rest)) m here));
+    each = λ m here. subst (λ (w : written.Written). IsTrue (is_among (reused_in w) m)) (sym split_is)
+        (among_back (reused_by (element_around inside node)) _ m
+        (among_back (reused_in (named_content inside)) (reused_in (named_content rest)) m here));
   }
 
 pub text_is : (all rest : Siblings) (text : List ℕ) (origin line : ℕ)
@@ -151,29 +151,29 @@ text_is all rest text origin line is behind = ap (named (document all).origins) 
 
 pub text_among : (all rest : Siblings) (text : List ℕ) (origin line : ℕ)
     → content all ≡ Chars text origin line (content rest) → document rest ≡ document all
-    → AreAmong (names_in (named_content rest)) (names_in (named_content all))
+    → AreAmong (reused_in (named_content rest)) (reused_in (named_content all))
 text_among all rest text origin line is behind = record {
-  each = λ m here. subst (λ (c : Content). IsTrue (is_among (names_in (named (document all).origins c)) m)) (sym is)
-      (subst (λ (d : Doc). IsTrue (is_among (names_in (named d.origins (content rest))) m)) behind here);
+  each = λ m here. subst (λ (c : Content). IsTrue (is_among (reused_in (named (document all).origins c)) m)) (sym is)
+      (subst (λ (d : Doc). IsTrue (is_among (reused_in (named d.origins (content rest))) m)) behind here);
 }
 
 pub inside_among : (inside : Siblings) (node : Node)
-    → AreAmong (names_in (named_content inside)) (names_of_node inside node)
+    → AreAmong (reused_in (named_content inside)) (reused_of_node inside node)
 inside_among inside node =
-    record { each = λ m here. among_back (names_of_element (element_around inside node)) _ m here }
+    record { each = λ m here. among_back (reused_by (element_around inside node)) _ m here }
 
 pub element_among : (inside : Siblings) (node : Node)
-    → AreAmong (names_of_element (element_around inside node)) (names_of_node inside node)
-element_among inside node = record { each = λ m here. among_front (names_of_element (element_around inside node)) _ m here }
+    → AreAmong (reused_by (element_around inside node)) (reused_of_node inside node)
+element_among inside node = record { each = λ m here. among_front (reused_by (element_around inside node)) _ m here }
 
 pub among_then : (a b c : List (List ℕ)) → AreAmong a b → AreAmong b c → AreAmong a c
 among_then a b c first second = record { each = λ m here. second.each m (first.each m here) }
 
 pub origin_among : (inside : Siblings) (node : Node) (origin : List ℕ) (doc : Doc) → doc ≡ document inside
     → Some origin ≡ slice_get doc.origins node.origin
-    → AreAmong (names_of_element (element_of origin node)) (names_of_node inside node)
+    → AreAmong (reused_by (element_of origin node)) (reused_of_node inside node)
 origin_among inside node origin doc same name =
-    subst (λ (e : written.Element). AreAmong (names_of_element e) (names_of_node inside node))
+    subst (λ (e : written.Element). AreAmong (reused_by e) (reused_of_node inside node))
     (sym (around_is inside node origin (name ∙ ap (λ (d : Doc). slice_get d.origins node.origin) same)))
     (element_among inside node)
 

@@ -1,18 +1,24 @@
--- Three tests, of which all must pass.
-use Rattle.std.specs.Prelude.{◌≡◌, ◌&&◌, Bool, true, false}
-use Rattle.std.proofs.Common.{refl}
+-- Types that begin with others: with none nothing begins, and what begins with some has some itself.
+use Rattle.std.specs.Prelude.{◌≡◌, ◌&&◌, ◌==◌, ℕ, Bool, true, false, not, List, [], ◌∷◌, length}
+use Rattle.std.proofs.Common.{arith, refl}
+use Rattle.std.proofs.lemmas.Bool.Decides.{nat_tests}
+use Rattle.page_spec.specs.Pushes.{begins_with}
 
-pub first_fails : (first second third : Bool) → first ≡ false → false ≡ (first && second && third)
-first_fails false second third e = refl
-first_fails true second third e = cc
+abbrev has_some : List (List ℕ) → Bool
+has_some tokens = not (length tokens == 0)
 
-pub second_fails : (first second third : Bool) → second ≡ false → false ≡ (first && second && third)
-second_fails false second third e = refl
-second_fails true false third e = refl
-second_fails true true third e = cc
+both_fail : (first third : Bool) → false ≡ (first && false && third)
+both_fail true third = refl
+both_fail false third = refl
 
-pub third_counts : (first second third given : Bool) → first ≡ true → second ≡ true → given ≡ third
-    → given ≡ (first && second && third)
-third_counts true true third given one two is = is
-third_counts true false third given one two is = cc
-third_counts false second third given one two is = cc
+pub none_wanted : (own wanted : List (List ℕ)) → wanted ≡ []
+    → false ≡ (has_some own && has_some wanted && begins_with own wanted)
+none_wanted own wanted none = rw none (both_fail (has_some own) true)
+
+not_empty : (token : List ℕ) (tokens : List (List ℕ)) → (length (token ∷ tokens) == 0) ≡ false
+not_empty token tokens = grind (arith, nat_tests)
+
+pub some_wanted : (own wanted more : List (List ℕ)) (word : List ℕ) → wanted ≡ word ∷ more
+    → begins_with own wanted ≡ (has_some own && has_some wanted && begins_with own wanted)
+some_wanted [] wanted more word is = rw is refl
+some_wanted (token ∷ own) wanted more word is = rw is (simp (not_empty token own, not_empty word more) refl)

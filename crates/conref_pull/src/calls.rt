@@ -3,7 +3,6 @@
 ghost use Rattle.std.specs.Prelude.{◌≡◌, ◌+◌, ◌++◌, [], ◌∷◌, ℕ, List, IfOk, OnOk};
 ghost use Rattle.std.specs.Option.{option_copied};
 ghost use Rattle.dita_doc.specs.Tree.{tree_of};
-ghost use Rattle.dita_doc.specs.declared.plan.PageId.{PageId};
 ghost use Rattle.dita_doc.specs.declared.plan.PlanNode.{PlanNode};
 ghost use Rattle.map_spec.specs.Written as written_spec;
 ghost use Rattle.page_spec.specs.Content as content_spec;
@@ -13,6 +12,7 @@ ghost use Rattle.readers.specs.Documents.{AsksOnly};
 ghost use Rattle.readers.specs.Founded as founded_spec;
 ghost use Rattle.readers.specs.Founded.{Grows, StaysFounded};
 ghost use Rattle.readers.specs.Told.{Agrees};
+ghost use Rattle.conref_pull.specs.Asking as asking_spec;
 ghost use Rattle.conref_pull.specs.Asking.{Asks};
 ghost use Rattle.conref_pull.specs.Resolved as resolved_spec;
 ghost use Rattle.conref_pull.specs.Resolved.{IsResolved, too_many_faults};
@@ -53,7 +53,7 @@ pub fn resolve<A: Asker>(
     ensures founded { StaysFounded (founded_spec.homes (A.stand asker.old).setting.nodes
         ++ context.now.page.doc ∷ ditavals context.now.val context.now.page.filters)
         (A.told asker.old) (A.told asker.new) }
-    ensures asks { AsksOnly founded_spec.names_given (context.now.page.doc
+    ensures asks { AsksOnly asking_spec.of_content (context.now.page.doc
         ∷ ditavals context.now.val context.now.page.filters) (A.told asker.old)
         (A.told asker.new) }
     ensures grows { Grows (A.told asker.old) (A.told asker.new) }
@@ -79,7 +79,7 @@ pub fn resolve_page<A: Asker>(
     ensures founded { StaysFounded (founded_spec.homes (A.stand asker.old).setting.nodes
         ++ context.now.page.doc ∷ ditavals context.now.val context.now.page.filters)
         (A.told asker.old) (A.told asker.new) }
-    ensures asks { AsksOnly founded_spec.names_given (context.now.page.doc
+    ensures asks { AsksOnly asking_spec.of_content (context.now.page.doc
         ∷ ditavals context.now.val context.now.page.filters) (A.told asker.old)
         (A.told asker.new) }
     ensures grows { Grows (A.told asker.old) (A.told asker.new) }
@@ -111,7 +111,7 @@ pub fn resolve_with<A: Asker>(
     ensures founded { StaysFounded (founded_spec.homes (A.stand asker.old).setting.nodes
         ++ context.now.page.doc ∷ ditavals context.now.val context.now.page.filters)
         (A.told asker.old) (A.told asker.new) }
-    ensures asks { AsksOnly founded_spec.names_given (context.now.page.doc
+    ensures asks { AsksOnly asking_spec.of_content (context.now.page.doc
         ∷ ditavals context.now.val context.now.page.filters) (A.told asker.old)
         (A.told asker.new) }
     ensures grows { Grows (A.told asker.old) (A.told asker.new) }
@@ -155,7 +155,7 @@ pub fn resolve_page_with<A: Asker>(
     ensures founded { StaysFounded (founded_spec.homes (A.stand asker.old).setting.nodes
         ++ context.now.page.doc ∷ ditavals context.now.val context.now.page.filters)
         (A.told asker.old) (A.told asker.new) }
-    ensures asks { AsksOnly founded_spec.names_given (context.now.page.doc
+    ensures asks { AsksOnly asking_spec.of_content (context.now.page.doc
         ∷ ditavals context.now.val context.now.page.filters) (A.told asker.old)
         (A.told asker.new) }
     ensures grows { Grows (A.told asker.old) (A.told asker.new) }

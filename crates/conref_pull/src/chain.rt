@@ -31,8 +31,8 @@ impl Link {
         ensures target { (one : Taken) → linked_spec.IsLink self.now one
             → origin_spec.whole_shown result ≡ Some (one.element, one.inside) }
         ensures names { IfSome result (λ whole. asking_spec.AreAmong
-            (asking_spec.names_of_whole whole)
-            (asking_spec.names_of_doc (arc_value self.now.doc))) }
+            (asking_spec.reused_of_whole whole)
+            (asking_spec.reused_of_doc (arc_value self.now.doc))) }
     {
         whole_at(&self.doc, self.place)
     }
@@ -62,7 +62,7 @@ impl Chain {
             → origin_spec.whole_shown result ≡ Some (one.element, one.inside) }
         ensures given { (told : List Told) → asking_spec.AreGivenTo told self.now.links.items
             → IfSome result (λ whole. asking_spec.AreGiven told
-            (asking_spec.names_of_whole whole)) }
+            (asking_spec.reused_of_whole whole)) }
     {
         match self.links.split_first() {
             None => None,
@@ -79,7 +79,7 @@ impl<'a> Resolver<'a> {
     ghost use Rattle.page_spec.specs.Content as content_spec;
     ghost use Rattle.reader_spec.specs.World.{World};
     ghost use Rattle.readers.specs.Founded.{Grows};
-    ghost use Rattle.readers.specs.Named.{names_of_element};
+    ghost use Rattle.readers.specs.Named.{reused_by};
     ghost use Rattle.readers.specs.Told.{Agrees};
     ghost use Rattle.conref_pull.specs.Asking.{AreGivenTo, Asks, IsGivenIf};
     ghost use Rattle.conref_pull.specs.Linked as linked_spec;
@@ -114,7 +114,7 @@ impl<'a> Resolver<'a> {
             inside) [] chain.links.items links chain.end self.old self.new places.new) }
         ensures asks { (nodes : List PlanNode) → (A.stand asker.old).setting.nodes ≡ nodes
             → Asks nodes (self.old.context.now.page.doc
-            ∷ names_of_element (walk_spec.element_of origin.now element.now)) (A.told asker.old)
+            ∷ reused_by (walk_spec.element_of origin.now element.now)) (A.told asker.old)
             (A.told asker.new) }
         ensures given { IfOk result (λ chain. AreGivenTo (A.told asker.new) chain.links.items) }
         ensures page { OnOk result (setting_spec.IsSamePage self.old self.new) }
@@ -154,7 +154,7 @@ impl<'a> Resolver<'a> {
             inside) taken.old.items taken.new.items links end self.old self.new places.new) }
         ensures asks { (nodes : List PlanNode) → (A.stand asker.old).setting.nodes ≡ nodes
             → Asks nodes (self.old.context.now.page.doc
-            ∷ names_of_element (walk_spec.element_of origin.now element.now)) (A.told asker.old)
+            ∷ reused_by (walk_spec.element_of origin.now element.now)) (A.told asker.old)
             (A.told asker.new) }
         ensures given { AreGivenTo (A.told asker.old) taken.old.items
             → OnOk result (AreGivenTo (A.told asker.new) taken.new.items) }
@@ -198,7 +198,7 @@ impl<'a> Resolver<'a> {
             self.old self.new places.new link) }
         ensures asks { (nodes : List PlanNode) → (A.stand asker.old).setting.nodes ≡ nodes
             → Asks nodes (self.old.context.now.page.doc
-            ∷ names_of_element (walk_spec.element_of origin.now element.now)) (A.told asker.old)
+            ∷ reused_by (walk_spec.element_of origin.now element.now)) (A.told asker.old)
             (A.told asker.new) }
         ensures given { IfOk result (λ link. IsGivenIf (A.told asker.new) link) }
         ensures page { OnOk result (setting_spec.IsSamePage self.old self.new) }

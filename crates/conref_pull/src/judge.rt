@@ -36,6 +36,9 @@ impl<'a> Resolver<'a> {
             ≡ rules_spec.some_exclude self.old.rules attributes.now) }
     {
         append_group_faults(self.alloc, &mut self.faults, origin, element, attributes)?;
+        if self.rules.is_empty() {
+            return Ok(false);
+        }
         if !has_judged(attributes) {
             return Ok(false);
         }

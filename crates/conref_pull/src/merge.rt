@@ -27,11 +27,14 @@ pub(crate) struct Merged {
 }
 
 impl Merged {
-    ghost use Rattle.std.specs.Prelude.{◌≡◌, IfOk};
+    ghost use Rattle.std.specs.Prelude.{ℕ, List, IfOk};
     ghost use Rattle.doc_elements.specs.Walk as walk_spec;
     ghost use Rattle.map_spec.specs.Written.{Element};
     ghost use Rattle.page_spec.specs.Content as content_spec;
+    ghost use Rattle.page_spec.specs.Content.{Place};
+    ghost use Rattle.conref_pull.specs.Linked as linked_spec;
     ghost use Rattle.conref_pull.specs.Merging as merging_spec;
+    ghost use Rattle.conref_pull.specs.Step.{Taken};
 
     // An element as it is written, in the document of this name.
     pub(crate) fn written(alloc: Global, origin: &Name, element: &Node) -> Result<Merged, NoMemory>
@@ -48,31 +51,70 @@ impl Merged {
         })
     }
 
-    // The element that was written in the document of this name, with what it takes from this
-    // target: its own attributes, without those that it leaves to the target, and those of the
-    // target that it has not.
-    pub(crate) fn taken_by(
+    // What an element does not leave to its target.
+    fn specified(alloc: Global, origin: &Name, element: &Node) -> Result<Merged, NoMemory>
+        ensures { IfOk result (λ merged. merging_spec.IsMerged merged
+            (merging_spec.own_part (walk_spec.element_of origin.now element.now))) }
+    {
+        let mut attributes = List::new(alloc);
+        append_specified(&mut attributes, element)?;
+        Ok(Merged {
+            attributes,
+            href_doc: origin.clone()?,
+        })
+    }
+
+    // The same with what it has not from these targets, the nearest of which stands last. Each of
+    // them leaves values to the one before it.
+    fn with_nearer(self, alloc: Global, nearer: &[Link]) -> Result<Merged, NoMemory>
+        ensures { (path : List Place) (end : ℕ) (taken : List Taken) (own : Element)
+            → linked_spec.AreLinks path end taken nearer.now → merging_spec.IsMerged self own
+            → IfOk result (λ merged. merging_spec.TakesAll merged own taken) }
+    {
+        let mut merged = self;
+        let mut left = nearer;
+        while let Some((nearest, others)) = left.split_last() {
+            merged = merged.with_link(alloc, nearest, true)?;
+            left = others;
+        }
+        Ok(merged)
+    }
+
+    // The same with what it has not from a target, which may leave values to another.
+    fn with_link(self, alloc: Global, link: &Link, leaves: bool) -> Result<Merged, NoMemory>
+        ensures { (own : Element) (one : Taken) → merging_spec.IsMerged self own
+            → linked_spec.IsLink link.now one → IfOk result (λ merged. merging_spec.IsMerged merged
+            (merging_spec.taking own (merging_spec.part_of leaves one.element))) }
+    {
+        let Some(target) = link.whole() else {
+            return Ok(self);
+        };
+        self.with_target(alloc, target.origin, target.node, leaves)
+    }
+
+    // The same with what it has not from an element that was written in the document of this name.
+    fn with_target(
         self,
         alloc: Global,
         origin: &Name,
-        element: &Node,
+        target: &Node,
+        leaves: bool,
     ) -> Result<Merged, NoMemory>
-        ensures { (target : Element) → merging_spec.IsMerged self target
-            → IfOk result (λ merged. merging_spec.IsMerged merged
-            (content_spec.merged_element (walk_spec.element_of origin.now element.now) target)) }
+        ensures { (own : Element) → merging_spec.IsMerged self own
+            → IfOk result (λ merged. merging_spec.IsMerged merged (merging_spec.taking own
+            (merging_spec.part_of leaves (walk_spec.element_of origin.now target.now)))) }
     {
         let Merged {
-            attributes: taken,
+            attributes,
             href_doc,
         } = self;
-        let mut own = List::new(alloc);
-        append_specified(&mut own, element)?;
-        let href_doc = href_from(takes_href(&own, &taken), href_doc, origin)?;
         let mut more = List::new(alloc);
-        append_missing(&mut more, &own, taken)?;
-        append(&mut own, more)?;
+        append_missing(&mut more, &attributes, target, leaves)?;
+        let href_doc = href_from(takes_href(&attributes, &more), origin, href_doc)?;
+        let mut all = attributes;
+        append(&mut all, more)?;
         Ok(Merged {
-            attributes: own,
+            attributes: all,
             href_doc,
         })
     }
@@ -112,73 +154,29 @@ pub(crate) fn merged_with(
         → IfOk result (λ merged. merging_spec.IsMerged merged (step_spec.followed_to_all
         (walk_spec.element_of origin.now element.now) inside [] [] taken).element) }
 {
-    let targets = merged_targets(alloc, links)?;
-    match targets {
-        None => Merged::written(alloc, origin, element),
-        Some(target) => target.taken_by(alloc, origin, element),
-    }
-}
-
-// What the nearest of these targets gives, if there is one.
-fn merged_targets(alloc: Global, links: &[Link]) -> Result<Option<Merged>, NoMemory>
-    ensures { (path : List Place) (end : ℕ) (taken : List Taken)
-        → linked_spec.AreLinks path end taken links.now
-        → IfOk result (λ merged. merging_spec.IsTarget merged taken) }
-{
     match links.split_first() {
-        None => Ok(None),
-        Some((farthest, nearer)) => merged_from(alloc, farthest, nearer),
+        None => Merged::written(alloc, origin, element),
+        Some((farthest, nearer)) => merged_from(alloc, origin, element, farthest, nearer),
     }
 }
 
-fn merged_from(alloc: Global, farthest: &Link, nearer: &[Link]) -> Result<Option<Merged>, NoMemory>
+// The nearest target comes first, so that nothing is copied that the element or a nearer target has.
+fn merged_from(
+    alloc: Global,
+    origin: &Name,
+    element: &Node,
+    farthest: &Link,
+    nearer: &[Link],
+) -> Result<Merged, NoMemory>
     ensures { (path : List Place) (end : ℕ) (one : Taken) (taken : List Taken)
         → linked_spec.IsLink farthest.now one → linked_spec.AreLinks path end taken nearer.now
-        → IfOk result (λ merged. merging_spec.IsMergedThere merged
-        (step_spec.merged_onto one.element taken)) }
+        → IfOk result (λ merged. merging_spec.IsMerged merged (content_spec.merged_element
+        (walk_spec.element_of origin.now element.now)
+        (step_spec.merged_onto one.element taken))) }
 {
-    let written = written_at(alloc, farthest)?;
-    match written {
-        None => Ok(None),
-        Some(merged) => onto_all(alloc, merged, nearer),
-    }
-}
-
-// A target as it is written.
-fn written_at(alloc: Global, link: &Link) -> Result<Option<Merged>, NoMemory>
-    ensures { (one : Taken) → linked_spec.IsLink link.now one
-        → IfOk result (λ merged. merging_spec.IsMergedThere merged one.element) }
-{
-    let Some(target) = link.whole() else {
-        return Ok(None);
-    };
-    Ok(Some(Merged::written(alloc, target.origin, target.node)?))
-}
-
-// What these targets make of one that each in turn takes.
-fn onto_all(alloc: Global, farthest: Merged, nearer: &[Link]) -> Result<Option<Merged>, NoMemory>
-    ensures { (path : List Place) (end : ℕ) (taken : List Taken) (element : Element)
-        → linked_spec.AreLinks path end taken nearer.now → merging_spec.IsMerged farthest element
-        → IfOk result (λ merged. merging_spec.IsMergedThere merged
-        (step_spec.merged_onto element taken)) }
-{
-    let mut merged = farthest;
-    for link in nearer {
-        merged = onto_one(alloc, merged, link)?;
-    }
-    Ok(Some(merged))
-}
-
-fn onto_one(alloc: Global, taken: Merged, link: &Link) -> Result<Merged, NoMemory>
-    ensures { (one : Taken) (element : Element) → linked_spec.IsLink link.now one
-        → merging_spec.IsMerged taken element
-        → IfOk result (λ merged. merging_spec.IsMerged merged
-        (content_spec.merged_element one.element element)) }
-{
-    let Some(target) = link.whole() else {
-        return Ok(taken);
-    };
-    taken.taken_by(alloc, target.origin, target.node)
+    let own = Merged::specified(alloc, origin, element)?;
+    let merged = own.with_nearer(alloc, nearer)?;
+    merged.with_link(alloc, farthest, false)
 }
 
 // Whether an href is taken from a target.
@@ -191,13 +189,13 @@ fn takes_href(own: &List<Attribute>, taken: &List<Attribute>) -> bool
     has_name(taken, "href")
 }
 
-fn href_from(takes: bool, taken: Name, own: &Name) -> Result<Name, NoMemory>
-    ensures { IfOk result (λ name. name ≡ (if takes then taken else own.now)) }
+fn href_from(takes: bool, target: &Name, own: Name) -> Result<Name, NoMemory>
+    ensures { IfOk result (λ name. name ≡ (if takes then target.now else own)) }
 {
     if takes {
-        return Ok(taken);
+        return Ok(target.clone()?);
     }
-    Ok(own.clone()?)
+    Ok(own)
 }
 
 // Appends the attributes that an element does not leave to its target.
@@ -212,18 +210,20 @@ fn append_specified(out: &mut List<Attribute>, element: &Node) -> Result<(), NoM
     Ok(())
 }
 
-// Appends the attributes of a target that are taken if the element has these of its own.
+// Appends the attributes of a target that an element with these takes, without those that the target
+// leaves to another.
 fn append_missing(
     out: &mut List<Attribute>,
     own: &List<Attribute>,
-    taken: List<Attribute>,
+    target: &Node,
+    leaves: bool,
 ) -> Result<(), NoMemory>
     ensures { OnOk result (out.new ≡ out.old
-        ++ filter (merging_spec.is_missing own.now) taken) }
+        ++ filter (merging_spec.is_given leaves own.now) target.now.attributes) }
 {
-    for attribute in taken.into_vec() {
-        if is_missing(own, &attribute) {
-            out.push(attribute)?;
+    for attribute in target.attributes.as_slice() {
+        if is_given(own, attribute, leaves) {
+            out.push(attribute.clone()?)?;
         }
     }
     Ok(())
@@ -247,6 +247,13 @@ fn append_without_id(out: &mut List<Attribute>, attributes: List<Attribute>) -> 
         }
     }
     Ok(())
+}
+
+// Whether an attribute of a target is one that an element with these takes, and is not left.
+fn is_given(own: &List<Attribute>, other: &Attribute, leaves: bool) -> bool
+    ensures { result ≡ merging_spec.is_given leaves own.now other.now }
+{
+    (!leaves || is_specified(other)) && is_missing(own, other)
 }
 
 // Whether an attribute of a target is taken by an element that has these of its own.

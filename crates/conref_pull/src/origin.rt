@@ -5,7 +5,7 @@ ghost use Rattle.std.specs.Option.{option_copied};
 ghost use Rattle.dita_doc.specs.Siblings as siblings_spec;
 ghost use Rattle.dita_doc.specs.Tree as tree_spec;
 ghost use Rattle.dita_doc.specs.Tree.{Content};
-ghost use Rattle.conref_pull.specs.Asking.{AreAmong, names_of_doc, names_of_whole};
+ghost use Rattle.conref_pull.specs.Asking.{AreAmong, reused_of_doc, reused_of_whole};
 ghost use Rattle.conref_pull.specs.Parts as parts_spec;
 ghost use Rattle.conref_pull.specs.Origin as origin_spec;
 
@@ -26,8 +26,8 @@ pub(crate) fn whole_at(doc: &Doc, place: u32) -> Option<Whole<'_>>
         → origin_spec.begins_element part ≡ true
         → origin_spec.whole_shown result ≡ origin_spec.first_whole doc.now.origins part }
     ensures here { IfSome result (λ whole. slice_get doc.now.nodes place ≡ Some whole.node.now) }
-    ensures names { IfSome result (λ whole. AreAmong (names_of_whole whole)
-        (names_of_doc doc.now)) }
+    ensures names { IfSome result (λ whole. AreAmong (reused_of_whole whole)
+        (reused_of_doc doc.now)) }
 {
     match Siblings::element_at(doc, place) {
         None => None,
@@ -43,7 +43,7 @@ fn whole_of<'a>(doc: &'a Doc, node: &'a Node, inside: Siblings<'a>) -> Option<Wh
         → origin_spec.whole_shown result ≡ origin_spec.first_whole doc.now.origins part }
     ensures node { IfSome result (λ whole. whole.node.now ≡ node.now) }
     ensures names { (place : ℕ) → siblings_spec.IsElementAt doc.now place node.now inside.entry
-        → IfSome result (λ whole. AreAmong (names_of_whole whole) (names_of_doc doc.now)) }
+        → IfSome result (λ whole. AreAmong (reused_of_whole whole) (reused_of_doc doc.now)) }
 {
     match origin_of(doc, node) {
         None => None,

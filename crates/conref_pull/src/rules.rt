@@ -176,7 +176,7 @@ impl<'a> Model for PageRules<'a> {
 }
 
 impl<'a> PageRules<'a> {
-    ghost use Rattle.std.specs.Prelude.{◌≡◌, IfOk};
+    ghost use Rattle.std.specs.Prelude.{◌≡◌, [], IfOk, true};
     ghost use Rattle.conref_pull.specs.Rules as rules_spec;
 
     pub(crate) fn of(
@@ -192,6 +192,13 @@ impl<'a> PageRules<'a> {
         push_filters(&mut lists, known, context.page.filters.as_slice())?;
         let tables = Vec::new(alloc);
         Ok(PageRules { lists, tables })
+    }
+
+    // Whether the page has no rules at all.
+    pub(crate) fn is_empty(&self) -> bool
+        ensures { result ≡ true → self.now ≡ [] }
+    {
+        self.lists.is_empty()
     }
 
     // Whether rules exclude an element of these attributes.

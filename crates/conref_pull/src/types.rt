@@ -6,7 +6,7 @@ ghost use Rattle.doc_elements.specs.Walk as walk_spec;
 ghost use Rattle.page_spec.specs.Pushes as pushes_spec;
 
 use dita_doc::{Node, split_word};
-use doc_elements::{has_types, tokens_of};
+use doc_elements::tokens_of;
 
 // Whether an element is of the type of another, or of one that specializes it. One without a class
 // that can be read is neither.
@@ -14,13 +14,11 @@ pub(crate) fn is_special(special: &Node, base: &Node) -> bool
     ensures { (name other : List ℕ) → result ≡ pushes_spec.is_special
         (walk_spec.element_of name special.now) (walk_spec.element_of other base.now) }
 {
-    if !has_types(special) {
-        return false;
+    let wanted = tokens_of(base);
+    match split_word(wanted) {
+        None => false,
+        Some(_) => begins_with(tokens_of(special), wanted),
     }
-    if !has_types(base) {
-        return false;
-    }
-    begins_with(tokens_of(special), tokens_of(base))
 }
 
 // Whether the words of a text begin with those of another.

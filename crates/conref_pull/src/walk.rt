@@ -24,15 +24,14 @@ impl<'a> Resolver<'a> {
     ghost use Rattle.dita_doc.specs.declared.plan.PlanNode.{PlanNode};
     ghost use Rattle.doc_elements.specs.Walk as walk_spec;
     ghost use Rattle.map_spec.specs.Elements as elements_spec;
-    ghost use Rattle.map_spec.specs.Written.{Written};
     ghost use Rattle.page_spec.specs.Content as content_spec;
     ghost use Rattle.page_spec.specs.Content.{Place};
     ghost use Rattle.reader_spec.specs.World.{World};
     ghost use Rattle.readers.specs.Founded.{Grows};
     ghost use Rattle.readers.specs.Named as named_spec;
-    ghost use Rattle.readers.specs.Named.{names_in};
+    ghost use Rattle.readers.specs.Named.{reused_in};
     ghost use Rattle.readers.specs.Told.{Agrees};
-    ghost use Rattle.conref_pull.specs.Asking.{AreGiven, AreGivenTo, Asks, IsGivenTo, element_around, names_of_doc, names_of_node};
+    ghost use Rattle.conref_pull.specs.Asking.{AreGiven, AreGivenTo, Asks, IsGivenTo, element_around, reused_of_doc, reused_of_node};
     ghost use Rattle.conref_pull.specs.Linked as linked_spec;
     ghost use Rattle.conref_pull.specs.Origin.{named_content};
     ghost use Rattle.conref_pull.specs.Parts as parts_spec;
@@ -58,7 +57,7 @@ impl<'a> Resolver<'a> {
             at.entry.is_range at.entry.topic.now (named_content siblings.entry)) self.old self.new
             places.new }
         ensures asks { (nodes : List PlanNode) → (A.stand asker.old).setting.nodes ≡ nodes
-            → Asks nodes (self.old.context.now.page.doc ∷ names_in (named_content siblings.entry)) (A.told asker.old)
+            → Asks nodes (self.old.context.now.page.doc ∷ reused_in (named_content siblings.entry)) (A.told asker.old)
             (A.told asker.new) }
         ensures page { OnOk result (setting_spec.IsSamePage self.old self.new) }
         ensures stand { A.stand asker.new ≡ A.stand asker.old }
@@ -104,7 +103,7 @@ impl<'a> Resolver<'a> {
             at.entry.is_range at.entry.topic.now (element_around inside.entry node.now)
             (named_content inside.entry)) self.old self.new places.new }
         ensures asks { (nodes : List PlanNode) → (A.stand asker.old).setting.nodes ≡ nodes
-            → Asks nodes (self.old.context.now.page.doc ∷ names_of_node inside.entry node.now) (A.told asker.old)
+            → Asks nodes (self.old.context.now.page.doc ∷ reused_of_node inside.entry node.now) (A.told asker.old)
             (A.told asker.new) }
         ensures page { OnOk result (setting_spec.IsSamePage self.old self.new) }
         ensures stand { A.stand asker.new ≡ A.stand asker.old }
@@ -147,7 +146,7 @@ impl<'a> Resolver<'a> {
             node.now) at.entry.topic.now) (walk_spec.element_of origin.now node.now)
             (named_content inside.entry)) self.old self.new places.new }
         ensures asks { (nodes : List PlanNode) → (A.stand asker.old).setting.nodes ≡ nodes
-            → Asks nodes (self.old.context.now.page.doc ∷ names_in (named_content inside.entry)) (A.told asker.old)
+            → Asks nodes (self.old.context.now.page.doc ∷ reused_in (named_content inside.entry)) (A.told asker.old)
             (A.told asker.new) }
         ensures page { OnOk result (setting_spec.IsSamePage self.old self.new) }
         ensures stand { A.stand asker.new ≡ A.stand asker.old }
@@ -332,7 +331,7 @@ impl<'a> Resolver<'a> {
             → Walks result here.setting.pushed at.entry.links content_spec.nothing_made self.old
             self.new places.new }
         ensures asks { (nodes : List PlanNode) → (A.stand asker.old).setting.nodes ≡ nodes
-            → AreGiven (A.told asker.old) (names_of_doc doc.now)
+            → AreGiven (A.told asker.old) (reused_of_doc doc.now)
             → Asks nodes (self.old.context.now.page.doc ∷ []) (A.told asker.old)
             (A.told asker.new) }
         ensures page { OnOk result (setting_spec.IsSamePage self.old self.new) }

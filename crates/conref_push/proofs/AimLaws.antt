@@ -19,11 +19,12 @@ use Rattle.readers.specs.Founded.{StaysFounded, is_among}
 use Rattle.readers.specs.Named.{name_joined, names_in, names_of_element}
 use Rattle.readers.specs.Told.{Told, document}
 use Rattle.readers.proofs.DocumentLaws.{asks_among, asks_one, asks_then, covers_nothing, covers_same, follows_may}
+use Rattle.readers.proofs.AmongLaws.{among_back, among_front}
 use Rattle.readers.proofs.FoundedLaws.{among_behind, among_first, among_one, given_allowed, stays_among, stays_then}
 use Rattle.conref_push.specs.declared.pushing.Pushing as code
 use Rattle.conref_push.specs.Aimed.{aim_of, aims_among, aims_in, doc_aimed, doc_named, push_targets}
 use Rattle.conref_push.specs.Sight.{Sight, all_seen, label_of, seen_at, sight_at, sight_of, standing_at}
-use Rattle.conref_push.proofs.AmongLaws.{among_append, among_back, among_front, same_name}
+use Rattle.conref_push.proofs.AmongLaws.{among_append, same_name}
 use Rattle.conref_push.proofs.FileLaws.{named_joined}
 use Rattle.conref_push.proofs.SightLaws.{first_or, some_both}
 

@@ -2,8 +2,6 @@
 use Rattle.std.specs.Prelude.{◌≡◌, ◌||◌, ◌&&◌, ℕ, Bool, true, false, List, [], ◌∷◌, ◌++◌, Some, None, IsTrue, bytes_eq}
 use Rattle.std.specs.Option.{option_map_or}
 use Rattle.std.proofs.Common.{refl, sym, ap, ◌∙◌}
-use Rattle.std.proofs.Math.Logic.{⊎_elim}
-use Rattle.std.proofs.lemmas.Bool.{false≢true, or_cases, or_left, or_right}
 use Rattle.std.proofs.lemmas.Slice.Eq.{bytes_eq-Decides}
 use Rattle.map_spec.specs.Written.{Written, document}
 use Rattle.reader_spec.specs.World.{World}
@@ -11,15 +9,6 @@ use Rattle.readers.specs.Founded.{is_among}
 use Rattle.conref_push.specs.Acting.{acts_in, any_acts}
 use Rattle.conref_push.specs.Gathered.{acting_with}
 use Rattle.conref_push.specs.Table.{acts_among}
-
-pub among_front : (a b : List (List ℕ)) (m : List ℕ) → IsTrue (is_among a m) → IsTrue (is_among (a ++ b) m)
-among_front [] b m among = absurd (false≢true among)
-among_front (name ∷ a) b m among = ⊎_elim (λ here. or_left (bytes_eq name m) _ here)
-    (λ there. or_right (bytes_eq name m) _ (among_front a b m there)) (or_cases (bytes_eq name m) _ among)
-
-pub among_back : (a b : List (List ℕ)) (m : List ℕ) → IsTrue (is_among b m) → IsTrue (is_among (a ++ b) m)
-among_back [] b m among = among
-among_back (name ∷ a) b m among = or_right (bytes_eq name m) _ (among_back a b m among)
 
 or_assoc : (a b c : Bool) → (a || (b || c)) ≡ ((a || b) || c)
 or_assoc true b c = refl

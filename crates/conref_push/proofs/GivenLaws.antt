@@ -1,7 +1,7 @@
 -- The names that a document with its pushes gives: the document gives them, or one that pushes come from.
 use Rattle.std.specs.Prelude.{◌≡◌, ℕ, Bool, true, false, List, [], ◌∷◌, ◌++◌, Option, Some, None, IsTrue, bytes_eq, codes, option_map, if◌then◌else◌}
 use Rattle.std.specs.List.{cons_option, list_any}
-use Rattle.std.specs.Option.{option_and_then}
+use Rattle.std.specs.Option.{option_and_then, option_to_list}
 use Rattle.std.proofs.Common.{refl, sym, ap, subst, ◌∙◌}
 use Rattle.std.proofs.Math.Logic.{⊎_elim}
 use Rattle.std.proofs.lemmas.Bool.{false≢true, or_cases, or_left}
@@ -13,9 +13,10 @@ use Rattle.map_spec.specs.Written.{Element, Written, End, Chars, Node, document}
 use Rattle.page_spec.specs.Pushes.{id_written, pushed_element, pushed_from, pushing_names, with_id_of, without_names}
 use Rattle.reader_spec.specs.World.{World}
 use Rattle.readers.specs.Founded.{is_among}
-use Rattle.readers.specs.Named.{name_joined, names_in, names_of_element, names_of_found}
+use Rattle.readers.specs.Named.{given_in, given_in_found, name_joined, names_of_element, names_of_found, reused_by, reused_of_found}
 use Rattle.conref_push.specs.Into.{froms, pushed_by}
-use Rattle.conref_push.proofs.AmongLaws.{among_append, among_back, among_front, same_name}
+use Rattle.readers.proofs.AmongLaws.{among_back, among_front}
+use Rattle.conref_push.proofs.AmongLaws.{among_append, same_name}
 use Rattle.conref_push.proofs.EachLaws.{EachOf, TreeOf, each_from, each_pushed}
 
 -- Attributes that stay
@@ -109,23 +110,55 @@ module _ (P : List ℕ → Type 0) where
       (value_behind id (codes "conrefend") kept refl ∙ value_kept (codes "id" ∷ []) (codes "conrefend") all
       ∙ value_kept pushing_names (codes "conrefend") element.attributes)
 
-  -- Content
+  -- without a conref it has no content reference
+  attributes_reuse : (element : Element) (all : List Attribute) → value_of (codes "conref") all ≡ None
+      → Gives P (reused_by (record element { attributes = all }))
+  attributes_reuse element all none = subst (Gives P)
+      (sym (ap (λ value. option_to_list (option_and_then (name_joined element.doc) value)) none))
+      (λ m among. absurd (false≢true among))
 
-  gives_each : (nodes : Written) → EachOf (λ element. Gives P (names_of_element element)) nodes
-      → Gives P (names_in nodes)
+  pushed_reuses : (element : Element) → Gives P (reused_by element) → Gives P (reused_by (pushed_element element))
+  pushed_reuses element gives = attributes_reuse element (without_names pushing_names element.attributes)
+      (value_kept pushing_names (codes "conref") element.attributes)
+
+  instead_reuses : (replaced element : Element) → Gives P (reused_by element)
+      → Gives P (reused_by (with_id_of replaced (pushed_element element)))
+  instead_reuses replaced element gives =
+      let id = attribute (codes "id") replaced in
+      let all = without_names pushing_names element.attributes in
+      let kept = without_names (codes "id" ∷ []) all in
+      attributes_reuse element (id_written id ++ kept)
+      (value_behind id (codes "conref") kept refl ∙ value_kept (codes "id" ∷ []) (codes "conref") all
+      ∙ value_kept pushing_names (codes "conref") element.attributes)
+
+-- Content, by what its elements give, which they still give if they are pushed
+
+module _ (P : List ℕ → Type 0) (names : Element → List (List ℕ))
+    (pushes_give : (element : Element) → Gives P (names element) → Gives P (names (pushed_element element)))
+    (instead_give : (replaced element : Element) → Gives P (names element)
+    → Gives P (names (with_id_of replaced (pushed_element element)))) where
+  abbrev GivesAll : Written → Type 0
+  GivesAll nodes = Gives P (given_in names nodes)
+
+  abbrev GivesFound : Option Written → Type 0
+  GivesFound found = Gives P (given_in_found names found)
+
+  abbrev Each : Element → Type 0
+  Each element = Gives P (names element)
+
+  gives_each : (nodes : Written) → EachOf Each nodes → GivesAll nodes
   gives_each End is = λ m among. absurd (false≢true among)
   gives_each (Chars text doc rest) is = gives_each rest is
-  gives_each (Node element inside rest) is = gives_both (names_of_element element) (names_in inside ++ names_in rest)
-      is.0 (gives_both (names_in inside) (names_in rest) (gives_each inside is.1.0) (gives_each rest is.1.1))
+  gives_each (Node element inside rest) is = gives_both P (names element) (given_in names inside ++ given_in names rest)
+      is.0 (gives_both P (given_in names inside) (given_in names rest) (gives_each inside is.1.0) (gives_each rest is.1.1))
 
-  each_gives : (nodes : Written) → Gives P (names_in nodes)
-      → EachOf (λ element. Gives P (names_of_element element)) nodes
+  each_gives : (nodes : Written) → GivesAll nodes → EachOf Each nodes
   each_gives End gives = tt
   each_gives (Chars text doc rest) gives = each_gives rest gives
   each_gives (Node element inside rest) gives =
-      let own = names_of_element element in
-      let below = names_in inside in
-      let later = names_in rest in (
+      let own = names element in
+      let below = given_in names inside in
+      let later = given_in names rest in (
         λ m among. gives m (among_front own (below ++ later) m among),
         (
           each_gives inside
@@ -134,22 +167,33 @@ module _ (P : List ℕ → Type 0) where
         ),
       )
 
-  tree_gives : (found : Option Written) → Gives P (names_of_found found)
-      → TreeOf (λ element. Gives P (names_of_element element)) found
+  tree_gives : (found : Option Written) → GivesFound found → TreeOf Each found
   tree_gives None gives = tt
   tree_gives (Some nodes) gives = each_gives nodes gives
 
-  pub pushed_given : (world : World) (pushes : List Push) (name : List ℕ)
+  pushed_given : (world : World) (pushes : List Push) (name : List ℕ) → GivesFound (document world name)
+      → ((from : List ℕ) → IsTrue (is_among (froms pushes) from) → GivesFound (document world from))
+      → GivesFound (pushed_by world pushes name)
+  pushed_given world pushes name own each = by_tree (document world name) own
+    where
+      by_tree : (found : Option Written) → GivesFound found
+          → GivesFound (option_map (pushed_from world pushes 0) found)
+      by_tree None none = none
+      by_tree (Some nodes) gives = gives_each (pushed_from world pushes 0 nodes)
+          (each_pushed Each pushes_give instead_give world pushes
+          (each_from (λ from. TreeOf Each (document world from)) pushes
+          (λ from among. tree_gives (document world from) (each from among)))
+          0 nodes (each_gives nodes gives))
+
+module _ (P : List ℕ → Type 0) where
+  pub pushed_names : (world : World) (pushes : List Push) (name : List ℕ)
       → Gives P (names_of_found (document world name))
       → ((from : List ℕ) → IsTrue (is_among (froms pushes) from) → Gives P (names_of_found (document world from)))
       → Gives P (names_of_found (pushed_by world pushes name))
-  pushed_given world pushes name own each = by_tree (document world name) own
-    where
-      by_tree : (found : Option Written) → Gives P (names_of_found found)
-          → Gives P (names_of_found (option_map (pushed_from world pushes 0) found))
-      by_tree None none = none
-      by_tree (Some nodes) gives = gives_each (pushed_from world pushes 0 nodes)
-          (each_pushed (λ element. Gives P (names_of_element element)) pushed_gives instead_gives world pushes
-          (each_from (λ from. TreeOf (λ element. Gives P (names_of_element element)) (document world from)) pushes
-          (λ from among. tree_gives (document world from) (each from among)))
-          0 nodes (each_gives nodes gives))
+  pushed_names = pushed_given P names_of_element (pushed_gives P) (instead_gives P)
+
+  pub pushed_reused : (world : World) (pushes : List Push) (name : List ℕ)
+      → Gives P (reused_of_found (document world name))
+      → ((from : List ℕ) → IsTrue (is_among (froms pushes) from) → Gives P (reused_of_found (document world from)))
+      → Gives P (reused_of_found (pushed_by world pushes name))
+  pushed_reused = pushed_given P reused_by (pushed_reuses P) (instead_reuses P)

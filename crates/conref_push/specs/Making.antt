@@ -7,7 +7,7 @@ use Rattle.std.specs.declared.alloc.Global.{Global}
 use Rattle.std.specs.declared.sync.Arc.{Arc}
 use Rattle.std.specs.declared.vec.Vec.{Vec}
 use Rattle.conref_push.specs.Into.{froms}
-use Rattle.conref_push.specs.Sources.{AreGiven, AreSources, IsGiven}
+use Rattle.conref_push.specs.Sources.{AreGiven, AreSources, IsGivenAs}
 use Rattle.conref_push.specs.declared.pushed_doc.PushedInto.{PushedInto}
 use Rattle.conref_push.specs.declared.sources.PushSources.{PushSources}
 use Rattle.dita_doc.specs.declared.content.Push.{Push}
@@ -34,10 +34,10 @@ AreAsked world name pushes None = None ≡ world name
 AreAsked world name pushes (Some asked) =
     (tree_found (Some asked.0) ≡ world name) × AreSources world (froms pushes) asked.1
 
--- the names that these documents give are allowed
-abbrev pub GivesAsked : List (List ℕ) → List Told → List ℕ → Option (Arc Doc Global × PushSources) → Type 0
-GivesAsked roots ts name None = Unit {0}
-GivesAsked roots ts name (Some asked) = IsGiven roots ts name (Some asked.0) × AreGiven roots ts asked.1
+-- documents that were told give what these documents give
+abbrev pub GivesAsked : List Told → List ℕ → Option (Arc Doc Global × PushSources) → Type 0
+GivesAsked ts name None = Unit {0}
+GivesAsked ts name (Some asked) = IsGivenAs ts name (Some asked.0) × AreGiven ts asked.1
 
 -- Pushes by their places
 

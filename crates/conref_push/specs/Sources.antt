@@ -10,8 +10,8 @@ use Rattle.conref_push.specs.declared.sources.PushSources.{PushSources}
 use Rattle.dita_doc.specs.declared.doc.Doc.{Doc}
 use Rattle.map_spec.specs.Written.{written_in}
 use Rattle.reader_spec.specs.World.{World}
-use Rattle.readers.specs.Founded.{AreAllowed, is_among}
-use Rattle.readers.specs.Named.{names_of_found}
+use Rattle.readers.specs.Documents.{IsGiven}
+use Rattle.readers.specs.Founded.{is_among}
 use Rattle.readers.specs.Told.{Told, tree_found}
 
 abbrev pub IsSource : World → List ℕ → Option (Arc Doc Global) → Type 0
@@ -23,9 +23,9 @@ pub record AreSources (world : World) (names : List (List ℕ)) (sources : PushS
   pub each : (name : List ℕ) → IsTrue (is_among names name)
       → IsTrue (is_some (tree.get (slice_cmp nat_cmp) sources.docs name))
 
--- the names that the document gives which was found under a name are allowed
-abbrev pub IsGiven : List (List ℕ) → List Told → List ℕ → Option (Arc Doc Global) → Type 0
-IsGiven roots ts name found = AreAllowed roots ts (names_of_found (option_map (written_in name) (tree_found found)))
+-- documents that were told give what the document gives that was found under a name
+abbrev pub IsGivenAs : List Told → List ℕ → Option (Arc Doc Global) → Type 0
+IsGivenAs ts name found = IsGiven ts (option_map (written_in name) (tree_found found))
 
-abbrev pub AreGiven : List (List ℕ) → List Told → PushSources → Type 0
-AreGiven roots ts sources = AreKnown (IsGiven roots ts) sources.docs
+abbrev pub AreGiven : List Told → PushSources → Type 0
+AreGiven ts sources = AreKnown (IsGivenAs ts) sources.docs

@@ -15,8 +15,8 @@ ghost use Rattle.map_spec.specs.Written as written_spec;
 ghost use Rattle.page_spec.specs.Pushes as pushes_spec;
 ghost use Rattle.reader_spec.specs.World.{World};
 ghost use Rattle.readers.specs.Documents as documents_spec;
-ghost use Rattle.readers.specs.Documents.{AsksOnly};
-ghost use Rattle.readers.specs.Founded.{AreAllowed, Grows, StaysFounded};
+ghost use Rattle.readers.specs.Documents.{AsksOnly, IsGiven};
+ghost use Rattle.readers.specs.Founded.{Grows, StaysFounded};
 ghost use Rattle.readers.specs.Named as named_spec;
 ghost use Rattle.readers.specs.Told.{Agrees};
 
@@ -42,9 +42,9 @@ pub fn ask_pushed<R: Reader>(
     ensures fixed { (world other : World) → Agrees world (R.told reader.new)
         → Agrees other (R.told reader.new) → OnOk result (into_spec.pushed_by world pushes.now doc.now
         ≡ into_spec.pushed_by other pushes.now doc.now) }
-    ensures given { (world : World) (roots : List (List ℕ)) → Agrees world (R.told reader.new)
-        → OnOk result (AreAllowed roots (R.told reader.new)
-        (named_spec.names_of_found (into_spec.pushed_by world pushes.now doc.now))) }
+    ensures given { (world : World) → Agrees world (R.told reader.new)
+        → OnOk result (IsGiven (R.told reader.new)
+        (into_spec.pushed_by world pushes.now doc.now)) }
     ensures stand { R.stand reader.new ≡ R.stand reader.old }
     ensures founded { StaysFounded (into_spec.docs_of doc.now pushes.now) (R.told reader.old)
         (R.told reader.new) }
@@ -70,8 +70,8 @@ pub fn pushed<R: Reader>(
     ensures known { (world : World) → Agrees world (R.told reader.new)
         → IfOk result (λ found. into_spec.named_doc found
         ≡ into_spec.pushed_by world pushes.now doc.now) }
-    ensures given { (roots : List (List ℕ)) → IfOk result (λ found. AreAllowed roots
-        (R.told reader.new) (named_spec.names_of_found (into_spec.named_doc found))) }
+    ensures given { IfOk result (λ found. IsGiven (R.told reader.new)
+        (into_spec.named_doc found)) }
     ensures stand { R.stand reader.new ≡ R.stand reader.old }
     ensures founded { StaysFounded (into_spec.docs_of doc.now pushes.now) (R.told reader.old)
         (R.told reader.new) }
@@ -93,9 +93,8 @@ fn pushed_doc<R: Reader>(
     ensures known { (world : World) → Agrees world (R.told reader.new)
         → IfOk result (λ found. into_spec.named_doc found
         ≡ into_spec.pushed_by world pushes.now doc.now) }
-    ensures given { (world : World) (roots : List (List ℕ)) → Agrees world (R.told reader.new)
-        → IfOk result (λ found. AreAllowed roots (R.told reader.new)
-        (named_spec.names_of_found (into_spec.named_doc found))) }
+    ensures given { (world : World) → Agrees world (R.told reader.new)
+        → IfOk result (λ found. IsGiven (R.told reader.new) (into_spec.named_doc found)) }
     ensures stand { R.stand reader.new ≡ R.stand reader.old }
     ensures founded { StaysFounded (into_spec.docs_of doc.now pushes.now) (R.told reader.old)
         (R.told reader.new) }
@@ -126,8 +125,7 @@ fn ask_all<R: Reader>(
 ) -> Result<Option<(Arc<Doc>, PushSources)>, NoMemory>
     ensures known { (world : World) → Agrees world (R.told reader.new)
         → IfOk result (making_spec.AreAsked world doc.now pushes.now) }
-    ensures given { (roots : List (List ℕ)) → IfOk result (making_spec.GivesAsked roots
-        (R.told reader.new) doc.now) }
+    ensures given { IfOk result (making_spec.GivesAsked (R.told reader.new) doc.now) }
     ensures stand { R.stand reader.new ≡ R.stand reader.old }
     ensures founded { StaysFounded (into_spec.docs_of doc.now pushes.now) (R.told reader.old)
         (R.told reader.new) }

@@ -36,8 +36,7 @@ impl PushSources {
     ) -> Result<PushSources, NoMemory>
         ensures known { (world : World) → Agrees world (R.told reader.new)
             → IfOk result (λ sources. spec.AreSources world (into_spec.froms pushes.now) sources) }
-        ensures given { (roots : List (List ℕ))
-            → IfOk result (spec.AreGiven roots (R.told reader.new)) }
+        ensures given { IfOk result (spec.AreGiven (R.told reader.new)) }
         ensures stand { R.stand reader.new ≡ R.stand reader.old }
         ensures founded { StaysFounded (into_spec.froms pushes.now) (R.told reader.old)
             (R.told reader.new) }
@@ -60,9 +59,8 @@ impl PushSources {
         ensures known { (world : World) (names : List (List ℕ)) → Agrees world (R.told reader.new)
             → spec.AreSources world names self.old
             → OnOk result (spec.AreSources world (names ++ name.now ∷ []) self.new) }
-        ensures given { (roots : List (List ℕ))
-            → spec.AreGiven roots (R.told reader.old) self.old
-            → OnOk result (spec.AreGiven roots (R.told reader.new) self.new) }
+        ensures given { spec.AreGiven (R.told reader.old) self.old
+            → OnOk result (spec.AreGiven (R.told reader.new) self.new) }
         ensures stand { R.stand reader.new ≡ R.stand reader.old }
         ensures founded { StaysFounded (name.now ∷ []) (R.told reader.old) (R.told reader.new) }
         ensures asks { AsksOnly documents_spec.nothing (name.now ∷ []) (R.told reader.old)

@@ -3,13 +3,14 @@
 use Rattle.std.proofs.Common.{◌≡◌, ◌||◌, ◌⊎◌, ℕ, List, [], ◌∷◌, ◌++◌, IsTrue, inl, inr, sym, ap, subst, refl, ◌∙◌}
 use Rattle.std.proofs.Math.Logic.{⊎_elim, ∥∥₁_elim}
 use Rattle.std.proofs.lemmas.Bool.{false≢true, or_cases, or_left, or_right}
-use Rattle.conref_push.proofs.AmongLaws.{among_append, among_back, among_front}
+use Rattle.conref_push.proofs.AmongLaws.{among_append}
 use Rattle.plan_layer.specs.Carried.{CarriesFrom}
 use Rattle.plan_layer.specs.Passing.{AskedBy-prop, FollowsPlan, PassesOn}
 use Rattle.plan_layer.proofs.PassLaws.{root_may}
 use Rattle.readers.specs.Documents.{AskedBy, AsksOnly, Covers, Follows, may_ask}
 use Rattle.readers.specs.Founded.{Grows, StaysFounded, is_among}
 use Rattle.readers.specs.Told.{Told, document, kind, title, first, key, pushes, page_of, tried, sought}
+use Rattle.readers.proofs.AmongLaws.{among_back, among_front}
 use Rattle.readers.proofs.DocumentLaws.{may_ask_before}
 
 -- what was told to the reader below stays founded by the questions of the one above

@@ -16,8 +16,8 @@ use Rattle.plan_layer.specs.Made.{AreKept, IsKept, is_quiet}
 use Rattle.plan_layer.specs.declared.docs.PushedDocs.{PushedDocs}
 use Rattle.plan_layer.proofs.MadeLaws.{touched_known}
 use Rattle.reader_spec.specs.World.{World}
-use Rattle.readers.specs.Founded.{AreAllowed}
-use Rattle.readers.specs.Named.{named_tree, names_of_found}
+use Rattle.readers.specs.Documents.{IsGiven}
+use Rattle.readers.specs.Named.{named_tree}
 use Rattle.readers.specs.Setting.{Stand}
 use Rattle.readers.specs.Told.{Told, doc_of}
 
@@ -67,8 +67,6 @@ module _ (own : World) (documents : List (List ℕ)) (name : List ℕ) (list : P
   kept_known world own_told told fixed is =
       touched_known world documents name list named told (kept_by own_told is ∙ fixed)
 
-  pub kept_given : (roots : List (List ℕ)) (ts : List Told) → pushes_into own documents name ≡ list
-      → named ≡ pushed own documents name → AreAllowed roots ts (names_of_found (pushed_by own list.pushes name))
-      → AreAllowed roots ts (names_of_found named)
-  kept_given roots ts own_told is =
-      subst (λ nodes. AreAllowed roots ts (names_of_found nodes)) (sym (kept_by own_told is))
+  pub kept_given : (ts : List Told) → pushes_into own documents name ≡ list → named ≡ pushed own documents name
+      → IsGiven ts (pushed_by own list.pushes name) → IsGiven ts named
+  kept_given ts own_told is = subst (IsGiven ts) (sym (kept_by own_told is))

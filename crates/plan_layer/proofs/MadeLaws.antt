@@ -18,16 +18,16 @@ use Rattle.conref_push.proofs.UntouchedLaws.{pushed_as}
 use Rattle.dita_doc.proofs.NameOrder.{equal_itself}
 use Rattle.dita_doc.specs.declared.content.PushList.{PushList}
 use Rattle.dita_doc.specs.declared.doc.Doc.{Doc}
-use Rattle.map_spec.specs.Written.{Written, document, written_in}
+use Rattle.map_spec.specs.Written.{Element, Written, document, written_in}
 use Rattle.page_spec.specs.Pushes as page
 use Rattle.page_spec.specs.Pushes.{pushed, pushed_from}
 use Rattle.plan_layer.specs.Made.{ArePushed, IsPushed, under}
 use Rattle.plan_layer.specs.declared.memo.PushedMemo.{PushedMemo}
 use Rattle.plan_layer.proofs.DocLaws.{found_named}
 use Rattle.reader_spec.specs.World.{World}
-use Rattle.readers.specs.Documents.{AsksOnly, nothing, of_pushes}
-use Rattle.readers.specs.Founded.{AreAllowed, Grows, StaysFounded, is_allowed, is_among, names_given}
-use Rattle.readers.specs.Named.{named_found, named_tree, names_of_found}
+use Rattle.readers.specs.Documents.{AsksOnly, IsGiven, may_ask, nothing, of_documents, of_pushes}
+use Rattle.readers.specs.Founded.{Grows, StaysFounded, is_among}
+use Rattle.readers.specs.Named.{named_found, named_tree, names_of_element, reused_by}
 use Rattle.readers.specs.Noted.{told_of, told_onto}
 use Rattle.readers.specs.Setting.{Setting}
 use Rattle.readers.specs.Told as told_spec
@@ -35,6 +35,7 @@ use Rattle.readers.specs.Told.{Told, Agrees, Holds, doc_of, tree_found}
 use Rattle.readers.specs.declared.questions.Note.{Note}
 use Rattle.readers.proofs.DocumentLaws.{asks_none, asks_then, covers_nothing, follows_may, may_ask_before}
 use Rattle.readers.proofs.FoundedLaws.{given_allowed, stays_then, stays_told}
+use Rattle.readers.proofs.GivenLaws.{given_later, told_given}
 use Rattle.readers.proofs.GrowthLaws.{agrees_before, are_allowed_before, grows_one}
 use Rattle.readers.proofs.LayerLaws.{grows_put, grows_tried}
 
@@ -47,22 +48,19 @@ itself_known world documents name found there one same =
     found_named name found one ∙ ap (option_map (written_in name)) (sym there) ∙ sym same
 
 -- its references are those of the document that was told
-pub itself_given : (roots : List (List ℕ)) (name : List ℕ) (found : Option (Arc Doc Global)) (old new : List Told)
+pub itself_given : (name : List ℕ) (found : Option (Arc Doc Global)) (old new : List Told)
     → new ≡ told_spec.document name (tree_found found) ∷ old
-    → IfSome (doc_of found) (λ (stored : Doc). stored.origins ≡ name ∷ [])
-    → AreAllowed roots new (names_of_found (named_found found))
-itself_given roots name found old new told one =
-    subst (λ nodes. AreAllowed roots new (names_of_found nodes)) (sym (found_named name found one))
-    (given_allowed roots (told_spec.document name (tree_found found)) old new told)
+    → IfSome (doc_of found) (λ (stored : Doc). stored.origins ≡ name ∷ []) → IsGiven new (named_found found)
+itself_given name found old new told one =
+    subst (IsGiven new) (sym (found_named name found one)) (told_given name (tree_found found) old new told)
 
 -- It is made with pushes that were told
 
-pub made_given : (roots : List (List ℕ)) (told : List Told) (found : Option Doc) (made : Doc) (stored : Arc Doc Global)
-    → found ≡ Some made → arc_value stored ≡ made → AreAllowed roots told (names_of_found (named_doc found))
-    → AreAllowed roots told (names_of_found (named_found (Some stored)))
-made_given roots told found made stored is same given =
-    subst (λ (d : Doc). AreAllowed roots told (names_of_found (named_doc (Some d)))) (sym same)
-    (subst (λ (o : Option Doc). AreAllowed roots told (names_of_found (named_doc o))) is given)
+pub made_given : (told : List Told) (found : Option Doc) (made : Doc) (stored : Arc Doc Global) → found ≡ Some made
+    → arc_value stored ≡ made → IsGiven told (named_doc found) → IsGiven told (named_found (Some stored))
+made_given told found made stored is same given =
+    subst (λ (d : Doc). IsGiven told (named_doc (Some d))) (sym same)
+    (subst (λ (o : Option Doc). IsGiven told (named_doc o)) is given)
 
 pub touched_known : (world : World) (documents : List (List ℕ)) (name : List ℕ) (list : PushList)
     (named : Option Written) → page.pushes_into world documents name ≡ list
@@ -107,14 +105,13 @@ pushed_shared told documents name found copy same is =
     let named_same : named_found copy ≡ named_found found = ap (option_map named_tree) same in
     record {
       known = λ world agrees. named_same ∙ is.known world agrees;
-      given = λ roots. subst (λ nodes. AreAllowed roots told (names_of_found nodes)) (sym named_same) (is.given roots);
+      given = subst (IsGiven told) (sym named_same) is.given;
     }
 
 pub pushed_made : (told : List Told) (documents documents' : List (List ℕ)) (name : List ℕ)
     (found copy : Option (Arc Doc Global)) → documents' ≡ documents → doc_of copy ≡ doc_of found
     → ((world : World) → Agrees world told → named_found found ≡ pushed world documents name)
-    → ((roots : List (List ℕ)) → AreAllowed roots told (names_of_found (named_found found)))
-    → IsPushed told documents' name copy
+    → IsGiven told (named_found found) → IsPushed told documents' name copy
 pushed_made told documents documents' name found copy plan same known given =
     subst (λ ds. IsPushed told ds name copy) (sym plan)
     (pushed_shared told documents name found copy same (record { known = known; given = given }))
@@ -127,6 +124,12 @@ pub known_found : (P : List ℕ → Option (Arc Doc Global) → Type 0)
 known_found P docs name None is known = tt
 known_found P docs name (Some found) is known = known name found.now (sym is)
 
+-- what is known of a map is known of one with the same entries
+pub known_same : (P : List ℕ → Option (Arc Doc Global) → Type 0)
+    (old new : tree.BTreeMap (List ℕ) (Option (Arc Doc Global))) → old.entries ≡ new.entries → AreKnown P old
+    → AreKnown P new
+known_same P old new same known = λ name found is. known name found (rw same is)
+
 pub put_under : (old new : tree.BTreeMap (List ℕ) (Option (Arc Doc Global))) (name key : List ℕ)
     (found : Option (Arc Doc Global)) → IsPut old new key found → key ≡ name → under new name ≡ Some found
 put_under old new name key found put same = subst (λ n. under new n ≡ Some found) same
@@ -134,27 +137,36 @@ put_under old new name key found put same = subst (λ n. under new n ≡ Some fo
 
 pub pushed_more : (documents : List (List ℕ)) (memo : PushedMemo) (old new : List Told) → Grows old new
     → ArePushed old documents memo → ArePushed new documents memo
+unfolding ArePushed
 pushed_more documents memo old new grows pushed = λ name found is.
     let before = pushed name found is in record {
       known = λ world agrees. before.known world (agrees_before world old new grows agrees);
-      given = λ roots. are_allowed_before roots old new _ grows (before.given roots);
+      given = given_later old new (named_found found) grows before.given;
     }
 
-allowed_behind : (roots : List (List ℕ)) (t put : Told) (older : List Told) (m : List ℕ) → names_given put ≡ []
-    → IsTrue (is_allowed roots (put ∷ older) m) → IsTrue (is_allowed roots (t ∷ older) m)
-allowed_behind roots t put older m none allowed = or_right (is_among (names_given t) m) _ (⊎_elim
-    (λ here. absurd (false≢true (subst (λ names. IsTrue (is_among names m)) none here))) (λ behind. behind)
-    (or_cases (is_among (names_given put) m) (is_allowed roots older m) allowed))
+given_behind : (names : Element → List (List ℕ)) (t put : Told) (older : List Told) (m : List ℕ)
+    → of_documents names put ≡ [] → IsTrue (may_ask (of_documents names) [] (put ∷ older) m)
+    → IsTrue (may_ask (of_documents names) [] (t ∷ older) m)
+given_behind names t put older m none may = or_right (is_among (of_documents names t) m) _ (⊎_elim
+    (λ here. absurd (false≢true (subst (λ given. IsTrue (is_among given m)) none here))) (λ behind. behind)
+    (or_cases (is_among (of_documents names put) m) (may_ask (of_documents names) [] older m) may))
 
 -- a question that told nothing gets its answer
 pushed_settled : (documents : List (List ℕ)) (memo : PushedMemo) (t put : Told) (older : List Told)
-    → ((world : World) → Holds world put) → names_given put ≡ [] → ArePushed (put ∷ older) documents memo
-    → ArePushed (t ∷ older) documents memo
+    → ((world : World) → Holds world put) → ((names : Element → List (List ℕ)) → of_documents names put ≡ [])
+    → ArePushed (put ∷ older) documents memo → ArePushed (t ∷ older) documents memo
+unfolding ArePushed
 pushed_settled documents memo t put older holds none pushed = λ name found is.
     let before = pushed name found is in record {
       known = λ world agrees. before.known world (holds world, agrees.1);
-      given = λ roots. record {
-        each = λ m among. allowed_behind roots t put older m none ((before.given roots).each m among);
+      given = record {
+        named = record {
+          each = λ m among. given_behind names_of_element t put older m (none names_of_element)
+              (before.given.named.each m among);
+        };
+        reused = record {
+          each = λ m among. given_behind reused_by t put older m (none reused_by) (before.given.reused.each m among);
+        };
       };
     }
 
@@ -171,7 +183,8 @@ module _ (setting : Setting) (start : List Told) (documents : List (List ℕ)) (
 
   pub memo_settled : (put note : Note) (older notes notes' : List Note) → notes ≡ put ∷ older
       → notes' ≡ note ∷ drop 1 notes → ((world : World) → Holds world (told_of setting put))
-      → names_given (told_of setting put) ≡ [] → ArePushed (told_onto setting start notes) documents memo
+      → ((names : Element → List (List ℕ)) → of_documents names (told_of setting put) ≡ [])
+      → ArePushed (told_onto setting start notes) documents memo
       → ArePushed (told_onto setting start notes') documents memo
   memo_settled put note older notes notes' was is holds none pushed =
       subst (λ ns. ArePushed (told_onto setting start ns) documents memo)

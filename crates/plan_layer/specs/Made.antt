@@ -1,5 +1,5 @@
 -- Documents that were made with the pushes into them (own). Of those that are known by what was told each is that of its
--- name in every world that agrees, and the documents that its references name may be asked about; of those that are kept
+-- name in every world that agrees, and documents that were told give what its references name; of those that are kept
 -- longer each is that of its name in one world, and in this world no element acts of those that are kept as quiet.
 use Rattle.std.specs.Prelude.{◌≡◌, ℕ, Bool, false, List, [], ◌∷◌, Option, Some, None, IsTrue}
 use Rattle.std.specs.BTreeMap as tree
@@ -20,8 +20,8 @@ use Rattle.plan_layer.specs.declared.docs.PushedDocs.{PushedDocs}
 use Rattle.plan_layer.specs.declared.memo.PushedMemo.{PushedMemo}
 use Rattle.plan_nodes.specs.WholeCode.{homes_code}
 use Rattle.reader_spec.specs.World.{World}
-use Rattle.readers.specs.Founded.{AreAllowed}
-use Rattle.readers.specs.Named.{named_found, names_of_found}
+use Rattle.readers.specs.Documents.{IsGiven}
+use Rattle.readers.specs.Named.{named_found}
 use Rattle.readers.specs.Told.{Told, Agrees}
 
 -- what a table has under a name
@@ -31,9 +31,9 @@ under docs name = tree.get (slice_cmp nat_cmp) docs name
 pub record IsPushed (told : List Told) (documents : List (List ℕ)) (name : List ℕ) (found : Option (Arc Doc Global))
     : Type 0 where
   pub known : (world : World) → Agrees world told → named_found found ≡ pushed world documents name
-  pub given : (roots : List (List ℕ)) → AreAllowed roots told (names_of_found (named_found found))
+  pub given : IsGiven told (named_found found)
 
-abbrev pub ArePushed : List Told → List (List ℕ) → PushedMemo → Type 0
+unfoldable pub ArePushed : List Told → List (List ℕ) → PushedMemo → Type 0
 ArePushed told documents memo = AreKnown (IsPushed told documents) memo.docs
 
 -- in this world it is the document of its name with the pushes of these documents into it
@@ -73,6 +73,7 @@ IsPushed-prop told documents name found = hlevel (props, written_set)
 
 pub ArePushed-prop : (told : List Told) (documents : List (List ℕ)) (memo : PushedMemo)
     → IsProp (ArePushed told documents memo)
+unfolding ArePushed
 ArePushed-prop told documents memo = hlevel IsPushed-prop
 
 pub AreKept-prop : (world : World) (documents : List (List ℕ)) (docs : PushedDocs) → IsProp (AreKept world documents docs)

@@ -13,7 +13,7 @@ impl<'r, 'q, 'm, 'd, 'n, K: Keys, S: Since> TellsPushes for PlanLayer<'r, 'q, 'm
     fn tell_pushes(&mut self, alloc: Global, name: &Name) -> Result<PushList, NoMemory> {
         let answer = self.table.pushes_into(alloc, name)?;
         // The question is kept with an answer of its own.
-        let note = pushes_note(name, self.table.pushes_into(alloc, name)?)?;
+        let note = pushes_note(alloc, name, self.table.pushes_into(alloc, name)?)?;
         self.asked.begin(note)?;
         Ok(answer)
     }

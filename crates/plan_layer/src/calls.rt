@@ -73,5 +73,5 @@ fn key_note(alloc: Global, scope: u32, key: &Text, answer: &KeyAnswer) -> Result
     ensures { IfOk result (λ note. (setting : Setting) → noted_spec.told_of setting note
         ≡ told_spec.key setting.nodes scope key.now answer.now) }
 {
-    Note::key(scope, key, copy_answer(alloc, answer)?)
+    Note::key(alloc, scope, key, copy_answer(alloc, answer)?)
 }

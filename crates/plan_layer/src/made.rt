@@ -7,8 +7,8 @@ ghost use Rattle.page_spec.specs.Pushes as pushes_spec;
 ghost use Rattle.plan_layer.specs.Made.{IsKept};
 ghost use Rattle.reader_spec.specs.World.{World};
 ghost use Rattle.readers.specs.Documents as documents_spec;
-ghost use Rattle.readers.specs.Documents.{AsksOnly};
-ghost use Rattle.readers.specs.Founded.{AreAllowed, Grows, StaysFounded};
+ghost use Rattle.readers.specs.Documents.{AsksOnly, IsGiven};
+ghost use Rattle.readers.specs.Founded.{Grows, StaysFounded};
 ghost use Rattle.readers.specs.Named as named_spec;
 ghost use Rattle.readers.specs.Told as told_spec;
 ghost use Rattle.readers.specs.Told.{Agrees, Knows};
@@ -38,8 +38,8 @@ pub(crate) trait GivesTouched: TellsPushes {
         ensures known { (world : World) → Agrees world (Self.told self.new)
             → IfOk result (λ found. named_spec.named_found found
             ≡ pushes_spec.pushed world (Self.stand self.old).setting.documents name.now) }
-        ensures given { (roots : List (List ℕ)) → IfOk result (λ found. AreAllowed roots
-            (Self.told self.new) (named_spec.names_of_found (named_spec.named_found found))) }
+        ensures given { IfOk result (λ found. IsGiven (Self.told self.new)
+            (named_spec.named_found found)) }
         ensures stand { Self.stand self.new ≡ Self.stand self.old }
         ensures founded { StaysFounded (name.now ∷ []) (Self.told self.old) (Self.told self.new) }
         ensures asks { AsksOnly documents_spec.of_pushes (name.now ∷ []) (Self.told self.old)
@@ -76,8 +76,8 @@ pub(crate) fn made_pushed<P: GivesTouched>(
     ensures known { (world : World) → Agrees world (P.told asker.new)
         → IfOk result (λ found. named_spec.named_found found
         ≡ pushes_spec.pushed world (P.stand asker.old).setting.documents name.now) }
-    ensures given { (roots : List (List ℕ)) → IfOk result (λ found. AreAllowed roots
-        (P.told asker.new) (named_spec.names_of_found (named_spec.named_found found))) }
+    ensures given { IfOk result (λ found. IsGiven (P.told asker.new)
+        (named_spec.named_found found)) }
     ensures stand { P.stand asker.new ≡ P.stand asker.old }
     ensures founded { StaysFounded (name.now ∷ []) (P.told asker.old) (P.told asker.new) }
     ensures asks { AsksOnly documents_spec.of_pushes (name.now ∷ []) (P.told asker.old)
@@ -100,8 +100,8 @@ pub(crate) fn with_pushes<P: TellsPushes>(
     ensures known { (world : World) → Agrees world (P.told asker.new)
         → IfOk result (λ found. named_spec.named_found found
         ≡ pushes_spec.pushed world (P.stand asker.old).setting.documents name.now) }
-    ensures given { (roots : List (List ℕ)) → IfOk result (λ found. AreAllowed roots
-        (P.told asker.new) (named_spec.names_of_found (named_spec.named_found found))) }
+    ensures given { IfOk result (λ found. IsGiven (P.told asker.new)
+        (named_spec.named_found found)) }
     ensures stand { P.stand asker.new ≡ P.stand asker.old }
     ensures founded { StaysFounded (name.now ∷ []) (P.told asker.old) (P.told asker.new) }
     ensures asks { AsksOnly documents_spec.of_pushes (name.now ∷ []) (P.told asker.old)
@@ -128,8 +128,8 @@ pub(crate) fn kept_pushed<P: TellsPushes>(
     ensures known { (world : World) → Agrees world (P.told asker.new)
         → IfOk result (λ found. named_spec.named_found found
         ≡ pushes_spec.pushed world (P.stand asker.old).setting.documents name.now) }
-    ensures given { (roots : List (List ℕ)) → IfOk result (λ found. AreAllowed roots
-        (P.told asker.new) (named_spec.names_of_found (named_spec.named_found found))) }
+    ensures given { IfOk result (λ found. IsGiven (P.told asker.new)
+        (named_spec.named_found found)) }
     ensures stand { P.stand asker.new ≡ P.stand asker.old }
     ensures founded { StaysFounded (name.now ∷ []) (P.told asker.old) (P.told asker.new) }
     ensures asks { AsksOnly documents_spec.of_pushes (name.now ∷ []) (P.told asker.old)

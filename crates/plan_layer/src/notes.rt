@@ -11,15 +11,16 @@ use readers::Note;
 use std::alloc::{AllocError, Global};
 
 // The question for the pushes into a document.
-pub(crate) fn pushes_note(name: &Name, answer: PushList) -> Result<Note, NoMemory>
+pub(crate) fn pushes_note(alloc: Global, name: &Name, answer: PushList) -> Result<Note, NoMemory>
     ensures { IfOk result (λ note. (setting : Setting) → noted_spec.told_of setting note
         ≡ told_spec.pushes setting.documents name.now answer) }
 {
     let PushList { pushes, faults } = answer;
-    Ok(Note::Answer(Asked {
+    let asked = Asked {
         question: Question::Pushes(name.clone()?),
         answered: Answered::Pushes(pushes, faults),
-    }))
+    };
+    Ok(Note::Answer(Box::new(alloc, asked)?))
 }
 
 // The question for the page of a document.
@@ -33,10 +34,11 @@ pub(crate) fn page_note(
         ≡ told_spec.page_of setting.pages name.now context.now.page place) }
 {
     let context = copy_context(alloc, context)?;
-    Ok(Note::Answer(Asked {
+    let asked = Asked {
         question: Question::PageOf(name.clone()?, context),
         answered: Answered::PageOf(place),
-    }))
+    };
+    Ok(Note::Answer(Box::new(alloc, asked)?))
 }
 
 fn copy_context(alloc: Global, context: &Context) -> Result<Context, AllocError>

@@ -1,5 +1,6 @@
 -- The questions that have answers tell what all notes tell: a question without an answer tells nothing.
 use Rattle.std.proofs.Common.{◌≡◌, ◌||◌, ℕ, List, [], ◌∷◌, ◌++◌, IsTrue, reverse, sym, ap, subst, refl, ◌∙◌}
+use Rattle.std.specs.Box.{box_value}
 use Rattle.std.proofs.lemmas.List.{reverse-append}
 use Rattle.std.proofs.lemmas.List.Elements.{filter_map-append}
 use Rattle.dita_doc.specs.declared.question.Asked.{Asked}
@@ -7,15 +8,19 @@ use Rattle.reader_spec.specs.World.{World}
 use Rattle.readers.specs.Founded.{IsFounded, is_allowed, is_among, names_given}
 use Rattle.readers.specs.Noted.{answered_of, if_answered, told_asked, told_in, told_onto}
 use Rattle.readers.specs.Setting.{Setting}
-use Rattle.readers.specs.Told.{Told, Agrees}
+use Rattle.readers.specs.Told.{Told, document, kind, title, first, Agrees, tree_found}
 use Rattle.readers.specs.declared.questions.Note.{Note}
-use Rattle.readers.specs.declared.questions.Note.TheVariants.{Answer, Sought, Tried, TriedKey}
+use Rattle.readers.specs.declared.questions.Note.TheVariants.{Document, Kind, Title, First, Answer, Sought, Tried, TriedKey}
 
 module _ (setting : Setting) (ts : List Told) where
   -- what the notes with answers tell, the newest first
   abbrev answers : List Note → List Told
   answers [] = ts
-  answers (Answer asked ∷ older) = told_asked setting asked ∷ answers older
+  answers (Document name found ∷ older) = document name (tree_found found) ∷ answers older
+  answers (Kind name answer ∷ older) = kind name answer ∷ answers older
+  answers (Title name topic text ∷ older) = title name topic text ∷ answers older
+  answers (First name id ∷ older) = first name id ∷ answers older
+  answers (Answer asked ∷ older) = told_asked setting (box_value asked) ∷ answers older
   answers (Tried name ∷ older) = answers older
   answers (Sought name ∷ older) = answers older
   answers (TriedKey ∷ older) = answers older
@@ -23,6 +28,10 @@ module _ (setting : Setting) (ts : List Told) where
   agrees_answers : (world : World) (notes : List Note) → Agrees world (told_onto setting ts notes)
       → Agrees world (answers notes)
   agrees_answers world [] agrees = agrees
+  agrees_answers world (Document name found ∷ older) agrees = (agrees.0, agrees_answers world older agrees.1)
+  agrees_answers world (Kind name answer ∷ older) agrees = (agrees.0, agrees_answers world older agrees.1)
+  agrees_answers world (Title name topic text ∷ older) agrees = (agrees.0, agrees_answers world older agrees.1)
+  agrees_answers world (First name id ∷ older) agrees = (agrees.0, agrees_answers world older agrees.1)
   agrees_answers world (Answer asked ∷ older) agrees = (agrees.0, agrees_answers world older agrees.1)
   agrees_answers world (Tried name ∷ older) agrees = agrees_answers world older agrees.1
   agrees_answers world (Sought name ∷ older) agrees = agrees_answers world older agrees.1
@@ -31,6 +40,10 @@ module _ (setting : Setting) (ts : List Told) where
   agrees_all : (world : World) (notes : List Note) → Agrees world (answers notes)
       → Agrees world (told_onto setting ts notes)
   agrees_all world [] agrees = agrees
+  agrees_all world (Document name found ∷ older) agrees = (agrees.0, agrees_all world older agrees.1)
+  agrees_all world (Kind name answer ∷ older) agrees = (agrees.0, agrees_all world older agrees.1)
+  agrees_all world (Title name topic text ∷ older) agrees = (agrees.0, agrees_all world older agrees.1)
+  agrees_all world (First name id ∷ older) agrees = (agrees.0, agrees_all world older agrees.1)
   agrees_all world (Answer asked ∷ older) agrees = (agrees.0, agrees_all world older agrees.1)
   agrees_all world (Tried name ∷ older) agrees = (tt, agrees_all world older agrees)
   agrees_all world (Sought name ∷ older) agrees = (tt, agrees_all world older agrees)
@@ -39,8 +52,16 @@ module _ (setting : Setting) (ts : List Told) where
   allowed_alike : (roots : List (List ℕ)) (m : List ℕ) (notes : List Note)
       → is_allowed roots (told_onto setting ts notes) m ≡ is_allowed roots (answers notes) m
   allowed_alike roots m [] = refl
+  allowed_alike roots m (Document name found ∷ older) =
+      ap (λ b. is_among (names_given (document name (tree_found found))) m || b) (allowed_alike roots m older)
+  allowed_alike roots m (Kind name answer ∷ older) =
+      ap (λ b. is_among (names_given (kind name answer)) m || b) (allowed_alike roots m older)
+  allowed_alike roots m (Title name topic text ∷ older) =
+      ap (λ b. is_among (names_given (title name topic text)) m || b) (allowed_alike roots m older)
+  allowed_alike roots m (First name id ∷ older) =
+      ap (λ b. is_among (names_given (first name id)) m || b) (allowed_alike roots m older)
   allowed_alike roots m (Answer asked ∷ older) =
-      ap (λ b. is_among (names_given (told_asked setting asked)) m || b) (allowed_alike roots m older)
+      ap (λ b. is_among (names_given (told_asked setting (box_value asked))) m || b) (allowed_alike roots m older)
   allowed_alike roots m (Tried name ∷ older) = allowed_alike roots m older
   allowed_alike roots m (Sought name ∷ older) = allowed_alike roots m older
   allowed_alike roots m (TriedKey ∷ older) = allowed_alike roots m older
@@ -48,6 +69,30 @@ module _ (setting : Setting) (ts : List Told) where
   founded_answers : (roots : List (List ℕ)) (notes : List Note) → IsFounded roots (told_onto setting ts notes)
       → IsFounded roots (answers notes)
   founded_answers roots [] founded = founded
+  founded_answers roots (Document name found ∷ older) founded = (
+    record {
+      each = λ m among. subst IsTrue (allowed_alike roots m older) (founded.0.each m among);
+    },
+    founded_answers roots older founded.1,
+  )
+  founded_answers roots (Kind name answer ∷ older) founded = (
+    record {
+      each = λ m among. subst IsTrue (allowed_alike roots m older) (founded.0.each m among);
+    },
+    founded_answers roots older founded.1,
+  )
+  founded_answers roots (Title name topic text ∷ older) founded = (
+    record {
+      each = λ m among. subst IsTrue (allowed_alike roots m older) (founded.0.each m among);
+    },
+    founded_answers roots older founded.1,
+  )
+  founded_answers roots (First name id ∷ older) founded = (
+    record {
+      each = λ m among. subst IsTrue (allowed_alike roots m older) (founded.0.each m among);
+    },
+    founded_answers roots older founded.1,
+  )
   founded_answers roots (Answer asked ∷ older) founded = (
     record {
       each = λ m among. subst IsTrue (allowed_alike roots m older) (founded.0.each m among);
@@ -67,7 +112,11 @@ told_by_one : (setting : Setting) (ts : List Told) (note : Note) (older : List N
     → told_in setting ts (answered_of (reverse older)) ≡ answers setting ts older
     → told_in setting (told_in setting ts (answered_of (reverse older))) (answered_of (note ∷ []))
     ≡ answers setting ts (note ∷ older)
-told_by_one setting ts (Answer asked) older is = ap (λ all. told_asked setting asked ∷ all) is
+told_by_one setting ts (Document name found) older is = ap (λ all. document name (tree_found found) ∷ all) is
+told_by_one setting ts (Kind name answer) older is = ap (λ all. kind name answer ∷ all) is
+told_by_one setting ts (Title name topic text) older is = ap (λ all. title name topic text ∷ all) is
+told_by_one setting ts (First name id) older is = ap (λ all. first name id ∷ all) is
+told_by_one setting ts (Answer asked) older is = ap (λ all. told_asked setting (box_value asked) ∷ all) is
 told_by_one setting ts (Tried name) older is = is
 told_by_one setting ts (Sought name) older is = is
 told_by_one setting ts TriedKey older is = is

@@ -7,3 +7,5 @@ pub mod AnsweredLaws
 pub mod SoughtLaws
 pub mod FetchLaws
 pub mod FileLaws
+pub mod AmongLaws
+pub mod GivenLaws

@@ -1,8 +1,10 @@
 -- Which documents are asked for as a whole (own): those of a list, and those that follow from answers told before. As
 -- `Founded`, for documents alone and by any rule of what follows.
-use Rattle.std.specs.Prelude.{◌||◌, ℕ, Bool, List, [], ◌∷◌, IsTrue, map}
+use Rattle.std.specs.Prelude.{◌||◌, ℕ, Bool, List, [], ◌∷◌, Option, IsTrue, map, option_map}
 use Rattle.dita_doc.specs.declared.content.Push.{Push}
+use Rattle.map_spec.specs.Written.{Element, Written, written_in}
 use Rattle.readers.specs.Founded.{is_among}
+use Rattle.readers.specs.Named.{given_in_found, names_of_element, names_of_found, reused_by, reused_of_found}
 use Rattle.readers.specs.Told.{Told, document, kind, title, first, key, pushes, page_of, tried, sought}
 
 -- the document that a question asks for
@@ -36,6 +38,18 @@ of_pushes (page_of pages name context answer) = []
 of_pushes (tried names) = []
 of_pushes (sought name) = []
 
+-- those that a document gives, each element by itself
+abbrev pub of_documents : (Element → List (List ℕ)) → Follows
+of_documents names (document name tree) = given_in_found names (option_map (written_in name) tree)
+of_documents names (kind name answer) = []
+of_documents names (title name topic text) = []
+of_documents names (first name id) = []
+of_documents names (key nodes scope text answer) = []
+of_documents names (pushes documents name answer) = []
+of_documents names (page_of pages name context answer) = []
+of_documents names (tried names') = []
+of_documents names (sought name) = []
+
 -- a document may be asked for: it is a root, or follows from an answer
 abbrev pub may_ask : Follows → List (List ℕ) → List Told → List ℕ → Bool
 may_ask follows roots [] m = is_among roots m
@@ -58,3 +72,8 @@ pub record Covers (more less : Follows) : Type 0 where
 pub record AsksOnly (follows : Follows) (names : List (List ℕ)) (old new : List Told) : Type 0 where
   pub by : (rule : Follows) (roots : List (List ℕ)) → Covers rule follows → MayAsk rule roots old names
       → AskedBy rule roots old → AskedBy rule roots new
+
+-- documents that were told give all that this content gives: what its references name, and what its content references do
+pub record IsGiven (told : List Told) (found : Option Written) : Type 0 where
+  pub named : MayAsk (of_documents names_of_element) [] told (names_of_found found)
+  pub reused : MayAsk (of_documents reused_by) [] told (reused_of_found found)

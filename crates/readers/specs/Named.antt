@@ -1,7 +1,7 @@
 -- Documents whose nodes were written in several documents (own): each node under the name at its origin's place.
 use Rattle.std.specs.Prelude.{ℕ, List, [], ◌∷◌, ◌++◌, Option, option_map, slice_get, unwrap_or, codes, if◌then◌else◌, None, Some}
 use Rattle.std.specs.List.{filter_map}
-use Rattle.std.specs.Option.{option_and_then}
+use Rattle.std.specs.Option.{option_and_then, option_to_list}
 use Rattle.std.specs.declared.alloc.Global.{Global}
 use Rattle.std.specs.declared.sync.Arc.{Arc}
 use Rattle.dita_doc.specs.Tree as tree
@@ -43,11 +43,38 @@ abbrev pub names_of_element : Element → List (List ℕ)
 names_of_element element =
     filter_map (λ name. option_and_then (name_joined element.doc) (attribute name element)) references
 
+-- what elements give, each by itself
+abbrev pub given_in : (Element → List (List ℕ)) → Written → List (List ℕ)
+given_in names End = []
+given_in names (Chars text doc rest) = given_in names rest
+given_in names (Node element inside rest) = names element ++ (given_in names inside ++ given_in names rest)
+
+abbrev pub given_in_found : (Element → List (List ℕ)) → Option Written → List (List ℕ)
+given_in_found names None = []
+given_in_found names (Some nodes) = given_in names nodes
+
 abbrev pub names_in : Written → List (List ℕ)
-names_in End = []
-names_in (Chars text doc rest) = names_in rest
-names_in (Node element inside rest) = names_of_element element ++ (names_in inside ++ names_in rest)
+names_in nodes = given_in names_of_element nodes
 
 abbrev pub names_of_found : Option Written → List (List ℕ)
-names_of_found None = []
-names_of_found (Some nodes) = names_in nodes
+names_of_found found = given_in_found names_of_element found
+
+-- The documents that content references name (DITA 1.3, "The conref attribute")
+
+abbrev pub reused_by : Element → List (List ℕ)
+reused_by element = option_to_list (option_and_then (name_joined element.doc) (attribute (codes "conref") element))
+
+abbrev pub reused_in : Written → List (List ℕ)
+reused_in nodes = given_in reused_by nodes
+
+abbrev pub reused_of_found : Option Written → List (List ℕ)
+reused_of_found found = given_in_found reused_by found
+
+-- The documents that hrefs are joined to, each seen from the document in which it was written
+
+abbrev pub linked_by : Element → List (List ℕ)
+linked_by element =
+    option_to_list (option_and_then (name_joined element.href_doc) (attribute (codes "href") element))
+
+abbrev pub linked_in : Written → List (List ℕ)
+linked_in nodes = given_in linked_by nodes

@@ -1,5 +1,6 @@
 -- What the notes of a reader tell (own): notes, the newest first, on top of what was told before.
 use Rattle.std.specs.Prelude.{List, [], ◌∷◌, Option, Some, None}
+use Rattle.std.specs.Box.{box_value}
 use Rattle.std.specs.List.{filter_map}
 use Rattle.dita_doc.specs.Desk.{State}
 use Rattle.dita_doc.specs.declared.question.Answered.{Answered}
@@ -28,7 +29,11 @@ told_by setting (questions.PageOf name context) (answers.PageOf place) =
 told_by setting question answer = tried []
 
 abbrev pub told_of : Setting → Note → Told
-told_of setting (notes.Answer asked) = told_by setting asked.question asked.answered
+told_of setting (notes.Document name found) = document name (tree_found found)
+told_of setting (notes.Kind name answer) = kind name answer
+told_of setting (notes.Title name topic text) = title name topic text
+told_of setting (notes.First name id) = first name id
+told_of setting (notes.Answer asked) = told_by setting (box_value asked).question (box_value asked).answered
 told_of setting (notes.Tried name) = tried (name ∷ [])
 told_of setting (notes.Sought name) = sought name
 told_of setting notes.TriedKey = tried (homes setting.nodes)
@@ -48,7 +53,13 @@ AreAnswers state all = Agrees (world_of state) (told_alone all)
 -- The questions that have their answers, as facts keep them
 
 abbrev pub if_answered : Note → Option Asked
-if_answered (notes.Answer asked) = Some asked
+if_answered (notes.Document name found) =
+    Some (record { question = questions.Document name; answered = answers.Document found })
+if_answered (notes.Kind name answer) = Some (record { question = questions.Kind name; answered = answers.Kind answer })
+if_answered (notes.Title name topic text) =
+    Some (record { question = questions.Title name topic; answered = answers.Title text })
+if_answered (notes.First name id) = Some (record { question = questions.First name; answered = answers.First id })
+if_answered (notes.Answer asked) = Some (box_value asked)
 if_answered _ = None
 
 abbrev pub answered_of : List Note → List Asked

@@ -1,12 +1,12 @@
 //! The traits of readers: each call answers a question, and tells it with its answer.
 
-ghost use Rattle.std.specs.Prelude.{◌≡◌, ℕ, [], ◌∷◌, List, IfOk, IfSome};
+ghost use Rattle.std.specs.Prelude.{◌≡◌, [], ◌∷◌, List, IfOk, IfSome};
 ghost use Rattle.page_spec.specs.Pushes.{pushed};
 ghost use Rattle.reader_spec.specs.World.{World};
 ghost use Rattle.readers.specs.Documents as documents_spec;
-ghost use Rattle.readers.specs.Documents.{AsksOnly};
+ghost use Rattle.readers.specs.Documents.{AsksOnly, IsGiven};
 ghost use Rattle.readers.specs.Founded as founded_spec;
-ghost use Rattle.readers.specs.Founded.{AreAllowed, Grows, StaysFounded};
+ghost use Rattle.readers.specs.Founded.{Grows, StaysFounded};
 ghost use Rattle.readers.specs.Named as named_spec;
 ghost use Rattle.readers.specs.Setting.{Stand};
 ghost use Rattle.readers.specs.Told as told_spec;
@@ -103,8 +103,8 @@ pub trait Asker: Keys {
         ensures known { (world : World) → Agrees world (Self.told self.new)
             → IfOk result (λ found. named_spec.named_found found
             ≡ pushed world (Self.stand self.old).setting.documents name.now) }
-        ensures given { (roots : List (List ℕ)) → IfOk result (λ found. AreAllowed roots
-            (Self.told self.new) (named_spec.names_of_found (named_spec.named_found found))) }
+        ensures given { IfOk result (λ found. IsGiven (Self.told self.new)
+            (named_spec.named_found found)) }
         ensures founded { StaysFounded (name.now ∷ []) (Self.told self.old) (Self.told self.new) }
         ensures asks { AsksOnly documents_spec.of_pushes (name.now ∷ []) (Self.told self.old)
             (Self.told self.new) }

@@ -10,11 +10,20 @@ use std::alloc::{AllocError, Global};
 use std::marker::Model;
 use std::sync::Arc;
 
-/// A question as a reader keeps it.
+/// A question as a reader keeps it. A build puts most of those that have a form of their own, so that
+/// they take little room.
 #[derive(Debug, Drop)]
 pub enum Note {
-    /// It has its answer.
-    Answer(Asked),
+    /// A document, as it was found.
+    Document(Name, Option<Arc<Doc>>),
+    /// What a document is.
+    Kind(Name, DocKind),
+    /// The title of a topic of a document.
+    Title(Name, Text, Text),
+    /// The id of a document's first topic.
+    First(Name, Text),
+    /// Another question, which has its answer.
+    Answer(Box<Asked>),
     /// It is about this document, and has no answer yet.
     Tried(Name),
     /// It asks for this document as a whole, and has no answer yet.
@@ -29,51 +38,55 @@ impl Note {
         ensures { IfOk result (λ note. (setting : Setting) → noted_spec.told_of setting note
             ≡ told_spec.document name.now (told_spec.tree_found found.now)) }
     {
-        Ok(Note::Answer(Asked {
-            question: Question::Document(name.clone()?),
-            answered: Answered::Document(share(found)?),
-        }))
+        Ok(Note::Document(name.clone()?, share(found)?))
     }
 
     pub fn kind(name: &Name, kind: DocKind) -> Result<Note, NoMemory>
         ensures { IfOk result (λ note. (setting : Setting) → noted_spec.told_of setting note
             ≡ told_spec.kind name.now kind) }
     {
-        Ok(Note::Answer(Asked {
-            question: Question::Kind(name.clone()?),
-            answered: Answered::Kind(kind),
-        }))
+        Ok(Note::Kind(name.clone()?, kind))
     }
 
     pub fn title(name: &Name, topic: &Text, text: &Text) -> Result<Note, NoMemory>
         ensures { IfOk result (λ note. (setting : Setting) → noted_spec.told_of setting note
             ≡ told_spec.title name.now topic.now text.now) }
     {
-        Ok(Note::Answer(Asked {
-            question: Question::Title(name.clone()?, topic.clone()?),
-            answered: Answered::Title(text.clone()?),
-        }))
+        Ok(Note::Title(name.clone()?, topic.clone()?, text.clone()?))
     }
 
     pub fn first(name: &Name, id: &Text) -> Result<Note, NoMemory>
         ensures { IfOk result (λ note. (setting : Setting) → noted_spec.told_of setting note
             ≡ told_spec.first name.now id.now) }
     {
-        Ok(Note::Answer(Asked {
-            question: Question::First(name.clone()?),
-            answered: Answered::First(id.clone()?),
-        }))
+        Ok(Note::First(name.clone()?, id.clone()?))
     }
 
     /// The question for a key in the scope of this place, with its answer.
-    pub fn key(scope: u32, key: &Text, answer: KeyAnswer) -> Result<Note, NoMemory>
+    pub fn key(alloc: Global, scope: u32, key: &Text, answer: KeyAnswer) -> Result<Note, NoMemory>
         ensures { IfOk result (λ note. (setting : Setting) → noted_spec.told_of setting note
             ≡ told_spec.key setting.nodes scope key.now answer) }
     {
-        Ok(Note::Answer(Asked {
+        let asked = Asked {
             question: Question::Key(scope, key.clone()?),
             answered: Answered::Key(answer),
-        }))
+        };
+        Ok(Note::Answer(Box::new(alloc, asked)?))
+    }
+
+    /// The question with its answer, if it has one.
+    fn into_asked(self) -> Option<Asked>
+        ensures { result ≡ noted_spec.if_answered self }
+    {
+        let (question, answered) = match self {
+            Note::Document(name, found) => (Question::Document(name), Answered::Document(found)),
+            Note::Kind(name, kind) => (Question::Kind(name), Answered::Kind(kind)),
+            Note::Title(name, topic, text) => (Question::Title(name, topic), Answered::Title(text)),
+            Note::First(name, id) => (Question::First(name), Answered::First(id)),
+            Note::Answer(asked) => return Some(Box::into_inner(asked)),
+            Note::Tried(_) | Note::Sought(_) | Note::TriedKey => return None,
+        };
+        Some(Asked { question, answered })
     }
 }
 
@@ -137,7 +150,7 @@ impl Questions {
         let Questions { oldest_first } = self;
         let mut answered = List::new(alloc);
         for note in oldest_first {
-            if let Note::Answer(asked) = note {
+            if let Some(asked) = note.into_asked() {
                 answered.push(asked)?;
             }
         }

@@ -11,6 +11,7 @@ ghost use Rattle.page_spec.specs.Anchors.{Here};
 ghost use Rattle.readers.specs.Documents as documents_spec;
 ghost use Rattle.readers.specs.Documents.{AsksOnly};
 ghost use Rattle.readers.specs.Founded.{Grows, StaysFounded};
+ghost use Rattle.readers.specs.Named as named_spec;
 ghost use Rattle.readers.specs.Told.{Agrees};
 ghost use Rattle.xref_links.specs.Adding as spec;
 ghost use Rattle.xref_links.specs.Names as names_spec;
@@ -165,7 +166,7 @@ pub(crate) fn add_written<'a, A: Asker>(
         (elements_spec.attribute (codes "href") (spec.element_of page.entry standing.entry)))))) }
     ensures stand { A.stand asker.new ≡ A.stand asker.old }
     ensures founded { StaysFounded (page.entry.context.now.page.doc
-        ∷ names_spec.names_of_link (spec.element_of page.entry standing.entry)) (A.told asker.old)
+        ∷ named_spec.linked_by (spec.element_of page.entry standing.entry)) (A.told asker.old)
         (A.told asker.new) }
     ensures asks { AsksOnly documents_spec.nothing [] (A.told asker.old) (A.told asker.new) }
     ensures grows { Grows (A.told asker.old) (A.told asker.new) }

@@ -14,6 +14,7 @@ ghost use Rattle.reader_spec.specs.World.{World};
 ghost use Rattle.readers.specs.Documents as documents_spec;
 ghost use Rattle.readers.specs.Documents.{AsksOnly};
 ghost use Rattle.readers.specs.Founded.{Grows, StaysFounded};
+ghost use Rattle.readers.specs.Named as named_spec;
 ghost use Rattle.readers.specs.Told.{Agrees};
 ghost use Rattle.xref_links.specs.Adding as spec;
 ghost use Rattle.xref_links.specs.Body as body_spec;
@@ -115,7 +116,7 @@ fn walk<'a, A: Asker>(
     ensures stand { A.stand asker.new ≡ A.stand asker.old }
     ensures founded { (nodes : List PlanNode) → (A.stand asker.old).setting.nodes ≡ nodes
         → StaysFounded (names_spec.names_with nodes page.entry.context.now.page.doc
-        (names_spec.names_of_links (body_spec.written_at page.entry.body.now place
+        (named_spec.linked_in (body_spec.written_at page.entry.body.now place
         (siblings_spec.content siblings.entry)))) (A.told asker.old) (A.told asker.new) }
     ensures asks { AsksOnly documents_spec.nothing [] (A.told asker.old) (A.told asker.new) }
     ensures grows { Grows (A.told asker.old) (A.told asker.new) }
@@ -183,7 +184,7 @@ fn add<'a, A: Asker>(
     ensures stand { A.stand asker.new ≡ A.stand asker.old }
     ensures founded { (nodes : List PlanNode) → (A.stand asker.old).setting.nodes ≡ nodes
         → StaysFounded (names_spec.names_with nodes page.entry.context.now.page.doc
-        (names_spec.names_of_link (spec.element_of page.entry standing.entry))) (A.told asker.old)
+        (named_spec.linked_by (spec.element_of page.entry standing.entry))) (A.told asker.old)
         (A.told asker.new) }
     ensures asks { AsksOnly documents_spec.nothing [] (A.told asker.old) (A.told asker.new) }
     ensures grows { Grows (A.told asker.old) (A.told asker.new) }
@@ -218,7 +219,7 @@ fn add_behind<'a, A: Asker>(
     ensures stand { A.stand asker.new ≡ A.stand asker.old }
     ensures founded { StaysFounded (names_spec.names_of (spec.target_of keyed.entry)
         ++ page.entry.context.now.page.doc
-        ∷ names_spec.names_of_link (spec.element_of page.entry standing.entry)) (A.told asker.old)
+        ∷ named_spec.linked_by (spec.element_of page.entry standing.entry)) (A.told asker.old)
         (A.told asker.new) }
     ensures asks { AsksOnly documents_spec.nothing [] (A.told asker.old) (A.told asker.new) }
     ensures grows { Grows (A.told asker.old) (A.told asker.new) }
@@ -253,7 +254,7 @@ fn add_unkeyed<'a, A: Asker>(
         (anchors_spec.added_by here (spec.stands_in page.entry standing.entry around))) }
     ensures stand { A.stand asker.new ≡ A.stand asker.old }
     ensures founded { StaysFounded (page.entry.context.now.page.doc
-        ∷ names_spec.names_of_link (spec.element_of page.entry standing.entry)) (A.told asker.old)
+        ∷ named_spec.linked_by (spec.element_of page.entry standing.entry)) (A.told asker.old)
         (A.told asker.new) }
     ensures asks { AsksOnly documents_spec.nothing [] (A.told asker.old) (A.told asker.new) }
     ensures grows { Grows (A.told asker.old) (A.told asker.new) }

@@ -1,23 +1,25 @@
 use Rattle.std.proofs.Common.{Option, unwrap_or, false, [], sym, ap, refl, subst, ◌∙◌}
+use Rattle.std.specs.Arc.{arc_value}
 use Rattle.std.specs.declared.alloc.Global.{Global}
 use Rattle.std.specs.declared.sync.Arc.{Arc}
 use Rattle.std.proofs.lemmas.Result.{on_ok_weaker}
 use Rattle.dita_doc.specs.declared.doc.Doc.{Doc}
 use Rattle.dita_doc.specs.declared.plan.Context.{Context}
 use Rattle.map_spec.specs.Written.{Written}
-use Rattle.readers.specs.Founded.{AreAllowed}
+use Rattle.readers.specs.Documents.{IsGiven}
 use Rattle.page_spec.specs.Content.{Made, page_root, resolved_in}
 use Rattle.map_spec.specs.Written.{End}
-use Rattle.readers.specs.Named.{named_found, named_tree, names_in, names_of_found}
+use Rattle.readers.specs.Named.{named_found, named_tree, reused_in}
 use Rattle.readers.specs.Setting.{Stand}
+use Rattle.readers.proofs.GivenLaws.{given_later}
 use Rattle.readers.proofs.GrowthLaws.{agrees_before, grows_trans}
-use Rattle.conref_pull.specs.Asking.{AreGiven, names_of_doc}
+use Rattle.conref_pull.specs.Asking.{AreGiven, reused_of_doc}
 use Rattle.conref_pull.specs.Origin.{named_content}
 use Rattle.conref_pull.specs.Resolved.{IsResolved, too_many_faults}
 use Rattle.conref_pull.specs.Rules.{ditavals, page_rules}
 use Rattle.conref_pull.specs.Setting.{setting_of}
 use Rattle.conref_pull.specs.Walking.{among_made}
-use Rattle.conref_pull.proofs.AskingLaws.{about_next, about_page, about_rules, about_then, given_later, none_among}
+use Rattle.conref_pull.proofs.AskingLaws.{about_next, about_page, about_rules, about_then, given_reused, none_among}
 use Rattle.conref_pull.proofs.CallLaws.{Begins, all_made, done_of, here_begins, none_made, ready_begins, setting_begins, tables_kept}
 use Rattle.conref_pull.proofs.OriginLaws.{content_named}
 use Rattle.conref_pull.proofs.RuleLaws.{rules_of_page}
@@ -57,14 +59,12 @@ returns-clause-founded g c = (about_next (g.A.Reader.stand c.args.asker.now).set
     (grows_trans _ _ _ (grows_trans _ _ _ c.pushed.ensures.grows c.read.ensures.grows) c.siblings-done.ensures.grows)
     (about_then (g.A.Reader.stand c.args.asker.now).setting.nodes _ _ _ _ _ _ _
     (ap (λ (context : Context). context.page.doc) c.new-resolver.ensures.context)
-    (subst (λ (all : Written). AreGiven (g.A.Reader.told c.read.new.reader) (names_in all))
+    (subst (λ (all : Written). AreGiven (g.A.Reader.told c.read.new.reader) (reused_in all))
     (sym (content_named c.of-2.result c.deref.result.now c.of-2.ensures.content c.of-2.ensures.document))
-    (subst (λ (doc : Doc). AreGiven (g.A.Reader.told c.read.new.reader) (names_of_doc doc)) (sym c.deref.ensures)
-    (given_later _ _ _ c.in_ok-read.ensures.grows
-    (record {
-      by = λ roots. subst (λ (found : Option (Arc Doc Global)). AreAllowed roots (g.A.Reader.told c.pushed.new.self)
-          (names_of_found (named_found found))) c.in-Some.is (c.in_ok-doc.ensures.given roots);
-    })))) (grows_trans _ _ _ c.pushed.ensures.grows c.read.ensures.grows)
+    (subst (λ (doc : Doc). AreGiven (g.A.Reader.told c.read.new.reader) (reused_of_doc doc)) (sym c.deref.ensures)
+    (given_reused _ (arc_value c.in-Some.doc) (given_later _ _ _ c.in_ok-read.ensures.grows
+    (subst (λ (found : Option (Arc Doc Global)). IsGiven (g.A.Reader.told c.pushed.new.self) (named_found found))
+    c.in-Some.is c.in_ok-doc.ensures.given))))) (grows_trans _ _ _ c.pushed.ensures.grows c.read.ensures.grows)
     (about_rules (g.A.Reader.stand c.args.asker.now).setting.nodes _ _ _ _ _ c.pushed.ensures.grows c.pushed.ensures.founded c.pushed.ensures.asks
     c.read.ensures.founded c.read.ensures.asks) (c.siblings-done.ensures.asks (g.A.Reader.stand c.args.asker.now).setting.nodes
     (ap (λ (stand : Stand). stand.setting.nodes) (c.in_ok-read.ensures.stand ∙ c.in_ok-doc.ensures.stand)))) (c.finish.ensures.asks (g.A.Reader.stand c.args.asker.now).setting.nodes)).founded
@@ -74,14 +74,12 @@ returns-clause-asks g c = (about_next (g.A.Reader.stand c.args.asker.now).settin
     (grows_trans _ _ _ (grows_trans _ _ _ c.pushed.ensures.grows c.read.ensures.grows) c.siblings-done.ensures.grows)
     (about_then (g.A.Reader.stand c.args.asker.now).setting.nodes _ _ _ _ _ _ _
     (ap (λ (context : Context). context.page.doc) c.new-resolver.ensures.context)
-    (subst (λ (all : Written). AreGiven (g.A.Reader.told c.read.new.reader) (names_in all))
+    (subst (λ (all : Written). AreGiven (g.A.Reader.told c.read.new.reader) (reused_in all))
     (sym (content_named c.of-2.result c.deref.result.now c.of-2.ensures.content c.of-2.ensures.document))
-    (subst (λ (doc : Doc). AreGiven (g.A.Reader.told c.read.new.reader) (names_of_doc doc)) (sym c.deref.ensures)
-    (given_later _ _ _ c.in_ok-read.ensures.grows
-    (record {
-      by = λ roots. subst (λ (found : Option (Arc Doc Global)). AreAllowed roots (g.A.Reader.told c.pushed.new.self)
-          (names_of_found (named_found found))) c.in-Some.is (c.in_ok-doc.ensures.given roots);
-    })))) (grows_trans _ _ _ c.pushed.ensures.grows c.read.ensures.grows)
+    (subst (λ (doc : Doc). AreGiven (g.A.Reader.told c.read.new.reader) (reused_of_doc doc)) (sym c.deref.ensures)
+    (given_reused _ (arc_value c.in-Some.doc) (given_later _ _ _ c.in_ok-read.ensures.grows
+    (subst (λ (found : Option (Arc Doc Global)). IsGiven (g.A.Reader.told c.pushed.new.self) (named_found found))
+    c.in-Some.is c.in_ok-doc.ensures.given))))) (grows_trans _ _ _ c.pushed.ensures.grows c.read.ensures.grows)
     (about_rules (g.A.Reader.stand c.args.asker.now).setting.nodes _ _ _ _ _ c.pushed.ensures.grows c.pushed.ensures.founded c.pushed.ensures.asks
     c.read.ensures.founded c.read.ensures.asks) (c.siblings-done.ensures.asks (g.A.Reader.stand c.args.asker.now).setting.nodes
     (ap (λ (stand : Stand). stand.setting.nodes) (c.in_ok-read.ensures.stand ∙ c.in_ok-doc.ensures.stand)))) (c.finish.ensures.asks (g.A.Reader.stand c.args.asker.now).setting.nodes)).asks

@@ -1,16 +1,17 @@
 use Rattle.std.proofs.Common.{Option, sym, ap, refl, subst, ◌∙◌, unwrap_or, false, ◌+◌}
+use Rattle.std.specs.Arc.{arc_value}
 use Rattle.std.specs.declared.alloc.Global.{Global}
 use Rattle.std.specs.declared.sync.Arc.{Arc}
-use Rattle.std.proofs.lemmas.Bool.{false≢true}
 use Rattle.dita_doc.specs.declared.doc.Doc.{Doc}
 use Rattle.dita_doc.specs.declared.plan.Context.{Context}
 use Rattle.map_spec.specs.Written.{Written, End}
-use Rattle.readers.specs.Founded.{AreAllowed}
-use Rattle.readers.specs.Named.{named_found, names_of_found, named_tree}
+use Rattle.readers.specs.Documents.{IsGiven}
+use Rattle.readers.specs.Named.{named_found, named_tree}
 use Rattle.readers.specs.Setting.{Stand}
+use Rattle.readers.proofs.GivenLaws.{given_later}
 use Rattle.readers.proofs.GrowthLaws.{grows_trans, agrees_before}
-use Rattle.conref_pull.specs.Asking.{AreGiven, names_of_doc}
-use Rattle.conref_pull.proofs.AskingLaws.{about_next, about_page, about_rules, about_then, given_later, none_among}
+use Rattle.conref_pull.specs.Asking.{AreGiven, reused_of_doc}
+use Rattle.conref_pull.proofs.AskingLaws.{about_next, about_page, about_rules, about_then, given_none, given_reused, none_among}
 use Rattle.std.proofs.lemmas.Result.{on_ok_weaker}
 use Rattle.page_spec.specs.Content.{Made, page_root, resolved_in}
 use Rattle.conref_pull.specs.Resolved.{IsResolved, too_many_faults}
@@ -57,32 +58,32 @@ returns-clause-founded g c = (about_next (g.A.Reader.stand c.args.asker.now).set
     (grows_trans _ _ _ (grows_trans _ _ _ c.pushed.ensures.grows c.read.ensures.grows) c.node_at-done.ensures.grows)
     (about_then (g.A.Reader.stand c.args.asker.now).setting.nodes _ _ _ _ _ _ _
     (ap (λ (context : Context). context.page.doc) c.new-resolver.ensures.context)
-    (record { by = λ roots. record { each = λ m here. absurd (false≢true here) } }) (grows_trans _ _ _ c.pushed.ensures.grows c.read.ensures.grows)
+    (given_none _)
+    (grows_trans _ _ _ c.pushed.ensures.grows c.read.ensures.grows)
     (about_rules (g.A.Reader.stand c.args.asker.now).setting.nodes _ _ _ _ _ c.pushed.ensures.grows c.pushed.ensures.founded c.pushed.ensures.asks
     c.read.ensures.founded c.read.ensures.asks) (c.node_at-done.ensures.asks (g.A.Reader.stand c.args.asker.now).setting.nodes
     (ap (λ (stand : Stand). stand.setting.nodes) (c.in_ok-read.ensures.stand ∙ c.in_ok-doc.ensures.stand))
-    (subst (λ (doc : Doc). AreGiven (g.A.Reader.told c.read.new.reader) (names_of_doc doc)) (sym c.deref-2.ensures)
-    (given_later _ _ _ c.in_ok-read.ensures.grows
-    (record {
-      by = λ roots. subst (λ (found : Option (Arc Doc Global)). AreAllowed roots (g.A.Reader.told c.pushed.new.self)
-          (names_of_found (named_found found))) c.in-Some.is (c.in_ok-doc.ensures.given roots);
-    }))))) (c.finish.ensures.asks (g.A.Reader.stand c.args.asker.now).setting.nodes)).founded
+    (subst (λ (doc : Doc). AreGiven (g.A.Reader.told c.read.new.reader) (reused_of_doc doc)) (sym c.deref-2.ensures)
+    (given_reused _ (arc_value c.in-Some.doc) (given_later _ _ _ c.in_ok-read.ensures.grows
+    (subst (λ (found : Option (Arc Doc Global)). IsGiven (g.A.Reader.told c.pushed.new.self) (named_found found))
+    c.in-Some.is c.in_ok-doc.ensures.given))))))
+    (c.finish.ensures.asks (g.A.Reader.stand c.args.asker.now).setting.nodes)).founded
 
 pub returns-clause-asks : goal.returns-clause-asks
 returns-clause-asks g c = (about_next (g.A.Reader.stand c.args.asker.now).setting.nodes _ _ _ _ _ _ _ refl (none_among _)
     (grows_trans _ _ _ (grows_trans _ _ _ c.pushed.ensures.grows c.read.ensures.grows) c.node_at-done.ensures.grows)
     (about_then (g.A.Reader.stand c.args.asker.now).setting.nodes _ _ _ _ _ _ _
     (ap (λ (context : Context). context.page.doc) c.new-resolver.ensures.context)
-    (record { by = λ roots. record { each = λ m here. absurd (false≢true here) } }) (grows_trans _ _ _ c.pushed.ensures.grows c.read.ensures.grows)
+    (given_none _)
+    (grows_trans _ _ _ c.pushed.ensures.grows c.read.ensures.grows)
     (about_rules (g.A.Reader.stand c.args.asker.now).setting.nodes _ _ _ _ _ c.pushed.ensures.grows c.pushed.ensures.founded c.pushed.ensures.asks
     c.read.ensures.founded c.read.ensures.asks) (c.node_at-done.ensures.asks (g.A.Reader.stand c.args.asker.now).setting.nodes
     (ap (λ (stand : Stand). stand.setting.nodes) (c.in_ok-read.ensures.stand ∙ c.in_ok-doc.ensures.stand))
-    (subst (λ (doc : Doc). AreGiven (g.A.Reader.told c.read.new.reader) (names_of_doc doc)) (sym c.deref-2.ensures)
-    (given_later _ _ _ c.in_ok-read.ensures.grows
-    (record {
-      by = λ roots. subst (λ (found : Option (Arc Doc Global)). AreAllowed roots (g.A.Reader.told c.pushed.new.self)
-          (names_of_found (named_found found))) c.in-Some.is (c.in_ok-doc.ensures.given roots);
-    }))))) (c.finish.ensures.asks (g.A.Reader.stand c.args.asker.now).setting.nodes)).asks
+    (subst (λ (doc : Doc). AreGiven (g.A.Reader.told c.read.new.reader) (reused_of_doc doc)) (sym c.deref-2.ensures)
+    (given_reused _ (arc_value c.in-Some.doc) (given_later _ _ _ c.in_ok-read.ensures.grows
+    (subst (λ (found : Option (Arc Doc Global)). IsGiven (g.A.Reader.told c.pushed.new.self) (named_found found))
+    c.in-Some.is c.in_ok-doc.ensures.given))))))
+    (c.finish.ensures.asks (g.A.Reader.stand c.args.asker.now).setting.nodes)).asks
 
 pub returns-in_default-clause-known : goal.returns-in_default-clause-known
 returns-in_default-clause-known g c = λ world agrees rules tables.

@@ -5,11 +5,10 @@ use Rattle.dita_doc.specs.declared.plan.PlanNode.{PlanNode}
 use Rattle.map_spec.specs.Keys.{key_answer}
 use Rattle.readers.specs.Founded.{StaysFounded, homes}
 use Rattle.readers.specs.Setting.{Stand}
-use Rattle.readers.proofs.FoundedLaws.{given_allowed}
 use Rattle.readers.proofs.GrowthLaws.{agrees_before, told_answer}
 use Rattle.conref_pull.specs.Found.{IsKeyed}
 use Rattle.conref_pull.specs.Setting.{setting_of}
-use Rattle.conref_pull.proofs.AskingLaws.{about_after, about_key}
+use Rattle.conref_pull.proofs.AskingLaws.{about_after, about_key, given_target}
 use Rattle.conref_pull.proofs.FindLaws.{keyed_none, keyed_some, target_there}
 use Rattle.conref_pull.proofs.find.find_by_key.Goals as goal
 
@@ -43,6 +42,17 @@ returns-clause-known g c = λ world rules agrees are.
     c.is_some.ensures
     c.in_ok-append_faults.ensures))
 
+pub returns-in_err-find_target-clause-asks : goal.returns-in_err-find_target-clause-asks
+returns-in_err-find_target-clause-asks g c = λ nodes same.
+    about_after nodes [] (g.A.Reader.told c.args.asker.now) (g.A.Reader.told c.key.new.self) _
+    c.in_ok-node.ensures.grows
+    (about_key nodes _ _ (subst (λ (all : List PlanNode). StaysFounded (homes all)
+    (g.A.Reader.told c.args.asker.now) (g.A.Reader.told c.key.new.self)) same c.in_ok-node.ensures.founded)
+    c.in_ok-node.ensures.asks)
+    (c.find_target.ensures.asks nodes
+    (ap (λ (stand : Stand). stand.setting.nodes) c.in_ok-node.ensures.stand ∙ same)
+    (given_target _ _ _ _ _ _ c.in_ok-node.ensures.told))
+
 pub returns-clause-asks : goal.returns-clause-asks
 returns-clause-asks g c = λ nodes same.
     about_after nodes [] (g.A.Reader.told c.args.asker.now) (g.A.Reader.told c.key.new.self) _
@@ -52,4 +62,4 @@ returns-clause-asks g c = λ nodes same.
     c.in_ok-node.ensures.asks)
     (c.in_ok-find_target.ensures.asks nodes
     (ap (λ (stand : Stand). stand.setting.nodes) c.in_ok-node.ensures.stand ∙ same)
-    (record { by = λ roots. given_allowed roots _ _ _ c.in_ok-node.ensures.told }))
+    (given_target _ _ _ _ _ _ c.in_ok-node.ensures.told))

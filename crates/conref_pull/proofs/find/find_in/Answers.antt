@@ -2,8 +2,8 @@ use Rattle.std.proofs.Common.{Option, sym, ap, subst, ◌∙◌}
 use Rattle.std.specs.declared.alloc.Global.{Global}
 use Rattle.std.specs.declared.sync.Arc.{Arc}
 use Rattle.dita_doc.specs.declared.doc.Doc.{Doc}
-use Rattle.readers.specs.Founded.{AreAllowed}
-use Rattle.readers.specs.Named.{named_found, names_of_found}
+use Rattle.readers.specs.Documents.{IsGiven}
+use Rattle.readers.specs.Named.{named_found}
 use Rattle.conref_pull.specs.Setting.{setting_of}
 use Rattle.conref_pull.proofs.FindLaws.{given_found, not_stored}
 use Rattle.conref_pull.proofs.find.find_in.Goals as goal
@@ -22,8 +22,5 @@ returns-clause-known g c = λ world page rules agrees are.
 pub returns-clause-given : goal.returns-clause-given
 returns-clause-given g c =
     given_found (g.A.Reader.told c.pushed.new.self) c.in-Some.doc c.found_in.result c.found_in.ensures.doc
-    (record {
-      by = λ roots.
-          subst (λ (found : Option (Arc Doc Global)). AreAllowed roots (g.A.Reader.told c.pushed.new.self)
-          (names_of_found (named_found found))) c.in-Some.is (c.in_ok-stored.ensures.given roots);
-    })
+    (subst (λ (found : Option (Arc Doc Global)). IsGiven (g.A.Reader.told c.pushed.new.self) (named_found found))
+    c.in-Some.is c.in_ok-stored.ensures.given)

@@ -1,14 +1,11 @@
-use Rattle.std.proofs.Common.{Option, subst}
-use Rattle.conref_pull.specs.Merging.{IsMergedThere}
-use Rattle.conref_pull.specs.declared.merge.Merged.{Merged}
+use Rattle.doc_elements.specs.Walk.{element_of}
+use Rattle.conref_pull.specs.Merging.{own_part}
+use Rattle.conref_pull.proofs.TakingLaws.{all_taken}
 use Rattle.conref_pull.proofs.merge.merged_from.Goals as goal
 
-pub returns-in-None : goal.returns-in-None
-returns-in-None c = λ path end one taken is linked.
-    absurd (subst (λ (found : Option Merged). IsMergedThere found one.element) c.in-None.is
-    (c.in_ok-written.ensures one is))
-
-pub returns-in-Some : goal.returns-in-Some
-returns-in-Some c = λ path end one taken is linked.
-    c.onto_all.ensures path end taken one.element linked
-    (subst (λ (found : Option Merged). IsMergedThere found one.element) c.in-Some.is (c.in_ok-written.ensures one is))
+pub returns : goal.returns
+returns c = λ path end one taken is linked.
+    let element = element_of c.args.origin.now c.args.element.now in
+    let nearer = c.in_ok-merged.ensures path end taken (own_part element) linked c.in_ok-own.ensures in
+    all_taken c.with_link.result element one.element taken nearer.made nearer.alike
+    (c.with_link.ensures nearer.made one nearer.is is)

@@ -1,5 +1,5 @@
 use Rattle.std.proofs.Common.{sym}
-use Rattle.conref_pull.proofs.OriginLaws.{origin_there, whole_names, whole_there}
+use Rattle.conref_pull.proofs.OriginLaws.{origin_there, whole_reused, whole_there}
 use Rattle.conref_pull.proofs.origin.whole_of.Goals as goal
 
 pub returns-in-None-clause-whole : goal.returns-in-None-clause-whole
@@ -13,4 +13,4 @@ returns-in-Some-clause-whole c = λ place part is there begins.
 
 pub returns-in-Some-clause-names : goal.returns-in-Some-clause-names
 returns-in-Some-clause-names c = λ place is.
-    whole_names c.args.doc.now place c.args.node.now c.args.inside c.in-Some.origin.now is c.in-Some.ensures
+    whole_reused c.args.doc.now place c.args.node.now c.args.inside c.in-Some.origin.now is c.in-Some.ensures

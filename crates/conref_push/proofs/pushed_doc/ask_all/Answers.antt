@@ -30,8 +30,8 @@ returns-clause-known g c = λ world agrees. (
 )
 
 pub returns-clause-given : goal.returns-clause-given
-returns-clause-given g c = λ roots. (
-  given_asked roots _ _ _ c.args.doc.now c.in_ok-found.field-0 _ c.in_ok-found.ensures.told c.in-Some.is
+returns-clause-given g c = (
+  given_asked _ _ _ c.args.doc.now c.in_ok-found.field-0 _ c.in_ok-found.ensures.told c.in-Some.is
       c.of.ensures.grows,
-  c.in_ok-sources.ensures.given roots,
+  c.in_ok-sources.ensures.given,
 )

@@ -14,10 +14,10 @@ returns-clause-fixed g c = λ world other agrees also.
     (c.in_ok-ask_all.ensures.known other also))
 
 pub returns-clause-given : goal.returns-clause-given
-returns-clause-given g c = λ world roots agrees.
+returns-clause-given g c = λ world agrees.
     let name = c.args.doc.now in
     let found = c.in_ok-ask_all.field-0 in
-    asked_given world roots (g.R.Reader.told c.ask_all.new.reader) name c.args.pushes.now found
+    asked_given world (g.R.Reader.told c.ask_all.new.reader) name c.args.pushes.now found
     (subst (λ pushes. AreAsked world name pushes found) c.as_slice.ensures
     (c.in_ok-ask_all.ensures.known world agrees))
-    (c.in_ok-ask_all.ensures.given roots)
+    c.in_ok-ask_all.ensures.given

@@ -8,6 +8,6 @@ returns-clause-value g c = c.pushed_doc.ensures.known (g.R.Reader.stand c.args.r
     (g.met.R.Reader.agrees c.pushed_doc.new.reader))
 
 pub returns-clause-given : goal.returns-clause-given
-returns-clause-given g c = λ roots.
-    c.pushed_doc.ensures.given (g.R.Reader.stand c.pushed_doc.new.reader).world roots
+returns-clause-given g c =
+    c.pushed_doc.ensures.given (g.R.Reader.stand c.pushed_doc.new.reader).world
     (g.met.R.Reader.agrees c.pushed_doc.new.reader)

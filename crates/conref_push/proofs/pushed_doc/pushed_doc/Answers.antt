@@ -4,8 +4,7 @@ use Rattle.dita_doc.specs.Tree.{tree_of}
 use Rattle.dita_doc.specs.declared.doc.Doc.{Doc}
 use Rattle.map_spec.specs.Written.{written_in}
 use Rattle.page_spec.specs.Pushes.{pushed_from}
-use Rattle.readers.specs.Founded.{AreAllowed}
-use Rattle.readers.specs.Named.{names_of_found}
+use Rattle.readers.specs.Documents.{IsGiven}
 use Rattle.conref_push.specs.Into.{froms}
 use Rattle.conref_push.specs.Making.{AreAsked, AreGroups}
 use Rattle.conref_push.specs.Sources.{AreSources}
@@ -25,14 +24,14 @@ returns-clause-known g c = λ world agrees.
     ∙ some_asked world name pushes (tree_of (arc_value c.in-Some.found).nodes) asked.0
 
 pub returns-clause-given : goal.returns-clause-given
-returns-clause-given g c = λ world roots agrees.
+returns-clause-given g c = λ world agrees.
     let name = c.args.doc.now in
     let pushes = c.args.pushes.now in
     let ts = g.R.Reader.told c.ask_all.new.reader in
-    subst (λ found. AreAllowed roots ts (names_of_found found)) (sym (returns-clause-known g c world agrees))
-    (asked_given world roots ts name pushes c.in_ok-found.field-0
+    subst (IsGiven ts) (sym (returns-clause-known g c world agrees))
+    (asked_given world ts name pushes c.in_ok-found.field-0
     (subst (λ some. AreAsked world name some c.in_ok-found.field-0) c.as_slice.ensures
-    (c.in_ok-found.ensures.known world agrees)) (c.in_ok-found.ensures.given roots))
+    (c.in_ok-found.ensures.known world agrees)) c.in_ok-found.ensures.given)
 
 pub returns-in_default-clause-known : goal.returns-in_default-clause-known
 returns-in_default-clause-known g c = λ world agrees.

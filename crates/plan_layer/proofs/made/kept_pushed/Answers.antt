@@ -18,11 +18,11 @@ returns-clause-known g c = λ world agrees.
     (c.in_ok-ask_pushed.ensures.fixed stand.world world own agrees) c.requires.kept
 
 pub returns-clause-given : goal.returns-clause-given
-returns-clause-given g c = λ roots.
+returns-clause-given g c =
     let stand = g.P.Reader.stand c.args.asker.now in
     let told = g.P.Reader.told c.ask_pushed.new.reader in
     let own : Agrees stand.world told = subst (λ (s : Stand). Agrees s.world told)
     (c.ask_pushed.ensures.stand ∙ c.in_ok-list.ensures.stand) (g.met.P.Reader.agrees c.ask_pushed.new.reader) in
-    kept_given stand.world stand.setting.documents c.args.name.now c.in_ok-list.list (named_found c.args.kept) roots told
+    kept_given stand.world stand.setting.documents c.args.name.now c.in_ok-list.list (named_found c.args.kept) told
     (told_answer stand.world _ _ _ c.in_ok-list.ensures.told (agrees_before stand.world _ _ c.ask_pushed.ensures.grows own))
-    c.requires.kept (c.in_ok-ask_pushed.ensures.given stand.world roots own)
+    c.requires.kept (c.in_ok-ask_pushed.ensures.given stand.world own)

@@ -17,7 +17,7 @@ returns-then-branch-clause-known g c = λ world agrees.
     (c.in_ok-is_itself.ensures.same world documents (c.requires.tabled world before) there c.if-branch.true)
 
 pub returns-then-branch-clause-given : goal.returns-then-branch-clause-given
-returns-then-branch-clause-given g c = λ roots. itself_given roots c.args.name.now c.in_ok-found.found _ _
+returns-then-branch-clause-given g c = itself_given c.args.name.now c.in_ok-found.found _ _
     (c.is_itself.ensures.told ∙ c.in_ok-found.ensures.told) c.in_ok-found.ensures.origin
 
 pub returns-clause-known : goal.returns-clause-known

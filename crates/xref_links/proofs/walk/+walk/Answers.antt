@@ -12,7 +12,7 @@ use Rattle.readers.specs.Setting.{Stand}
 use Rattle.page_spec.specs.Places.{topic_inside}
 use Rattle.xref_links.specs.Adding.{added_from}
 use Rattle.xref_links.specs.Body.{element_at, written_at}
-use Rattle.xref_links.specs.Names.{names_of_link, names_of_links}
+use Rattle.readers.specs.Named.{linked_by, linked_in}
 use Rattle.xref_links.proofs.BodyLaws.{origin_fits, size_written}
 use Rattle.xref_links.proofs.HereLaws.{here_kept, types_at}
 use Rattle.xref_links.proofs.NameLaws.{link_behind, link_first, link_inside, step_founded}
@@ -59,7 +59,7 @@ loop-rest-preserved-in-Chars g t c =
       stand = c.loop-rest.invariant.stand;
       founded = c.loop-rest.invariant.founded;
       within = λ m among. c.loop-rest.invariant.within m
-          (subst (λ (all : Written). IsTrue (is_among (names_of_links all) m)) (sym first) among);
+          (subst (λ (all : Written). IsTrue (is_among (linked_in all) m)) (sym first) among);
       asks = c.loop-rest.invariant.asks;
       grows = c.loop-rest.invariant.grows;
     }
@@ -120,10 +120,10 @@ loop-rest-preserved g t c =
           (let known = ap (λ (stand : Stand). stand.setting.nodes) c.loop-rest.invariant.stand ∙ same in
           let then_known = ap (λ (stand : Stand). stand.setting.nodes) c.in_ok-add-in-Element.ensures.stand ∙ known in
           step_founded nodes c.args.page.context.now.page.doc _
-          (names_of_links (written_at body at (content c.loop-rest.left))) (names_of_links inside) _ _ _
+          (linked_in (written_at body at (content c.loop-rest.left))) (linked_in inside) _ _ _
           (search (rules, walking))
           (step_founded nodes c.args.page.context.now.page.doc _
-          (names_of_links (written_at body at (content c.loop-rest.left))) (names_of_link element) _ _ _
+          (linked_in (written_at body at (content c.loop-rest.left))) (linked_by element) _ _ _
           c.loop-rest.invariant.grows (c.loop-rest.invariant.founded nodes same) c.loop-rest.invariant.within
           (λ m among. link_first _ element inside rest first m among)
           (c.in_ok-add-in-Element.ensures.founded nodes known))
@@ -140,7 +140,7 @@ returns-in_err-add-in-Element-clause-founded g t c = λ nodes same.
     let at = c.loop-rest.here in
     let element = element_at body at c.in-Element.node.now in
     step_founded nodes c.args.page.context.now.page.doc _
-    (names_of_links (written_at body at (content c.loop-rest.left))) (names_of_link element) _ _ _
+    (linked_in (written_at body at (content c.loop-rest.left))) (linked_by element) _ _ _
     c.loop-rest.invariant.grows (c.loop-rest.invariant.founded nodes same) c.loop-rest.invariant.within
     (λ m among. link_first _ element _ _ (ap (written_at body at) c.in-Element.ensures.content) m among)
     (c.in_err-add-in-Element.ensures.founded nodes
@@ -155,11 +155,11 @@ returns-in_err-here-in-Element-clause-founded g t c = λ nodes same.
     let then_known = ap (λ (stand : Stand). stand.setting.nodes) c.in_ok-add-in-Element.ensures.stand ∙ known in
     let first = ap (written_at body at) c.in-Element.ensures.content in
     step_founded nodes c.args.page.context.now.page.doc _
-    (names_of_links (written_at body at (content c.loop-rest.left)))
-    (names_of_links (written_at body (at + 1) (content c.in-Element.inside))) _ _ _
+    (linked_in (written_at body at (content c.loop-rest.left)))
+    (linked_in (written_at body (at + 1) (content c.in-Element.inside))) _ _ _
     (search (rules, walking))
     (step_founded nodes c.args.page.context.now.page.doc _
-    (names_of_links (written_at body at (content c.loop-rest.left))) (names_of_link element) _ _ _
+    (linked_in (written_at body at (content c.loop-rest.left))) (linked_by element) _ _ _
     c.loop-rest.invariant.grows (c.loop-rest.invariant.founded nodes same) c.loop-rest.invariant.within
     (λ m among. link_first _ element _ _ first m among) (c.in_ok-add-in-Element.ensures.founded nodes known))
     c.loop-rest.invariant.within (λ m among. link_inside _ element _ _ first m among)

@@ -10,7 +10,8 @@ use Rattle.readers.specs.Told.{Agrees}
 use Rattle.std.specs.Prelude.{[]}
 use Rattle.xref_links.specs.Adding.{AreOnTheWay, IsHere, added_from, topic_id}
 use Rattle.xref_links.specs.Body.{written_at}
-use Rattle.xref_links.specs.Names.{names_of_links, names_with}
+use Rattle.readers.specs.Named.{linked_in}
+use Rattle.xref_links.specs.Names.{names_with}
 use Rattle.xref_links.proofs.walk.+walk.Given as goal
 
 abbrev pub decreases-walk : goal.decreases-walk
@@ -30,10 +31,10 @@ invariant-loop-rest g l = record {
   stand : g.A.Reader.stand l.asker ≡ g.A.Reader.stand l.fn.asker;
   founded : (nodes : List PlanNode) → (g.A.Reader.stand l.fn.asker).setting.nodes ≡ nodes
       → StaysFounded (names_with nodes l.page.context.now.page.doc
-      (names_of_links (written_at l.page.body.now l.fn.place (content l.fn.siblings))))
+      (linked_in (written_at l.page.body.now l.fn.place (content l.fn.siblings))))
       (g.A.Reader.told l.fn.asker) (g.A.Reader.told l.asker);
-  within : (m : List ℕ) → IsTrue (is_among (names_of_links (written_at l.page.body.now l.here (content l.left))) m)
-      → IsTrue (is_among (names_of_links (written_at l.page.body.now l.fn.place (content l.fn.siblings))) m);
+  within : (m : List ℕ) → IsTrue (is_among (linked_in (written_at l.page.body.now l.here (content l.left))) m)
+      → IsTrue (is_among (linked_in (written_at l.page.body.now l.fn.place (content l.fn.siblings))) m);
   asks : AsksOnly nothing [] (g.A.Reader.told l.fn.asker) (g.A.Reader.told l.asker);
   grows : Grows (g.A.Reader.told l.fn.asker) (g.A.Reader.told l.asker);
 }

@@ -1,7 +1,8 @@
 use Rattle.std.proofs.Common.{refl}
 use Rattle.readers.proofs.GrowthLaws.{agrees_before}
 use Rattle.xref_links.specs.Adding.{element_of, target_of}
-use Rattle.xref_links.specs.Names.{names_of, names_of_link}
+use Rattle.readers.specs.Named.{linked_by}
+use Rattle.xref_links.specs.Names.{names_of}
 use Rattle.xref_links.proofs.AddLaws.{typed_by, typed_more}
 use Rattle.xref_links.proofs.HereLaws.{here_kept}
 use Rattle.xref_links.proofs.LinkLaws.{on_ok}
@@ -25,11 +26,11 @@ returns-clause-known g c = λ here around agrees is types topic.
 pub returns-clause-founded : goal.returns-clause-founded
 returns-clause-founded g c = λ nodes same.
     behind_founded nodes _ c.args.page.context.now.page.doc
-    (names_of_link (element_of c.args.page c.args.standing)) (names_of (target_of c.in_ok-keyed.keyed)) _ _ _ same
+    (linked_by (element_of c.args.page c.args.standing)) (names_of (target_of c.in_ok-keyed.keyed)) _ _ _ same
     c.in_ok-keyed.ensures.grows c.in_ok-keyed.ensures.founded (λ roots. c.in_ok-keyed.ensures.given roots)
     c.add_behind.ensures.founded
 
 pub returns-in_err-keyed-clause-founded : goal.returns-in_err-keyed-clause-founded
 returns-in_err-keyed-clause-founded g c = λ nodes same.
     key_founded nodes _ c.args.page.context.now.page.doc
-    (names_of_link (element_of c.args.page c.args.standing)) _ _ same c.in_err-keyed.ensures.founded
+    (linked_by (element_of c.args.page c.args.standing)) _ _ same c.in_err-keyed.ensures.founded

@@ -3,7 +3,8 @@ use Rattle.dita_doc.specs.declared.plan.Target.{Target}
 use Rattle.page_spec.specs.Anchors.{defined_key, image_added, image_by, keyref_of}
 use Rattle.readers.specs.Founded.{StaysFounded}
 use Rattle.xref_links.specs.Adding.{HasMore, alone, element_of, target_of}
-use Rattle.xref_links.specs.Names.{names_of, names_of_link}
+use Rattle.readers.specs.Named.{linked_by}
+use Rattle.xref_links.specs.Names.{names_of}
 use Rattle.xref_links.specs.declared.keyed.Keyed.{Keyed}
 use Rattle.xref_links.proofs.AddLaws.{image_more, key_defined, key_undefined, keyed_more}
 use Rattle.xref_links.proofs.LinkLaws.{on_ok}
@@ -36,7 +37,7 @@ returns-in-Some-clause-known g c = λ here around agrees is types topic key.
 pub returns-in-Some-clause-founded : goal.returns-in-Some-clause-founded
 returns-in-Some-clause-founded g c =
     let page = c.args.page in
-    let links = names_of_link (element_of page c.args.standing) in
+    let links = linked_by (element_of page c.args.standing) in
     key_part (names_of (target_of c.args.keyed)) page.context.now.page.doc links _ _
     (subst (λ (keyed : Option Keyed). StaysFounded (names_of (target_of keyed)) (g.A.Reader.told c.args.asker.now)
     (g.A.Reader.told c.add_keyed.new.asker)) (sym c.in-Some.is) c.add_keyed.ensures.founded)
@@ -50,4 +51,4 @@ returns-in-None-clause-known g c = λ here around agrees is types topic key.
 pub returns-in-None-clause-founded : goal.returns-in-None-clause-founded
 returns-in-None-clause-founded g c =
     href_part (names_of (target_of c.args.keyed)) c.args.page.context.now.page.doc
-    (names_of_link (element_of c.args.page c.args.standing)) _ _ c.add_unkeyed.ensures.founded
+    (linked_by (element_of c.args.page c.args.standing)) _ _ c.add_unkeyed.ensures.founded

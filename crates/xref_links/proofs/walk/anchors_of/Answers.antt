@@ -3,7 +3,8 @@ use Rattle.dita_doc.specs.Tree.{Content}
 use Rattle.readers.specs.Founded.{StaysFounded}
 use Rattle.xref_links.specs.Adding.{HaveMore, added_from}
 use Rattle.xref_links.specs.Body.{written_at}
-use Rattle.xref_links.specs.Names.{names_of_links, names_with}
+use Rattle.readers.specs.Named.{linked_in}
+use Rattle.xref_links.specs.Names.{names_with}
 use Rattle.xref_links.proofs.BodyLaws.{root_room}
 use Rattle.xref_links.proofs.WayLaws.{made_all}
 use Rattle.xref_links.proofs.walk.anchors_of.Goals as goal
@@ -28,7 +29,7 @@ returns-clause-founded g c =
     let body = c.args.page.body.now in
     let Is : Content → Type 0 = λ tree. StaysFounded
     (names_with (g.A.Reader.stand c.args.asker.now).setting.nodes c.args.page.context.now.page.doc
-    (names_of_links (written_at body 0 tree)))
+    (linked_in (written_at body 0 tree)))
     (g.A.Reader.told c.args.asker.now) (g.A.Reader.told c.walk.new.asker) in
     subst Is c.of.ensures.content (c.in_ok-walk.ensures.founded _ refl)
 
@@ -37,6 +38,6 @@ returns-in_err-walk-clause-founded g c =
     let body = c.args.page.body.now in
     let Is : Content → Type 0 = λ tree. StaysFounded
     (names_with (g.A.Reader.stand c.args.asker.now).setting.nodes c.args.page.context.now.page.doc
-    (names_of_links (written_at body 0 tree)))
+    (linked_in (written_at body 0 tree)))
     (g.A.Reader.told c.args.asker.now) (g.A.Reader.told c.walk.new.asker) in
     subst Is c.of.ensures.content (c.in_err-walk.ensures.founded _ refl)

@@ -1,7 +1,7 @@
 use Rattle.std.proofs.Common.{subst}
 use Rattle.std.specs.Prelude.{IfSome}
 use Rattle.dita_doc.specs.declared.doc.Doc.{Doc}
-use Rattle.conref_pull.specs.Asking.{AreAmong, names_of_doc, names_of_whole}
+use Rattle.conref_pull.specs.Asking.{AreAmong, reused_of_doc, reused_of_whole}
 use Rattle.conref_pull.proofs.LinkLaws.{link_whole}
 use Rattle.conref_pull.proofs.chain.Link.whole.Goals as goal
 
@@ -11,4 +11,4 @@ returns-clause-target c = λ one is.
 
 pub returns-clause-names : goal.returns-clause-names
 returns-clause-names c = subst (λ (doc : Doc). IfSome c.whole_at.result
-    (λ whole. AreAmong (names_of_whole whole) (names_of_doc doc))) c.deref.ensures c.whole_at.ensures.names
+    (λ whole. AreAmong (reused_of_whole whole) (reused_of_doc doc))) c.deref.ensures c.whole_at.ensures.names

@@ -1,9 +1,11 @@
 use Rattle.std.proofs.Common.{◌+◌, ◌<◌, List, Option, IsSome, arith, sym, ap, refl, subst, ◌∙◌}
+use Rattle.std.specs.Arc.{arc_value}
 use Rattle.std.specs.Borrow.{Bor}
 use Rattle.dita_doc.specs.declared.plan.Context.{Context}
 use Rattle.doc_elements.specs.Walk.{element_of}
 use Rattle.readers.specs.Setting.{Stand}
 use Rattle.conref_pull.specs.Asking.{AreGivenTo, IsGivenIf}
+use Rattle.readers.proofs.GivenLaws.{given_later}
 use Rattle.readers.proofs.GrowthLaws.{agrees_before}
 use Rattle.conref_pull.specs.Linked.{IsStep}
 use Rattle.conref_pull.specs.Origin.{whole_of}
@@ -11,7 +13,7 @@ use Rattle.conref_pull.specs.Setting.{path_within, setting_of}
 use Rattle.conref_pull.specs.Step.{step_of}
 use Rattle.conref_pull.specs.declared.chain.Link.{Link}
 use Rattle.conref_pull.specs.declared.resolver.Resolver.{Resolver}
-use Rattle.conref_pull.proofs.AskingLaws.{about_then, given_later, given_some, links_later, links_more, whole_element}
+use Rattle.conref_pull.proofs.AskingLaws.{about_then, given_reused, given_some, links_later, links_more, whole_element}
 use Rattle.conref_pull.proofs.FollowLaws.{follow_ended, follow_lost, follow_on, followed_there, page_same_setting, step_room}
 use Rattle.conref_pull.proofs.TakeLaws.{depth_same}
 use Rattle.conref_pull.proofs.resolver.Resolver.+follow.Goals as goal
@@ -27,8 +29,9 @@ returns-in_err-end-clause-asks g t c = λ nodes same.
     about_then nodes _ _ _ _ _ _ _
     (ap (λ (context : Bor Context). context.now.page.doc) c.in_ok-link.ensures.page.context)
     (given_some _ _ _ (whole_element c.in-Some-whole.target _ c.in-Some-whole.ensures.names)
+    (given_reused _ (arc_value c.in-Some.link.doc)
     (subst (λ (link : Option Link). IsGivenIf (g.A.Reader.told c.take.new.asker) link) c.in-Some.is
-    c.in_ok-link.ensures.given)) c.take.ensures.grows (c.take.ensures.asks nodes same)
+    c.in_ok-link.ensures.given))) c.take.ensures.grows (c.take.ensures.asks nodes same)
     (c.follow.ensures.asks nodes
     (ap (λ (stand : Stand). stand.setting.nodes) c.take.ensures.stand ∙ same))
 
@@ -37,8 +40,9 @@ returns-in_err-push-clause-asks g t c = λ nodes same.
     about_then nodes _ _ _ _ _ _ _
     (ap (λ (context : Bor Context). context.now.page.doc) c.in_ok-link.ensures.page.context)
     (given_some _ _ _ (whole_element c.in-Some-whole.target _ c.in-Some-whole.ensures.names)
+    (given_reused _ (arc_value c.in-Some.link.doc)
     (subst (λ (link : Option Link). IsGivenIf (g.A.Reader.told c.take.new.asker) link) c.in-Some.is
-    c.in_ok-link.ensures.given)) c.take.ensures.grows (c.take.ensures.asks nodes same)
+    c.in_ok-link.ensures.given))) c.take.ensures.grows (c.take.ensures.asks nodes same)
     (c.follow.ensures.asks nodes
     (ap (λ (stand : Stand). stand.setting.nodes) c.take.ensures.stand ∙ same))
 
@@ -47,8 +51,9 @@ returns-clause-asks g t c = λ nodes same.
     about_then nodes _ _ _ _ _ _ _
     (ap (λ (context : Bor Context). context.now.page.doc) c.in_ok-link.ensures.page.context)
     (given_some _ _ _ (whole_element c.in-Some-whole.target _ c.in-Some-whole.ensures.names)
+    (given_reused _ (arc_value c.in-Some.link.doc)
     (subst (λ (link : Option Link). IsGivenIf (g.A.Reader.told c.take.new.asker) link) c.in-Some.is
-    c.in_ok-link.ensures.given)) c.take.ensures.grows (c.take.ensures.asks nodes same)
+    c.in_ok-link.ensures.given))) c.take.ensures.grows (c.take.ensures.asks nodes same)
     (c.follow.ensures.asks nodes
     (ap (λ (stand : Stand). stand.setting.nodes) c.take.ensures.stand ∙ same))
 

@@ -11,8 +11,9 @@ use Rattle.map_spec.specs.Judged.{group_faults}
 use Rattle.map_spec.specs.Written.{Element}
 use Rattle.page_spec.specs.Content.{Setting, merged_element, text_made, topic_for, topic_within, without_id}
 use Rattle.readers.specs.Named.{name_at, named}
+use Rattle.readers.proofs.GivenLaws.{given_later}
 use Rattle.readers.proofs.GrowthLaws.{agrees_before, grows_same, grows_trans}
-use Rattle.conref_pull.specs.Asking.{AreGiven, AreGivenTo, element_around, names_of_doc}
+use Rattle.conref_pull.specs.Asking.{AreGiven, AreGivenTo, element_around, reused_of_doc}
 use Rattle.conref_pull.specs.Linked.{AreLinks}
 use Rattle.conref_pull.specs.Origin.{named_content, whole_of}
 use Rattle.conref_pull.specs.Parts.{IsPart}
@@ -22,8 +23,8 @@ use Rattle.conref_pull.specs.Step.{merged_onto}
 use Rattle.conref_pull.specs.Walking.{IsWalked, Walks, among_made, first_alone, inside_of, kept_made, merged_made, ranges_put, whole_made}
 use Rattle.conref_pull.specs.declared.chain.Link.{Link}
 use Rattle.conref_pull.specs.declared.resolver.Resolver.{Resolver}
-use Rattle.conref_pull.proofs.AskingLaws.{about_call, about_next, about_part, about_same, among_same, given_later, given_some, link_given, links_later, none_among, whole_inside}
-use Rattle.conref_pull.proofs.OriginLaws.{among_then, around_is, first_among, inside_among, node_names, origin_among, origin_there, rest_among, split_is, text_among, text_is}
+use Rattle.conref_pull.proofs.AskingLaws.{about_call, about_next, about_part, about_same, among_same, given_reused, given_some, link_given, links_later, none_among, whole_inside}
+use Rattle.conref_pull.proofs.OriginLaws.{among_then, around_is, first_among, inside_among, node_reused, origin_among, origin_there, rest_among, split_is, text_among, text_is}
 use Rattle.conref_pull.proofs.AroundLaws.{around_not, closes_by, counts_one, counts_room, element_put_as, goes_as, home_kept, merged_count, merged_goes, merged_not, merged_stays, opened_named, opens_by, page_judged, page_one, put_around, ready_opened}
 use Rattle.conref_pull.proofs.ChainLaws.{asked_here, gone_walked, kept_ready, kept_walks, not_none, plain_walks, ready_judged, shown_inside, took, took_not, took_ready, took_walks, walk_there, within_end}
 use Rattle.conref_pull.proofs.ElementLaws.{alone_element, alone_text}
@@ -157,7 +158,8 @@ merged-returns-clause-asks g t c = λ nodes same given.
 pub node_at-returns-in-Some-clause-asks : goal.node_at-returns-in-Some-clause-asks
 node_at-returns-in-Some-clause-asks g t c = λ nodes same given.
     about_call nodes _ _ _ _ _ _ refl
-    (given_some _ _ _ (node_names c.args.doc.now c.args.place c.in-Some.node.now c.in-Some.inside c.in-Some.ensures) given)
+    (given_some _ _ _
+    (node_reused c.args.doc.now c.args.place c.in-Some.node.now c.in-Some.inside c.in-Some.ensures) given)
     (c.element.ensures.asks nodes same)
 
 pub range-loop-preserved : goal.range-loop-preserved
@@ -168,8 +170,8 @@ range-loop-preserved g t c = record {
       (ap (λ (context : Bor Context). context.now.page.doc) c.loop.invariant.page.context) (none_among _)
       c.loop.invariant.grows (c.loop.invariant.asks nodes same given)
       (c.node_at.ensures.asks nodes (ap (λ (stand : Stand). stand.setting.nodes) c.loop.invariant.stand ∙ same)
-      (subst (λ (doc : Doc). AreGiven (g.A.Reader.told c.loop.asker) (names_of_doc doc)) (sym c.deref-in-loop.ensures)
-      (given_later _ _ _ c.loop.invariant.grows given))));
+      (subst (λ (doc : Doc). AreGiven (g.A.Reader.told c.loop.asker) (reused_of_doc doc)) (sym c.deref-in-loop.ensures)
+      (given_reused _ (arc_value c.args.link.now.doc) (given_later _ _ _ c.loop.invariant.grows given)))));
   stand = c.in_ok-node_at.ensures.stand ∙ c.loop.invariant.stand;
   grows = grows_trans _ _ _ c.loop.invariant.grows c.in_ok-node_at.ensures.grows;
   walked = λ world here one agrees ready is.
@@ -199,8 +201,8 @@ range-returns-in_err-node_at-clause-asks g t c = λ nodes same given.
     (ap (λ (context : Bor Context). context.now.page.doc) c.loop.invariant.page.context) (none_among _)
     c.loop.invariant.grows (c.loop.invariant.asks nodes same given)
     (c.node_at.ensures.asks nodes (ap (λ (stand : Stand). stand.setting.nodes) c.loop.invariant.stand ∙ same)
-    (subst (λ (doc : Doc). AreGiven (g.A.Reader.told c.loop.asker) (names_of_doc doc)) (sym c.deref-in-loop.ensures)
-    (given_later _ _ _ c.loop.invariant.grows given)))
+    (subst (λ (doc : Doc). AreGiven (g.A.Reader.told c.loop.asker) (reused_of_doc doc)) (sym c.deref-in-loop.ensures)
+    (given_reused _ (arc_value c.args.link.now.doc) (given_later _ _ _ c.loop.invariant.grows given))))
 
 pub range-returns-in_default-clause-asks : goal.range-returns-in_default-clause-asks
 range-returns-in_default-clause-asks g t c = c.loop.invariant.asks

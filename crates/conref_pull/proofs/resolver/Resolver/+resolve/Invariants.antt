@@ -6,7 +6,7 @@ use Rattle.dita_doc.specs.declared.plan.PlanNode.{PlanNode}
 use Rattle.page_spec.specs.Content.{Place}
 use Rattle.reader_spec.specs.World.{World}
 use Rattle.readers.specs.Founded.{Grows}
-use Rattle.readers.specs.Named.{names_in}
+use Rattle.readers.specs.Named.{reused_in}
 use Rattle.readers.specs.Told.{Agrees}
 use Rattle.conref_pull.specs.Asking.{AreAmong, AreGivenTo, Asks, IsGivenTo}
 use Rattle.conref_pull.specs.Origin.{named_content}
@@ -43,10 +43,10 @@ decreases-node_at g l = behind l.at.links
 abbrev pub invariant-siblings-loop-node : goal.invariant-siblings-loop-node
 invariant-siblings-loop-node g l = record {
   small : size_of (content l.left) ≤ size_of (content l.fn.siblings);
-  within : AreAmong (names_in (named_content l.left)) (names_in (named_content l.fn.siblings));
+  within : AreAmong (reused_in (named_content l.left)) (reused_in (named_content l.fn.siblings));
   page : IsSamePage l.fn.self l.self;
   asks : (nodes : List PlanNode) → (g.A.Reader.stand l.fn.asker).setting.nodes ≡ nodes
-      → Asks nodes (l.fn.self.context.now.page.doc ∷ names_in (named_content l.fn.siblings))
+      → Asks nodes (l.fn.self.context.now.page.doc ∷ reused_in (named_content l.fn.siblings))
       (g.A.Reader.told l.fn.asker) (g.A.Reader.told l.asker);
   stand : g.A.Reader.stand l.asker ≡ g.A.Reader.stand l.fn.asker;
   grows : Grows (g.A.Reader.told l.fn.asker) (g.A.Reader.told l.asker);

@@ -5,7 +5,7 @@ use Rattle.readers.proofs.DocumentLaws.{asks_after, asks_among, covers_same}
 use Rattle.readers.proofs.FoundedLaws.{stays_after, stays_among}
 use Rattle.readers.proofs.GrowthLaws.{agrees_before}
 use Rattle.conref_pull.specs.Rules.{HasAll}
-use Rattle.conref_pull.proofs.AmongLaws.{among_back, among_front}
+use Rattle.readers.proofs.AmongLaws.{among_back, among_front}
 use Rattle.conref_pull.proofs.RuleLaws.{on_ok_have}
 use Rattle.conref_pull.proofs.rules.RuleLists.read.Goals as goal
 

@@ -15,7 +15,7 @@ returns-clause-known g c = λ world names agrees are.
     (told_answer world _ _ _ c.in_ok-doc.ensures.told agrees) are
 
 pub returns-clause-given : goal.returns-clause-given
-returns-clause-given g c = λ roots are.
-    given_put roots _ _ c.args.name.now c.in_ok-clone.field-0 c.in_ok-doc.doc c.args.self.now
+returns-clause-given g c = λ are.
+    given_put _ _ c.args.name.now c.in_ok-clone.field-0 c.in_ok-doc.doc c.args.self.now
     (record { docs = c.insert.new.self }) c.in_ok-insert.ensures.updates.0 c.in_ok-clone.ensures.cases
     c.in_ok-doc.ensures.grows c.in_ok-doc.ensures.told are

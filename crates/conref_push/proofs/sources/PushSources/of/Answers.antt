@@ -11,7 +11,7 @@ use Rattle.conref_push.proofs.sources.PushSources.of.Goals as goal
 pub loop-push-init : goal.loop-push-init
 loop-push-init g c = record {
   known = λ world agrees. sources_none world (record { docs = c.new.result }) c.new.ensures.empty;
-  given = λ roots. given_none roots _ (record { docs = c.new.result }) c.new.ensures.empty;
+  given = given_none _ (record { docs = c.new.result }) c.new.ensures.empty;
   stand = refl;
   founded = stays_same _ _ _ refl;
   asks = asks_same nothing _ _ _ refl;
@@ -28,7 +28,7 @@ loop-push-preserved g c =
       known = λ world agrees. sources_step world pushes at one c.ask.new.self c.loop-push-test.true c.push-item.is
           (c.in_ok-ask.ensures.known world (froms (take at pushes)) agrees
           (c.loop-push.invariant.known world (agrees_before world _ _ c.in_ok-ask.ensures.grows agrees)));
-      given = λ roots. c.in_ok-ask.ensures.given roots (c.loop-push.invariant.given roots);
+      given = c.in_ok-ask.ensures.given c.loop-push.invariant.given;
       stand = c.in_ok-ask.ensures.stand ∙ c.loop-push.invariant.stand;
       founded = stays_after (froms pushes) _ _ _ c.loop-push.invariant.grows c.loop-push.invariant.founded
           (stays_one one.from (froms pushes) _ _ among c.in_ok-ask.ensures.founded);

@@ -1,4 +1,4 @@
-use Rattle.std.proofs.Common.{◌≡◌, ℕ, List, take}
+use Rattle.std.proofs.Common.{◌≡◌, take}
 use Rattle.reader_spec.specs.World.{World}
 use Rattle.readers.specs.Documents.{AsksOnly, nothing}
 use Rattle.readers.specs.Founded.{Grows, StaysFounded}
@@ -11,7 +11,7 @@ abbrev pub invariant-loop-push : goal.invariant-loop-push
 invariant-loop-push g l = record {
   known : (world : World) → Agrees world (g.R.Reader.told l.reader)
       → AreSources world (froms (take l.push-index l.pushes)) l.sources;
-  given : (roots : List (List ℕ)) → AreGiven roots (g.R.Reader.told l.reader) l.sources;
+  given : AreGiven (g.R.Reader.told l.reader) l.sources;
   stand : g.R.Reader.stand l.reader ≡ g.R.Reader.stand l.fn.reader;
   founded : StaysFounded (froms l.pushes) (g.R.Reader.told l.fn.reader) (g.R.Reader.told l.reader);
   asks : AsksOnly nothing (froms l.pushes) (g.R.Reader.told l.fn.reader) (g.R.Reader.told l.reader);

@@ -7,7 +7,7 @@ use Rattle.plan_layer.proofs.calls.PlanLayerTitles.kind.Goals as goal
 
 pub invariant_of-self-clause-made : goal.invariant_of-self-clause-made
 invariant_of-self-clause-made g c = memo_settled _ _ _ c.ask_kind.new.self.memo.now _ _ _ _ _ c.in_ok-kind.ensures.ok
-    c.settle.ensures (λ world. tt) refl c.ask_kind.new.self.made
+    c.settle.ensures (λ world. tt) (λ names. refl) c.ask_kind.new.self.made
 
 pub invariant_of-self-clause-carried : goal.invariant_of-self-clause-carried
 invariant_of-self-clause-carried g c =

@@ -1,0 +1,15 @@
+use Rattle.std.proofs.Common.{ℕ, List, length}
+use Rattle.map_spec.specs.Written.{Element}
+use Rattle.page_spec.specs.Content.{Place}
+use Rattle.conref_pull.specs.Linked.{AreLinks}
+use Rattle.conref_pull.specs.Merging.{IsMerged}
+use Rattle.conref_pull.specs.Step.{Taken}
+use Rattle.conref_pull.proofs.TakingLaws.{OnTheWay}
+use Rattle.conref_pull.proofs.merge.Merged.with_nearer.Given as goal
+
+abbrev pub invariant-loop-nearest : goal.invariant-loop-nearest
+invariant-loop-nearest l = (path : List Place) (end : ℕ) (taken : List Taken) (own : Element)
+    → AreLinks path end taken l.nearer → IsMerged l.fn.self own → OnTheWay l.merged l.left own taken
+
+abbrev pub decreases-loop-nearest : goal.decreases-loop-nearest
+decreases-loop-nearest l = length l.left

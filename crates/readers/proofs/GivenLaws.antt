@@ -1,0 +1,119 @@
+-- What documents that were told give: it may be asked about, and what their content references name may be asked for.
+use Rattle.std.proofs.Common.{◌≡◌, ◌++◌, ℕ, List, [], ◌∷◌, IsTrue, false, bytes_eq, codes, refl, sym, subst}
+use Rattle.std.specs.Prelude.{Option, Some, None, option_map}
+use Rattle.std.specs.List.{cons_option}
+use Rattle.std.specs.Option.{option_and_then, option_to_list}
+use Rattle.std.proofs.Math.Logic.{⊎_elim}
+use Rattle.std.proofs.lemmas.Bool.{false≢true, or_cases, or_left, or_right}
+use Rattle.dita_doc.specs.Tree.{Content}
+use Rattle.map_spec.specs.Elements.{attribute}
+use Rattle.map_spec.specs.Written.{Element, Written, End, Chars, Node, written_in}
+use Rattle.readers.specs.Documents.{Covers, Follows, IsGiven, MayAsk, may_ask, of_documents}
+use Rattle.readers.specs.Founded.{AreAllowed, Grows, is_allowed, is_among, names_given}
+use Rattle.readers.specs.Named.{given_in, given_in_found, name_joined, names_in, names_of_element, names_of_found, reused_by, reused_in, reused_of_found}
+use Rattle.readers.specs.Told.{Told, document, kind, title, first, key, pushes, page_of, tried, sought}
+use Rattle.readers.proofs.AmongLaws.{among_back, among_either, among_front}
+use Rattle.readers.proofs.DocumentLaws.{all_before, covers_same, follows_may, none_may}
+
+-- What may be asked for by what documents give
+
+-- by a rule that gives less, without roots, and so by one that gives more, with roots
+pub may_by : (rule less : Follows) (roots : List (List ℕ)) (ts : List Told) (m : List ℕ) → Covers rule less
+    → IsTrue (may_ask less [] ts m) → IsTrue (may_ask rule roots ts m)
+may_by rule less roots [] m covers may = absurd (false≢true may)
+may_by rule less roots (t ∷ ts) m covers may = ⊎_elim (λ here. or_left (is_among (rule t) m) _ (covers.each t m here))
+    (λ there. or_right (is_among (rule t) m) _ (may_by rule less roots ts m covers there))
+    (or_cases (is_among (less t) m) _ may)
+
+-- a name that documents give may be asked about
+pub allowed_by : (roots : List (List ℕ)) (ts : List Told) (m : List ℕ)
+    → IsTrue (may_ask (of_documents names_of_element) [] ts m) → IsTrue (is_allowed roots ts m)
+allowed_by roots [] m may = absurd (false≢true may)
+allowed_by roots (t ∷ ts) m may = ⊎_elim (λ here. or_left (is_among (names_given t) m) _ (given t here))
+    (λ there. or_right (is_among (names_given t) m) _ (allowed_by roots ts m there))
+    (or_cases (is_among (of_documents names_of_element t) m) _ may)
+  where
+    given : (t : Told) → IsTrue (is_among (of_documents names_of_element t) m) → IsTrue (is_among (names_given t) m)
+    given (document name tree) among = among
+    given (kind name answer) among = absurd (false≢true among)
+    given (title name topic text) among = absurd (false≢true among)
+    given (first name id) among = absurd (false≢true among)
+    given (key nodes scope text answer) among = absurd (false≢true among)
+    given (pushes documents name answer) among = absurd (false≢true among)
+    given (page_of pages name context answer) among = absurd (false≢true among)
+    given (tried names) among = absurd (false≢true among)
+    given (sought name) among = absurd (false≢true among)
+
+-- Content of which documents that were told give all
+
+pub given_later : (old new : List Told) (found : Option Written) → Grows old new → IsGiven old found → IsGiven new found
+given_later old new found grows given = record {
+  named = all_before (of_documents names_of_element) [] old new (names_of_found found) grows given.named;
+  reused = all_before (of_documents reused_by) [] old new (reused_of_found found) grows given.reused;
+}
+
+pub none_given : (ts : List Told) → IsGiven ts None
+none_given ts = record {
+  named = none_may (of_documents names_of_element) [] ts;
+  reused = none_may (of_documents reused_by) [] ts;
+}
+
+-- a document gives what is in it once it was told
+pub told_given : (name : List ℕ) (tree : Option Content) (old new : List Told) → new ≡ document name tree ∷ old
+    → IsGiven new (option_map (written_in name) tree)
+told_given name tree old new is = record {
+  named = follows_may (of_documents names_of_element) (of_documents names_of_element) [] (document name tree) old new
+      (covers_same (of_documents names_of_element)) is;
+  reused = follows_may (of_documents reused_by) (of_documents reused_by) [] (document name tree) old new
+      (covers_same (of_documents reused_by)) is;
+}
+
+pub given_allowed_all : (roots : List (List ℕ)) (ts : List Told) (found : Option Written) → IsGiven ts found
+    → AreAllowed roots ts (names_of_found found)
+given_allowed_all roots ts found given =
+    record { each = λ m among. allowed_by roots ts m (given.named.each m among) }
+
+pub reused_may : (rule : Follows) (roots : List (List ℕ)) (ts : List Told) (found : Option Written)
+    → Covers rule (of_documents reused_by) → IsGiven ts found → MayAsk rule roots ts (reused_of_found found)
+reused_may rule roots ts found covers given =
+    record { each = λ m among. may_by rule (of_documents reused_by) roots ts m covers (given.reused.each m among) }
+
+-- What content references name is among what references do
+
+cons_behind : (h : Option (List ℕ)) (xs : List (List ℕ)) (m : List ℕ) → IsTrue (is_among xs m)
+    → IsTrue (is_among (cons_option h xs) m)
+cons_behind None xs m among = among
+cons_behind (Some name) xs m among = or_right (bytes_eq name m) _ among
+
+cons_first : (h : Option (List ℕ)) (xs : List (List ℕ)) (m : List ℕ) → IsTrue (is_among (option_to_list h) m)
+    → IsTrue (is_among (cons_option h xs) m)
+cons_first None xs m among = absurd (false≢true among)
+cons_first (Some name) xs m among =
+    ⊎_elim (λ here. or_left (bytes_eq name m) _ here) (λ no. absurd (false≢true no))
+    (or_cases (bytes_eq name m) false among)
+
+reused_named : (element : Element) (m : List ℕ) → IsTrue (is_among (reused_by element) m)
+    → IsTrue (is_among (names_of_element element) m)
+reused_named element m among = cons_behind (option_and_then (name_joined element.doc) (attribute (codes "href") element)) _ m
+    (cons_first (option_and_then (name_joined element.doc) (attribute (codes "conref") element)) _ m among)
+
+pub reused_named_in : (nodes : Written) (m : List ℕ) → IsTrue (is_among (reused_in nodes) m)
+    → IsTrue (is_among (names_in nodes) m)
+reused_named_in End m among = among
+reused_named_in (Chars text doc rest) m among = reused_named_in rest m among
+reused_named_in (Node element inside rest) m among =
+    among_either (reused_by element) (reused_in inside ++ reused_in rest) m _
+    (λ own. among_front (names_of_element element) _ m (reused_named element m own))
+    (λ more. among_either (reused_in inside) (reused_in rest) m _
+    (λ below. among_back (names_of_element element) _ m
+    (among_front (names_in inside) _ m (reused_named_in inside m below)))
+    (λ later. among_back (names_of_element element) _ m
+    (among_back (names_in inside) _ m (reused_named_in rest m later))) more)
+    among
+
+pub reused_allowed : (roots : List (List ℕ)) (ts : List Told) (found : Option Written) → IsGiven ts found
+    → AreAllowed roots ts (reused_of_found found)
+reused_allowed roots ts None given = record { each = λ m among. absurd (false≢true among) }
+reused_allowed roots ts (Some nodes) given = record {
+  each = λ m among. allowed_by roots ts m (given.named.each m (reused_named_in nodes m among));
+}
