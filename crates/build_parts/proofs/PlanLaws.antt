@@ -1,5 +1,5 @@
--- What is known of the plan of a map, whatever its map: its nodes are those of a tree and carry their values, each page is
--- the first for its own context, and no document stands in it twice.
+-- What is known of the plan of a map, whatever its map: its nodes are those of a tree and carry their values, each page
+-- is the first for its own context and that of a document of topics, and no document stands in it twice.
 use Rattle.std.specs.Prelude.{◌≡◌, ◌++◌, ℕ, Bool, true, false, List, Option, Some, None, Result, Ok, Err, if◌then◌else◌}
 use Rattle.std.specs.List.{filter_map}
 use Rattle.std.proofs.Common.{refl, ap, subst, ◌∙◌}
@@ -25,11 +25,13 @@ use Rattle.build_plan.specs.Stages.{IsMapTree}
 use Rattle.build_plan.proofs.TreeLaws.{copied_tree, filtered_tree, included_tree, one_root}
 use Rattle.toc_page.specs.Made.{AreOnce}
 use Rattle.build_parts.proofs.OwnLaws.{IsItsOwn, pages_own}
+use Rattle.build_parts.proofs.TopicLaws.{AreOfTopics, pages_of_topics}
 
 pub record IsPlanIn (world : World) (plan : Plan) : Type 0 where
   pub tree : IsTree plan.nodes
   pub values : CarryValues world plan.nodes
   pub own : IsItsOwn plan.pages
+  pub topics : AreOfTopics world plan.pages
   pub once : AreOnce plan.documents
 
 -- a step that gave a plan had something to go on from
@@ -65,6 +67,7 @@ of_tree world before grown plan tree is =
       };
       values = record { each = made_values world (plan_nodes grown.tree) };
       own = pages_own world nodes;
+      topics = pages_of_topics world nodes;
       once = record { all = filter_map (used_at world nodes) (places nodes); is = refl };
     })
 

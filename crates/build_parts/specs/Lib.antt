@@ -1,4 +1,5 @@
 pub mod Bodies
+pub mod Gathering
 pub mod Ground
 pub mod Made
 pub mod Root

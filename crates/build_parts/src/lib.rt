@@ -1,8 +1,8 @@
 //! The build of a map by the evaluators of the whole language: its plan, each of its pages, the
 //! contents page, and all of them together.
 //!
-//! What is used above it: `clean`, which is proved safe and to return. `page` and `toc` give the parts
-//! of the plan of a map, as they are defined.
+//! What is used above it: `clean` gives the clean build of a map over stored sources, as it is
+//! defined. `page` and `toc` give the parts of the plan of a map, as they are defined.
 #![tactic(auto, using(crate::proofs::Putting::putting))]
 
 mod body;

@@ -1,8 +1,14 @@
 //! The build of a map over stored sources.
 
-ghost use Rattle.std.specs.Prelude.{◌≡◌};
+ghost use Rattle.std.specs.Prelude.{◌≡◌, [], IfOk, Ok, OnOk, codes};
+ghost use Rattle.std.specs.Option.{option_copied};
+ghost use Rattle.build_parts.specs.Gathering as gathering_spec;
+ghost use Rattle.build_parts.specs.Gathering.{HasGathered};
 ghost use Rattle.build_parts.specs.Tables.{AreTables, GoesOn};
-ghost use Rattle.reader_spec.specs.World.{world_of};
+ghost use Rattle.map_spec.specs.PlanOf as plan_spec;
+ghost use Rattle.node_links.specs.NodeTable.{AreNodeLinks};
+ghost use Rattle.part_spec.specs.Parts as parts_spec;
+ghost use Rattle.reader_spec.specs.World.{World, world_of};
 ghost use Rattle.readers.specs.Told.{Agrees};
 
 use crate::build_tables::BuildTables;
@@ -14,7 +20,7 @@ use crate::works::{ContentsWork, LinksWork, PageMade, PageWork};
 use build_plan::{Planned, planned};
 use clean_build::Clean;
 use conref_pull::Tables;
-use dita_doc::{List, Name, NoMemory, Sources, Stop, Text};
+use dita_doc::{List, Name, NoMemory, Plan, Sources, Stop, Text};
 use node_links::NodeLinks;
 use plan_layer::PushedDocs;
 use plan_nodes::place_of;
@@ -30,7 +36,10 @@ pub fn clean(
     sources: &Sources,
     map: &Name,
     val: Option<&Name>,
-) -> Result<Clean, NoMemory> {
+) -> Result<Clean, NoMemory>
+    ensures { IfOk result (gathering_spec.IsCleanBuildOf (world_of sources.now) map.now
+        (option_copied val.entry)) }
+{
     let mut reader = SourceReader::new(alloc, KnownTitles::new(alloc, sources));
     let Planned { plan, homes, table } = match planned(alloc, &mut reader, map, val) {
         Ok(planned) => planned,
@@ -59,20 +68,35 @@ fn parts_since<S: Since>(
     requires sources { world_of known.sources.now ≡ S.stand.world }
     requires agreed { Agrees S.stand.world S.told }
     requires tables { AreTables S.told ground.plan.now tables.now }
+    requires plan { plan_spec.plan_of plan_spec.limits S.stand.world ground.map.now
+        (option_copied ground.val) ≡ Ok ground.plan.now }
+    ensures { IfOk result (gathering_spec.IsBuilt ground.entry.plan.now
+        (parts_spec.parts_of parts_spec.rooms S.stand.world ground.entry.plan.now
+        (option_copied ground.entry.val))) }
 {
     let plan = ground.plan;
     let docs = PushedDocs::new(alloc);
     let lasting = Lasting { known, docs };
     let work = LinksWork { ground };
     let (links, lasting) = over_sources::<S, LinksWork<'_>>(alloc, lasting, plan, tables, work)?;
-    let mut gathered = Gathered::new(alloc);
-    gathered.put_faults(alloc, copy_faults(alloc, plan.faults.as_slice())?)?;
-    // These are faults of each page, so a plan without pages has none of them.
-    if !plan.pages.is_empty() {
-        gathered.put_faults(alloc, copy_faults(alloc, links.faults())?)?;
-    }
+    let mut gathered = first_faults(alloc, plan, &links)?;
     put_parts::<S>(alloc, lasting, ground, tables, &links, &mut gathered)?;
     gathered.finish(alloc)
+}
+
+// The faults of a plan and those of its rows, before any page is put. Faults of rows are faults of
+// each page, so a plan without pages has none of them.
+fn first_faults(alloc: Global, plan: &Plan, links: &NodeLinks) -> Result<Gathered, NoMemory>
+    ensures { (world : World) → AreNodeLinks world plan.now links.now
+        → IfOk result (HasGathered [] [] (gathering_spec.faults_before plan.now)) }
+{
+    let mut gathered = Gathered::new(alloc);
+    gathered.put_faults(alloc, copy_faults(alloc, plan.faults.as_slice())?)?;
+    if plan.pages.is_empty() {
+        return Ok(gathered);
+    }
+    gathered.put_faults(alloc, copy_faults(alloc, links.faults())?)?;
+    Ok(gathered)
 }
 
 // Puts each page, and the contents page last.
@@ -87,6 +111,13 @@ fn put_parts<S: Since>(
     requires agreed { Agrees S.stand.world S.told }
     requires tables { AreTables S.told ground.plan.now tables.now }
     requires goes_on { GoesOn S.stand.world ground.plan.now.documents lasting }
+    requires plan { plan_spec.plan_of plan_spec.limits S.stand.world ground.map.now
+        (option_copied ground.val) ≡ Ok ground.plan.now }
+    requires links { AreNodeLinks S.stand.world ground.plan.now links.now }
+    requires gathered { HasGathered [] [] (gathering_spec.faults_before ground.plan.now)
+        gathered.old }
+    ensures { OnOk result (gathering_spec.HasPartsOf S.stand.world ground.entry.plan.now
+        (option_copied ground.entry.val) gathered.new) }
 {
     let plan = ground.plan;
     let mut content = Tables::new(alloc);
@@ -115,6 +146,8 @@ fn put_parts<S: Since>(
 }
 
 // The name of the contents page.
-fn contents_name(alloc: Global) -> Result<Name, AllocError> {
+fn contents_name(alloc: Global) -> Result<Name, AllocError>
+    ensures { IfOk result (λ name. name ≡ codes "index.html") }
+{
     Name::new(alloc, Text::from_str(alloc, "index.html")?)
 }

@@ -1,5 +1,12 @@
+use Rattle.std.specs.Option.{option_copied}
+use Rattle.build_parts.specs.Bodies.{AreKnown}
+use Rattle.build_parts.specs.Gathering.{HasPagesOf}
 use Rattle.build_parts.specs.Tables.{GoesOn}
 use Rattle.build_parts.proofs.whole_build.put_parts.Given as goal
 
 abbrev pub invariant-loop-index : goal.invariant-loop-index
-invariant-loop-index g l = GoesOn g.S.Since.stand.world l.fn.ground.plan.now.documents l.lasting
+invariant-loop-index g l = record {
+  goes_on : GoesOn g.S.Since.stand.world l.fn.ground.plan.now.documents l.lasting;
+  content : AreKnown g.S.Since.stand.world l.fn.ground.plan.now l.content;
+  put : HasPagesOf g.S.Since.stand.world l.fn.ground.plan.now (option_copied l.fn.ground.val) l.index l.gathered;
+}
