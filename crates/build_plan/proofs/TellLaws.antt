@@ -1,5 +1,5 @@
 -- What stays founded over the steps of a plan, and which documents they ask for.
-use Rattle.std.specs.Prelude.{◌≡◌, ◌||◌, ℕ, List, [], ◌∷◌, Option, IsTrue, bytes_eq}
+use Rattle.std.specs.Prelude.{ℕ, List, [], ◌∷◌, Option, IsTrue, bytes_eq}
 use Rattle.std.specs.Option.{option_to_list}
 use Rattle.std.proofs.Math.Logic.{⊎_elim}
 use Rattle.std.proofs.lemmas.Bool.{false≢true, or_cases, or_left, or_right}
@@ -11,7 +11,7 @@ use Rattle.readers.proofs.FoundedLaws.{stays_among}
 use Rattle.branch_copies.specs.Ditavalrefs.{ditaval_targets}
 use Rattle.map_expand.specs.AskedFor.{AreAsked}
 use Rattle.map_expand.specs.Telling.{map_targets}
-use Rattle.map_expand.proofs.AmongLaws.{among_back, among_front}
+use Rattle.readers.proofs.AmongLaws.{among_back, among_front}
 use Rattle.map_expand.proofs.AskedForLaws.{asks_asked}
 use Rattle.build_plan.specs.Documents.{build_names, plan_targets}
 

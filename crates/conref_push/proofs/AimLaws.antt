@@ -20,6 +20,7 @@ use Rattle.readers.specs.Named.{name_joined, names_in, names_of_element}
 use Rattle.readers.specs.Told.{Told, document}
 use Rattle.readers.proofs.DocumentLaws.{asks_among, asks_one, asks_then, covers_nothing, covers_same, follows_may}
 use Rattle.readers.proofs.AmongLaws.{among_back, among_front}
+use Rattle.readers.proofs.GivenLaws.{first_among as first_named}
 use Rattle.readers.proofs.FoundedLaws.{among_behind, among_first, among_one, given_allowed, stays_among, stays_then}
 use Rattle.conref_push.specs.declared.pushing.Pushing as code
 use Rattle.conref_push.specs.Aimed.{aim_of, aims_among, aims_in, doc_aimed, doc_named, push_targets}
@@ -88,14 +89,10 @@ gives (Some element) = names_of_element element
 conref_among : (element : Element) (value m : List ℕ) → attribute (codes "conref") element ≡ Some value
     → name_joined element.doc value ≡ Some m → IsTrue (is_among (names_of_element element) m)
 conref_among element value m has joined =
-    let href = option_and_then (name_joined element.doc) (attribute (codes "href") element) in
-    let end = option_and_then (name_joined element.doc) (attribute (codes "conrefend") element) in
     let here : option_and_then (name_joined element.doc) (attribute (codes "conref") element) ≡ Some m =
     ap (option_and_then (name_joined element.doc)) has ∙ joined in
-    let parts : names_of_element element ≡ option_to_list href ++ (m ∷ (cons_option end [])) =
-    first_or href _ ∙ ap (λ found. option_to_list href ++ cons_option found (cons_option end [])) here in
-    subst (λ l. IsTrue (is_among l m)) (sym parts)
-    (among_back (option_to_list href) (m ∷ cons_option end []) m (among_first m (cons_option end [])))
+    first_named (codes "conref") element.doc element.attributes m refl
+    (subst (λ (found : Option (List ℕ)). IsTrue (is_among (option_to_list found) m)) (sym here) (among_first m []))
 
 carried_among : (from m : List ℕ) (carrier : Option Element) → IsFrom from carrier
     → option_and_then (doc_named from) (option_and_then (attribute (codes "conref")) carrier) ≡ Some m

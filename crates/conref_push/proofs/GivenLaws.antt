@@ -1,10 +1,10 @@
 -- The names that a document with its pushes gives: the document gives them, or one that pushes come from.
-use Rattle.std.specs.Prelude.{◌≡◌, ℕ, Bool, true, false, List, [], ◌∷◌, ◌++◌, Option, Some, None, IsTrue, bytes_eq, codes, option_map, if◌then◌else◌}
-use Rattle.std.specs.List.{cons_option, list_any}
+use Rattle.std.specs.Prelude.{◌≡◌, ℕ, Bool, true, false, List, [], ◌∷◌, ◌++◌, Option, Some, None, IsTrue, bytes_eq, codes, filter, option_map, if◌then◌else◌}
+use Rattle.std.specs.List.{cons_option, filter_map, list_any}
 use Rattle.std.specs.Option.{option_and_then, option_to_list}
 use Rattle.std.proofs.Common.{refl, sym, ap, subst, ◌∙◌}
 use Rattle.std.proofs.Math.Logic.{⊎_elim}
-use Rattle.std.proofs.lemmas.Bool.{false≢true, or_cases, or_left}
+use Rattle.std.proofs.lemmas.Bool.{false≢true, or_cases, or_left, or_right}
 use Rattle.dita_doc.specs.ClassValue.{value_of}
 use Rattle.dita_doc.specs.declared.content.Push.{Push}
 use Rattle.dita_doc.specs.declared.doc.Attribute.{Attribute}
@@ -13,7 +13,7 @@ use Rattle.map_spec.specs.Written.{Element, Written, End, Chars, Node, document}
 use Rattle.page_spec.specs.Pushes.{id_written, pushed_element, pushed_from, pushing_names, with_id_of, without_names}
 use Rattle.reader_spec.specs.World.{World}
 use Rattle.readers.specs.Founded.{is_among}
-use Rattle.readers.specs.Named.{given_in, given_in_found, name_joined, names_of_element, names_of_found, reused_by, reused_of_found}
+use Rattle.readers.specs.Named.{given_in, given_in_found, name_joined, name_written, names_of_element, names_of_found, reused_by, reused_of_found}
 use Rattle.conref_push.specs.Into.{froms, pushed_by}
 use Rattle.readers.proofs.AmongLaws.{among_back, among_front}
 use Rattle.conref_push.proofs.AmongLaws.{among_append, same_name}
@@ -60,55 +60,58 @@ value_behind (Some id) name all other = ap (λ (same : Bool). if same then Some 
 abbrev Gives : (List ℕ → Type 0) → List (List ℕ) → Type 0
 Gives P names = (m : List ℕ) → IsTrue (is_among names m) → P m
 
--- the names that these three references are joined to
-abbrev joined_all : List ℕ → Option (List ℕ) → Option (List ℕ) → Option (List ℕ) → List (List ℕ)
-joined_all doc href conref conrefend = cons_option (option_and_then (name_joined doc) href)
-    (cons_option (option_and_then (name_joined doc) conref)
-    (cons_option (option_and_then (name_joined doc) conrefend) []))
-
 module _ (P : List ℕ → Type 0) where
   gives_both : (a b : List (List ℕ)) → Gives P a → Gives P b → Gives P (a ++ b)
   gives_both a b one other = λ m among.
       ⊎_elim (one m) (other m) (or_cases (is_among a m) (is_among b m) (subst IsTrue (among_append a b m) among))
 
-  first_alone : (first : Option (List ℕ)) (more : List (List ℕ)) → Gives P (cons_option first more)
-      → Gives P (cons_option first [])
-  first_alone None more gives = λ m among. absurd (false≢true among)
-  first_alone (Some name) more gives = λ m among. gives m (⊎_elim
+  own_gives : (first : Option (List ℕ)) (more : List (List ℕ)) → Gives P (cons_option first more)
+      → Gives P (option_to_list first)
+  own_gives None more gives = λ m among. absurd (false≢true among)
+  own_gives (Some name) more gives = λ m among. gives m (⊎_elim
       (λ here. or_left (bytes_eq name m) (is_among more m) here) (λ none. absurd (false≢true none))
       (or_cases (bytes_eq name m) false among))
 
-  -- an element with other attributes, of which only the href is joined
-  attributes_give : (element : Element) (all : List Attribute)
-      → value_of (codes "href") all ≡ attribute (codes "href") element → value_of (codes "conref") all ≡ None
-      → value_of (codes "conrefend") all ≡ None → Gives P (names_of_element element)
-      → Gives P (names_of_element (record element { attributes = all }))
-  attributes_give element all href conref conrefend gives = subst (Gives P)
-      (sym (ap (λ a. joined_all element.doc a (value_of (codes "conref") all) (value_of (codes "conrefend") all)) href
-      ∙ ap (λ b. joined_all element.doc (attribute (codes "href") element) b (value_of (codes "conrefend") all)) conref
-      ∙ ap (joined_all element.doc (attribute (codes "href") element) None) conrefend))
-      (first_alone (option_and_then (name_joined element.doc) (attribute (codes "href") element)) _ gives)
+  more_gives : (first : Option (List ℕ)) (more : List (List ℕ)) → Gives P (cons_option first more) → Gives P more
+  more_gives None more gives = gives
+  more_gives (Some name) more gives = λ m among. gives m (or_right (bytes_eq name m) _ among)
+
+  both_give : (first : Option (List ℕ)) (more : List (List ℕ)) → Gives P (option_to_list first) → Gives P more
+      → Gives P (cons_option first more)
+  both_give None more own gives = gives
+  both_give (Some name) more own gives = λ m among. ⊎_elim
+      (λ here. own m (or_left (bytes_eq name m) false here)) (λ later. gives m later)
+      (or_cases (bytes_eq name m) (is_among more m) among)
+
+  -- some of the attributes
+  some_give : (doc : List ℕ) (keep : Attribute → Bool) (all : List Attribute)
+      → Gives P (filter_map (name_written doc) all) → Gives P (filter_map (name_written doc) (filter keep all))
+  some_give doc keep [] gives = gives
+  some_give doc keep (one ∷ all) gives = by_test (keep one) refl
+      (some_give doc keep all (more_gives (name_written doc one) _ gives))
+    where
+      by_test : (test : Bool) → keep one ≡ test → Gives P (filter_map (name_written doc) (filter keep all))
+          → Gives P (filter_map (name_written doc) (filter keep (one ∷ all)))
+      by_test true kept more =
+          rw kept (both_give (name_written doc one) _ (own_gives (name_written doc one) _ gives) more)
+      by_test false kept more = rw kept more
 
   pushed_gives : (element : Element) → Gives P (names_of_element element)
       → Gives P (names_of_element (pushed_element element))
-  pushed_gives element = attributes_give element (without_names pushing_names element.attributes)
-      (value_kept pushing_names (codes "href") element.attributes)
-      (value_kept pushing_names (codes "conref") element.attributes)
-      (value_kept pushing_names (codes "conrefend") element.attributes)
+  pushed_gives element gives = some_give element.doc _ element.attributes gives
+
+  behind_id : (doc : List ℕ) (id : Option (List ℕ)) (all : List Attribute)
+      → Gives P (filter_map (name_written doc) all) → Gives P (filter_map (name_written doc) (id_written id ++ all))
+  behind_id doc None all gives = gives
+  behind_id doc (Some id) all gives = gives
 
   instead_gives : (replaced element : Element) → Gives P (names_of_element element)
       → Gives P (names_of_element (with_id_of replaced (pushed_element element)))
-  instead_gives replaced element =
-      let id = attribute (codes "id") replaced in
-      let all = without_names pushing_names element.attributes in
-      let kept = without_names (codes "id" ∷ []) all in
-      attributes_give element (id_written id ++ kept)
-      (value_behind id (codes "href") kept refl ∙ value_kept (codes "id" ∷ []) (codes "href") all
-      ∙ value_kept pushing_names (codes "href") element.attributes)
-      (value_behind id (codes "conref") kept refl ∙ value_kept (codes "id" ∷ []) (codes "conref") all
-      ∙ value_kept pushing_names (codes "conref") element.attributes)
-      (value_behind id (codes "conrefend") kept refl ∙ value_kept (codes "id" ∷ []) (codes "conrefend") all
-      ∙ value_kept pushing_names (codes "conrefend") element.attributes)
+  instead_gives replaced element gives =
+      behind_id element.doc (attribute (codes "id") replaced)
+      (without_names (codes "id" ∷ []) (without_names pushing_names element.attributes))
+      (some_give element.doc _ (without_names pushing_names element.attributes)
+      (some_give element.doc _ element.attributes gives))
 
   -- without a conref it has no content reference
   attributes_reuse : (element : Element) (all : List Attribute) → value_of (codes "conref") all ≡ None

@@ -1,13 +1,11 @@
 -- The nodes that links go from and to, and those that were found before.
-use Rattle.std.specs.Prelude.{◌≡◌, ◌==◌, ◌&&◌, ◌||◌, ℕ, zero, suc, Bool, true, false, List, [], ◌∷◌, ◌++◌, Option, Some, None, IsTrue, cond, bytes_eq, codes, option_map, slice_get, unwrap_or}
+use Rattle.std.specs.Prelude.{◌≡◌, ◌==◌, ◌&&◌, ℕ, zero, suc, Bool, true, false, List, [], ◌∷◌, ◌++◌, Option, Some, None, IsTrue, cond, codes, option_map, slice_get, unwrap_or}
 use Rattle.std.specs.BTreeMap.{is_at}
 use Rattle.std.specs.List.{filter_map}
 use Rattle.std.specs.Map.{lookup}
 use Rattle.std.specs.Option.{option_and_then}
 use Rattle.std.specs.Ordering.{nat_cmp}
 use Rattle.std.proofs.Common.{refl, sym, ap, subst, ◌∙◌}
-use Rattle.std.proofs.Math.Logic.{⊎_elim}
-use Rattle.std.proofs.lemmas.Bool.{false≢true, or_cases, or_left, or_right}
 use Rattle.std.proofs.lemmas.Option.{same_Some}
 use Rattle.dita_doc.specs.ClassValue.{value_of}
 use Rattle.dita_doc.specs.declared.plan.PagePlan.{PagePlan}
@@ -22,6 +20,7 @@ use Rattle.plan_nodes.specs.Carried.{CarryValues}
 use Rattle.reader_spec.specs.World.{World}
 use Rattle.readers.specs.Founded.{StaysFounded, homes, is_among}
 use Rattle.readers.specs.Told.{Told}
+use Rattle.readers.proofs.AmongLaws.{among_back, among_front}
 use Rattle.readers.proofs.FoundedLaws.{among_behind, among_first, stays_among}
 use Rattle.link_groups.specs.LinkNodes.{AreLinkNodes, IsLinkNode, link_node_at, link_node_of, linking_of, names_of_pages, plan_names, with_linking, with_page}
 use Rattle.link_groups.specs.declared.link_nodes.LinkNode.{LinkNode}
@@ -94,17 +93,6 @@ found_asked world plan pages at place name node found old new carry pages_are na
 
 -- The documents that links are about
 
-pub among_both : (names more : List (List ℕ)) (m : List ℕ) → IsTrue (is_among more m) → IsTrue (is_among (names ++ more) m)
-among_both [] more m among = among
-among_both (name ∷ names) more m among = or_right (bytes_eq name m) _ (among_both names more m among)
-
-pub among_front : (names more : List (List ℕ)) (m : List ℕ) → IsTrue (is_among names m) → IsTrue (is_among (names ++ more) m)
-among_front [] more m among = absurd (false≢true among)
-among_front (name ∷ names) more m among =
-    ⊎_elim (λ here. or_left (bytes_eq name m) _ here)
-    (λ behind. or_right (bytes_eq name m) _ (among_front names more m behind))
-    (or_cases (bytes_eq name m) (is_among names m) among)
-
 -- the documents to which nodes lead
 among_targets : (all : List Target) (at : ℕ) (name : List ℕ)
     → local_name (unwrap_or (slice_get all at) targets.Nothing) ≡ Some name
@@ -123,15 +111,15 @@ among_targets (target ∷ more) (suc at) name named =
 pub named_among : (plan : Plan) (at : ℕ) (name : List ℕ) → local_name (target_of plan at) ≡ Some name
     → IsTrue (is_among (plan_names plan) name)
 named_among plan at name named =
-    among_both (homes plan.nodes) (filter_map local_name plan.targets ++ names_of_pages plan.pages) name
+    among_back (homes plan.nodes) (filter_map local_name plan.targets ++ names_of_pages plan.pages) name
     (among_front (filter_map local_name plan.targets) (names_of_pages plan.pages) name
     (among_targets plan.targets at name named))
 
 pub pages_among : (plan : Plan) (pages : List PagePlan) (m : List ℕ) → pages ≡ plan.pages
     → IsTrue (is_among (names_of_pages pages) m) → IsTrue (is_among (plan_names plan) m)
 pages_among plan pages m same among =
-    among_both (homes plan.nodes) (filter_map local_name plan.targets ++ names_of_pages plan.pages) m
-    (among_both (filter_map local_name plan.targets) (names_of_pages plan.pages) m
+    among_back (homes plan.nodes) (filter_map local_name plan.targets ++ names_of_pages plan.pages) m
+    (among_back (filter_map local_name plan.targets) (names_of_pages plan.pages) m
     (subst (λ ps. IsTrue (is_among (names_of_pages ps) m)) same among))
 
 -- the documents of a plan's nodes are among those that its links are about

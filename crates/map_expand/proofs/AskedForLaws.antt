@@ -12,7 +12,7 @@ use Rattle.readers.specs.Founded.{AreAllowed, Grows, IsFounded, StaysFounded, ho
 use Rattle.readers.specs.Told.{Told, document, kind, title, first, key, pushes, page_of, tried, sought}
 use Rattle.readers.proofs.FoundedLaws.{among_one}
 use Rattle.map_expand.specs.AskedFor.{AreAsked, asked_for}
-use Rattle.map_expand.proofs.AmongLaws.{among_back, among_both}
+use Rattle.readers.proofs.AmongLaws.{among_back, among_either}
 
 -- What was asked for before
 
@@ -41,7 +41,7 @@ none_asked told nodes none = subst (λ n. AreAsked told (homes n)) (sym none)
 pub asked_node : (told : List Told) (nodes new : List PlanNode) (node : PlanNode) → new ≡ nodes ++ node ∷ []
     → AreAsked told (homes nodes) → IsTrue (is_among (asked_for told) node.doc) → AreAsked told (homes new)
 asked_node told nodes new node is before here = record {
-  each = λ m among. among_both (homes nodes) (node.doc ∷ []) m (IsTrue (is_among (asked_for told) m)) (before.each m)
+  each = λ m among. among_either (homes nodes) (node.doc ∷ []) m (IsTrue (is_among (asked_for told) m)) (before.each m)
       (λ last. subst (λ n. IsTrue (is_among (asked_for told) n)) (among_one node.doc m last) here)
       (subst (λ l. IsTrue (is_among l m)) (ap homes is ∙ map-append _ nodes (node ∷ [])) among);
 }
@@ -76,7 +76,7 @@ name_allowed : (roots : List (List ℕ)) (told : List Told) (m : List ℕ) → I
     → IsTrue (is_among (asked_for told) m) → IsTrue (is_allowed roots told m)
 name_allowed roots [] m founded asked = absurd (false≢true asked)
 name_allowed roots (t ∷ told) m founded asked = or_right (is_among (names_given t) m) _
-    (among_both (documents_asked t) (asked_for told) m (IsTrue (is_allowed roots told m))
+    (among_either (documents_asked t) (asked_for told) m (IsTrue (is_allowed roots told m))
     (λ here. founded.0.each m (is_about t m here)) (name_allowed roots told m founded.1) asked)
 
 -- what was asked for is allowed where all is founded
@@ -89,7 +89,7 @@ name_may : (rule : Follows) (roots : List (List ℕ)) (told : List Told) (m : Li
     → IsTrue (is_among (asked_for told) m) → IsTrue (may_ask rule roots told m)
 name_may rule roots [] m by asked = absurd (false≢true asked)
 name_may rule roots (t ∷ told) m by asked = or_right (is_among (rule t) m) _
-    (among_both (documents_asked t) (asked_for told) m (IsTrue (may_ask rule roots told m))
+    (among_either (documents_asked t) (asked_for told) m (IsTrue (may_ask rule roots told m))
     (by.0.each m) (name_may rule roots told m by.1) asked)
 
 -- what was asked for by a rule may be asked for by it

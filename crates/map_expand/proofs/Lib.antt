@@ -1,4 +1,3 @@
-pub mod AmongLaws
 pub mod AskedForLaws
 pub mod LeftLaws
 pub mod MakesLaws

@@ -1,6 +1,6 @@
 -- What a map names may be asked about.
 use Rattle.std.specs.Prelude.{◌≡◌, ◌+◌, ◌-◌, ◌<◌, ◌≤◌, ◌||◌, ℕ, zero, suc, Bool, true, false, List, [], ◌∷◌, ◌++◌, Option, Some, None, IfSome, IsTrue, codes, length, take, drop, slice_get, unwrap_or, if◌then◌else◌}
-use Rattle.std.specs.Option.{option_and_then}
+use Rattle.std.specs.Option.{option_and_then, option_to_list}
 use Rattle.std.proofs.Common.{refl, sym, ap, ◌∙◌, arith, subst}
 use Rattle.std.proofs.Math.Logic.{⊎_elim}
 use Rattle.std.proofs.lemmas.Bool.{cases_lt}
@@ -22,10 +22,11 @@ use Rattle.readers.specs.Named.{name_joined, names_in, names_of_element}
 use Rattle.readers.specs.Told.{Told}
 use Rattle.readers.proofs.DocumentLaws.{asks_one, asks_same, asks_then, follows_may, may_ask_before, none_may, one_may}
 use Rattle.readers.proofs.FoundedLaws.{among_first, given_allowed, none_allowed, one_allowed, stays_same, stays_then}
+use Rattle.readers.proofs.GivenLaws.{first_among}
 use Rattle.readers.proofs.GrowthLaws.{allowed_before}
 use Rattle.map_expand.specs.AskedFor.{asked_for}
 use Rattle.map_expand.specs.Homes.{AreSiblings, Home, IsFirst, nodes_between}
-use Rattle.map_expand.proofs.AmongLaws.{among_back, among_front}
+use Rattle.readers.proofs.AmongLaws.{among_back, among_front}
 use Rattle.map_expand.proofs.AskedForLaws.{asked_before}
 use Rattle.map_expand.proofs.SiblingLaws.{begin}
 use Rattle.map_expand.specs.declared.work.Walk.{Walk}
@@ -149,7 +150,8 @@ module _ (element : Element) (href name : List ℕ) (is : attribute (codes "href
       by_tests (is_far (unwrap_or (attribute (codes "scope") element) default_scope)) (is_external href) _ _ name named in
       let found : option_and_then (name_joined element.doc) (attribute (codes "href") element) ≡ Some name =
       ap (option_and_then (name_joined element.doc)) is ∙ read in
-      rw found (among_first name _)
+      first_among (codes "href") element.doc element.attributes name refl
+      (subst (λ (f : Option (List ℕ)). IsTrue (is_among (option_to_list f) name)) (sym found) (among_first name []))
 
   targets_name : has_value (codes "format") (codes "ditamap") element ≡ true
       → IsTrue (is_among (element_targets element) name)

@@ -1,7 +1,7 @@
 -- What an element that was told names may be asked about, then and later.
-use Rattle.std.specs.Prelude.{◌≡◌, ◌||◌, ℕ, Bool, true, false, List, Option, Some, None, Result, Ok, Err, IsTrue, codes, bytes_eq, option_map, unwrap_or, if◌then◌else◌}
-use Rattle.std.specs.Option.{option_and_then}
-use Rattle.std.proofs.Common.{refl, sym, ap, ◌∙◌}
+use Rattle.std.specs.Prelude.{◌≡◌, ◌||◌, ℕ, Bool, true, false, List, [], Option, Some, None, Result, Ok, Err, IsTrue, codes, bytes_eq, option_map, unwrap_or, if◌then◌else◌}
+use Rattle.std.specs.Option.{option_and_then, option_to_list}
+use Rattle.std.proofs.Common.{refl, sym, ap, subst, ◌∙◌}
 use Rattle.dita_doc.specs.declared.plan.Reference.{Reference}
 use Rattle.dita_doc.specs.declared.plan.Target.{Target}
 use Rattle.dita_doc.specs.declared.plan.Target.TheVariants as targets
@@ -17,6 +17,7 @@ use Rattle.readers.specs.Told.{Told}
 use Rattle.readers.proofs.DocumentLaws.{may_ask_before}
 use Rattle.readers.proofs.FileLaws.{file_read}
 use Rattle.readers.proofs.FoundedLaws.{among_first}
+use Rattle.readers.proofs.GivenLaws.{first_among}
 use Rattle.readers.proofs.GrowthLaws.{allowed_before}
 use Rattle.plan_nodes.specs.Given.{AreTold, IsTold}
 
@@ -51,7 +52,8 @@ module _ (element : Element) (href name : List ℕ) (is : attribute (codes "href
   joined_given read =
       let found : option_and_then (name_joined element.doc) (attribute (codes "href") element) ≡ Some name =
       ap (option_and_then (name_joined element.doc)) is ∙ read in
-      rw found (among_first name _)
+      first_among (codes "href") element.doc element.attributes name refl
+      (subst (λ (f : Option (List ℕ)). IsTrue (is_among (option_to_list f) name)) (sym found) (among_first name []))
 
   pub gives_name : named_of element href ≡ Document name → IsTrue (is_among (names_of_element element) name)
   gives_name named = joined_given

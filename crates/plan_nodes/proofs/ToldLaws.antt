@@ -1,12 +1,11 @@
 -- The elements of documents that were told were told.
-use Rattle.std.specs.Prelude.{◌≡◌, ◌-◌, ◌+◌, ◌==◌, ◌⊎◌, ℕ, zero, suc, Bool, true, false, List, [], ◌∷◌, ◌++◌, Option, Some, None, IsTrue, bytes_eq, map, nat_lt, slice_get, if◌then◌else◌}
+use Rattle.std.specs.Prelude.{◌≡◌, ◌-◌, ◌+◌, ◌==◌, ◌⊎◌, ℕ, zero, suc, Bool, true, false, List, [], ◌∷◌, ◌++◌, Option, Some, None, IsTrue, map, nat_lt, slice_get, if◌then◌else◌}
 use Rattle.std.specs.Arc.{arc_value}
 use Rattle.std.specs.List.{flat_map}
 use Rattle.std.specs.declared.alloc.Global.{Global}
 use Rattle.std.specs.declared.sync.Arc.{Arc}
 use Rattle.std.proofs.Common.{refl, sym, ap, subst, inl, inr}
 use Rattle.std.proofs.Math.Logic.{⊎_elim}
-use Rattle.std.proofs.lemmas.Bool.{false≢true, or_cases, or_left, or_right}
 use Rattle.std.proofs.lemmas.Grind.{flat_map-append}
 use Rattle.dita_doc.specs.Tree.{Content, tree_of}
 use Rattle.dita_doc.specs.declared.doc.Doc.{Doc}
@@ -15,6 +14,7 @@ use Rattle.map_spec.specs.Written.{Element, Whole, Written, element_at, elements
 use Rattle.readers.specs.Founded.{Grows, is_among}
 use Rattle.readers.specs.Named.{names_in, names_of_element}
 use Rattle.readers.specs.Told.{Told, document, tree_found}
+use Rattle.readers.proofs.AmongLaws.{among_back, among_front}
 use Rattle.readers.proofs.DocumentLaws.{covers_same, follows_may, may_ask_before}
 use Rattle.readers.proofs.FoundedLaws.{given_allowed}
 use Rattle.readers.proofs.GrowthLaws.{allowed_before, grows_one}
@@ -61,15 +61,6 @@ docs_told old new docs all name (Some doc) is put told =
     (docs_later old new docs (grows_one t old new is) told) (was_told t old new is))
 
 -- What an element gives is among what the elements of its document give
-
-pub among_front : (a b : List (List ℕ)) (m : List ℕ) → IsTrue (is_among a m) → IsTrue (is_among (a ++ b) m)
-among_front [] b m among = absurd (false≢true among)
-among_front (name ∷ a) b m among = ⊎_elim (λ here. or_left (bytes_eq name m) _ here)
-    (λ there. or_right (bytes_eq name m) _ (among_front a b m there)) (or_cases (bytes_eq name m) _ among)
-
-pub among_back : (a b : List (List ℕ)) (m : List ℕ) → IsTrue (is_among b m) → IsTrue (is_among (a ++ b) m)
-among_back [] b m among = among
-among_back (name ∷ a) b m among = or_right (bytes_eq name m) _ (among_back a b m among)
 
 pub some_behind : (test : Bool) (more : Option Whole) (whole : Whole) → (if test then None else more) ≡ Some whole
     → more ≡ Some whole

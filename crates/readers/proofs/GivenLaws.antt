@@ -1,16 +1,18 @@
 -- What documents that were told give: it may be asked about, and what their content references name may be asked for.
-use Rattle.std.proofs.Common.{◌≡◌, ◌++◌, ℕ, List, [], ◌∷◌, IsTrue, false, bytes_eq, codes, refl, sym, subst}
+use Rattle.std.proofs.Common.{◌≡◌, ◌++◌, ℕ, Bool, List, [], ◌∷◌, IsTrue, false, true, bytes_eq, codes, refl, ap, ◌∙◌}
 use Rattle.std.specs.Prelude.{Option, Some, None, option_map}
-use Rattle.std.specs.List.{cons_option}
+use Rattle.std.specs.List.{cons_option, filter_map, list_any}
 use Rattle.std.specs.Option.{option_and_then, option_to_list}
 use Rattle.std.proofs.Math.Logic.{⊎_elim}
 use Rattle.std.proofs.lemmas.Bool.{false≢true, or_cases, or_left, or_right}
+use Rattle.std.proofs.lemmas.Slice.Eq.{bytes_eq-Decides}
+use Rattle.dita_doc.specs.ClassValue.{value_of}
 use Rattle.dita_doc.specs.Tree.{Content}
-use Rattle.map_spec.specs.Elements.{attribute}
+use Rattle.dita_doc.specs.declared.doc.Attribute.{Attribute}
 use Rattle.map_spec.specs.Written.{Element, Written, End, Chars, Node, written_in}
 use Rattle.readers.specs.Documents.{Covers, Follows, IsGiven, MayAsk, may_ask, of_documents}
 use Rattle.readers.specs.Founded.{AreAllowed, Grows, is_allowed, is_among, names_given}
-use Rattle.readers.specs.Named.{given_in, given_in_found, name_joined, names_in, names_of_element, names_of_found, reused_by, reused_in, reused_of_found}
+use Rattle.readers.specs.Named.{name_joined, name_written, names_in, names_of_element, names_of_found, references, reused_by, reused_in, reused_of_found}
 use Rattle.readers.specs.Told.{Told, document, kind, title, first, key, pushes, page_of, tried, sought}
 use Rattle.readers.proofs.AmongLaws.{among_back, among_either, among_front}
 use Rattle.readers.proofs.DocumentLaws.{all_before, covers_same, follows_may, none_may}
@@ -92,10 +94,30 @@ cons_first (Some name) xs m among =
     ⊎_elim (λ here. or_left (bytes_eq name m) _ here) (λ no. absurd (false≢true no))
     (or_cases (bytes_eq name m) false among)
 
+-- what the first attribute of a name gives is among what all references do
+pub first_among : (name doc : List ℕ) (attributes : List Attribute) (m : List ℕ)
+    → list_any (bytes_eq name) references ≡ true
+    → IsTrue (is_among (option_to_list (option_and_then (name_joined doc) (value_of name attributes))) m)
+    → IsTrue (is_among (filter_map (name_written doc) attributes) m)
+first_among name doc [] m is among = absurd (false≢true among)
+first_among name doc (written ∷ attributes) m is among =
+    by_name (bytes_eq written.name name) refl among (λ more. first_among name doc attributes m is more)
+  where
+    by_name : (test : Bool) → bytes_eq written.name name ≡ test
+        → IsTrue (is_among (option_to_list
+        (option_and_then (name_joined doc) (value_of name (written ∷ attributes)))) m)
+        → (IsTrue (is_among (option_to_list (option_and_then (name_joined doc) (value_of name attributes))) m)
+        → IsTrue (is_among (filter_map (name_written doc) attributes) m))
+        → IsTrue (is_among (filter_map (name_written doc) (written ∷ attributes)) m)
+    by_name true same here more =
+        let own : list_any (bytes_eq written.name) references ≡ true =
+        ap (λ (n : List ℕ). list_any (bytes_eq n) references) ((bytes_eq-Decides written.name name).0 same) ∙ is in
+        cons_first (name_written doc written) _ m (rw own (rw same at here))
+    by_name false same here more = cons_behind (name_written doc written) _ m (more (rw same at here))
+
 reused_named : (element : Element) (m : List ℕ) → IsTrue (is_among (reused_by element) m)
     → IsTrue (is_among (names_of_element element) m)
-reused_named element m among = cons_behind (option_and_then (name_joined element.doc) (attribute (codes "href") element)) _ m
-    (cons_first (option_and_then (name_joined element.doc) (attribute (codes "conref") element)) _ m among)
+reused_named element m among = first_among (codes "conref") element.doc element.attributes m refl among
 
 pub reused_named_in : (nodes : Written) (m : List ℕ) → IsTrue (is_among (reused_in nodes) m)
     → IsTrue (is_among (names_in nodes) m)

@@ -1,11 +1,12 @@
 -- Documents whose nodes were written in several documents (own): each node under the name at its origin's place.
-use Rattle.std.specs.Prelude.{ℕ, List, [], ◌∷◌, ◌++◌, Option, option_map, slice_get, unwrap_or, codes, if◌then◌else◌, None, Some}
-use Rattle.std.specs.List.{filter_map}
+use Rattle.std.specs.Prelude.{ℕ, List, [], ◌∷◌, ◌++◌, Option, option_map, slice_get, unwrap_or, bytes_eq, codes, if◌then◌else◌, None, Some}
+use Rattle.std.specs.List.{filter_map, list_any}
 use Rattle.std.specs.Option.{option_and_then, option_to_list}
 use Rattle.std.specs.declared.alloc.Global.{Global}
 use Rattle.std.specs.declared.sync.Arc.{Arc}
 use Rattle.dita_doc.specs.Tree as tree
 use Rattle.dita_doc.specs.Tree.{Content, tree_of}
+use Rattle.dita_doc.specs.declared.doc.Attribute.{Attribute}
 use Rattle.dita_doc.specs.declared.doc.Doc.{Doc}
 use Rattle.href_text.specs.Joined.{joined}
 use Rattle.href_text.specs.Reference.{is_external}
@@ -39,9 +40,13 @@ references = codes "href" ∷ codes "conref" ∷ codes "conrefend" ∷ []
 abbrev pub name_joined : List ℕ → List ℕ → Option (List ℕ)
 name_joined doc value = if is_external value then None else if_read (joined doc (file_of value))
 
+-- what an attribute names, if it is a reference
+abbrev pub name_written : List ℕ → Attribute → Option (List ℕ)
+name_written doc written =
+    if list_any (bytes_eq written.name) references then name_joined doc written.value else None
+
 abbrev pub names_of_element : Element → List (List ℕ)
-names_of_element element =
-    filter_map (λ name. option_and_then (name_joined element.doc) (attribute name element)) references
+names_of_element element = filter_map (name_written element.doc) element.attributes
 
 -- what elements give, each by itself
 abbrev pub given_in : (Element → List (List ℕ)) → Written → List (List ℕ)

@@ -1,10 +1,9 @@
 -- The documents that the contents page of a plan is about.
-use Rattle.std.specs.Prelude.{◌≡◌, ℕ, zero, suc, List, [], ◌∷◌, ◌++◌, Option, Some, None, IsTrue, bytes_eq, slice_get, unwrap_or}
+use Rattle.std.specs.Prelude.{◌≡◌, ℕ, zero, suc, List, [], ◌∷◌, ◌++◌, Option, Some, None, IsTrue, slice_get, unwrap_or}
 use Rattle.std.specs.List.{filter_map}
 use Rattle.std.specs.Option.{option_to_list}
 use Rattle.std.proofs.Common.{refl, sym, ap, subst, ◌∙◌}
-use Rattle.std.proofs.Math.Logic.{⊎_elim}
-use Rattle.std.proofs.lemmas.Bool.{false≢true, or_cases, or_left, or_right}
+use Rattle.std.proofs.lemmas.Bool.{false≢true}
 use Rattle.dita_doc.specs.declared.plan.Plan.{Plan}
 use Rattle.dita_doc.specs.declared.plan.PlanNode.{PlanNode}
 use Rattle.dita_doc.specs.declared.plan.Target.{Target}
@@ -13,19 +12,9 @@ use Rattle.map_spec.specs.Pages.{local_name}
 use Rattle.page_spec.specs.Links.{target_of}
 use Rattle.readers.specs.Founded.{StaysFounded, homes, is_among}
 use Rattle.readers.specs.Told.{Told}
+use Rattle.readers.proofs.AmongLaws.{among_back, among_front}
 use Rattle.readers.proofs.FoundedLaws.{among_behind, among_first, stays_among, stays_one}
 use Rattle.toc_page.specs.Made.{contents_names}
-
-among_both : (names more : List (List ℕ)) (m : List ℕ) → IsTrue (is_among more m) → IsTrue (is_among (names ++ more) m)
-among_both [] more m among = among
-among_both (name ∷ names) more m among = or_right (bytes_eq name m) _ (among_both names more m among)
-
-among_front : (names more : List (List ℕ)) (m : List ℕ) → IsTrue (is_among names m) → IsTrue (is_among (names ++ more) m)
-among_front [] more m among = absurd (false≢true among)
-among_front (name ∷ names) more m among =
-    ⊎_elim (λ here. or_left (bytes_eq name m) _ here)
-    (λ behind. or_right (bytes_eq name m) _ (among_front names more m behind))
-    (or_cases (bytes_eq name m) (is_among names m) among)
 
 -- the documents to which nodes lead
 among_targets : (all : List Target) (at : ℕ) (name : List ℕ)
@@ -47,7 +36,7 @@ pub target_stays : (plan : Plan) (at : ℕ) (name : List ℕ) (old new : List To
     → local_name (target_of plan at) ≡ Some name → StaysFounded (name ∷ []) old new
     → StaysFounded (contents_names plan) old new
 target_stays plan at name old new named = stays_one name (contents_names plan) old new
-    (among_both (homes plan.nodes) _ name
+    (among_back (homes plan.nodes) _ name
     (among_front (filter_map local_name plan.targets) plan.documents name (among_targets plan.targets at name named)))
 
 target_named : (plan : Plan) (at : ℕ) (target : Target) (name : Option (List ℕ)) (old new : List Told)
@@ -75,5 +64,5 @@ homes_stay plan nodes old new is stays = stays_among (homes plan.nodes) (content
 pub documents_stay : (plan : Plan) (documents : List (List ℕ)) (old new : List Told) → documents ≡ plan.documents
     → StaysFounded documents old new → StaysFounded (contents_names plan) old new
 documents_stay plan documents old new is stays = stays_among plan.documents (contents_names plan) old new
-    (λ m here. among_both (homes plan.nodes) _ m (among_both (filter_map local_name plan.targets) plan.documents m here))
+    (λ m here. among_back (homes plan.nodes) _ m (among_back (filter_map local_name plan.targets) plan.documents m here))
     (subst (λ l. StaysFounded l old new) is stays)

@@ -21,29 +21,11 @@ use Rattle.plan_nodes.proofs.GivenLaws.{may_target}
 use Rattle.readers.specs.Founded.{AreAllowed, Grows, StaysFounded, homes, is_among}
 use Rattle.readers.specs.Named.{linked_by, linked_in, name_joined, names_of_element}
 use Rattle.readers.specs.Told.{Told, document, key}
+use Rattle.readers.proofs.AmongLaws.{among_back, among_either, among_front}
 use Rattle.readers.proofs.GrowthLaws.{are_allowed_before}
 use Rattle.readers.proofs.FoundedLaws.{among_one, given_allowed, stays_after, stays_among, stays_then}
 use Rattle.xref_links.specs.Adding.{IsRead}
 use Rattle.xref_links.specs.Names.{names_of, names_with}
-
-pub among_front : (a b : List (List ℕ)) (m : List ℕ) → IsTrue (is_among a m) → IsTrue (is_among (a ++ b) m)
-among_front [] b m among = absurd (false≢true among)
-among_front (name ∷ a) b m among =
-    ⊎_elim (λ here. or_left (bytes_eq name m) _ here)
-    (λ there. or_right (bytes_eq name m) _ (among_front a b m there)) (or_cases (bytes_eq name m) _ among)
-
-pub among_back : (a b : List (List ℕ)) (m : List ℕ) → IsTrue (is_among b m) → IsTrue (is_among (a ++ b) m)
-among_back [] b m among = among
-among_back (name ∷ a) b m among = or_right (bytes_eq name m) _ (among_back a b m among)
-
--- among two lists is among one of them
-pub among_either : (a b : List (List ℕ)) (m : List ℕ) (P : Type 0) → (IsTrue (is_among a m) → P)
-    → (IsTrue (is_among b m) → P) → IsTrue (is_among (a ++ b) m) → P
-among_either [] b m P first second among = second among
-among_either (name ∷ a) b m P first second among =
-    ⊎_elim (λ here. first (or_left (bytes_eq name m) _ here))
-    (λ there. among_either a b m P (λ h. first (or_right (bytes_eq name m) _ h)) second there)
-    (or_cases (bytes_eq name m) _ among)
 
 -- The document that an href leads to: an element that has the href alone names no other
 
