@@ -31,19 +31,16 @@ list_of pushes faults = record { pushes = pushes; faults = faults }
 
 -- Entries
 
--- an entry was taken out, changed and put back
-pub entry_changed : (old middle new : Entries) (name : List ℕ) (change : Entry → Entry) (entry : Entry)
-    → HasAt old middle name None → HasAt middle new name (Some entry) → entry ≡ change (entry_at old name)
-    → IsChanged old new name change
-entry_changed old middle new name change entry out back is = record {
-  each = λ other. ap (λ (found : Option Entry). unwrap_or found no_entry)
-      (back.each other ∙ ap (λ found. if tree.is_at (slice_cmp nat_cmp name) other then Some entry else found)
-      (out.each other))
+-- an entry was changed in its place
+pub entry_changed : (old new : Entries) (name : List ℕ) (change : Entry → Entry) (entry : Entry)
+    → HasAt old new name entry → entry ≡ change (entry_at old name) → IsChanged old new name change
+entry_changed old new name change entry put is = record {
+  each = λ other. ap (λ (found : Option Entry). unwrap_or found no_entry) (put.each other)
       ∙ by_test other (tree.is_at (slice_cmp nat_cmp name) other) refl;
 }
   where
     by_test : (other : List ℕ) (test : Bool) → tree.is_at (slice_cmp nat_cmp name) other ≡ test
-        → unwrap_or (if test then Some entry else (if test then None else entry_in old other)) no_entry
+        → unwrap_or (if test then Some entry else entry_in old other) no_entry
         ≡ (if test then change (entry_at old other) else entry_at old other)
     by_test other true at = is ∙ ap (λ n. change (entry_at old n)) (same_at name other at)
     by_test other false at = refl

@@ -1,6 +1,6 @@
 -- The pushes of some documents as a table (own): for each document what is pushed into it, the faults that stand in it,
 -- and whether an element of it acts.
-use Rattle.std.specs.Prelude.{◌≡◌, ◌==◌, ◌&&◌, ◌||◌, ◌++◌, ℕ, Bool, false, true, not, List, [], ◌∷◌, Option, length, filter, map, unwrap_or, if◌then◌else◌}
+use Rattle.std.specs.Prelude.{Some, ◌≡◌, ◌==◌, ◌&&◌, ◌||◌, ◌++◌, ℕ, Bool, false, true, not, List, [], ◌∷◌, Option, length, filter, map, unwrap_or, if◌then◌else◌}
 use Rattle.std.specs.BTreeMap as tree
 use Rattle.std.specs.Cmp.Lexicographic.{slice_cmp}
 use Rattle.std.specs.Coded.{Coded, Coded-set, codes}
@@ -71,10 +71,10 @@ pub record IsChanged (old new : Entries) (name : List ℕ) (change : Entry → E
   pub each : (other : List ℕ) → entry_at new other ≡
       (if tree.is_at (slice_cmp nat_cmp name) other then change (entry_at old other) else entry_at old other)
 
--- an entry is taken out, or put in; the others stay
-pub record HasAt (old new : Entries) (name : List ℕ) (entry : Option Entry) : Type 0 where
+-- an entry is put in; the others stay
+pub record HasAt (old new : Entries) (name : List ℕ) (entry : Entry) : Type 0 where
   pub each : (other : List ℕ) → entry_in new other ≡
-      (if tree.is_at (slice_cmp nat_cmp name) other then entry else entry_in old other)
+      (if tree.is_at (slice_cmp nat_cmp name) other then Some entry else entry_in old other)
 
 entry_code : Coded Entry
 entry_code = hlevel codes

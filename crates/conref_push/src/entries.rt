@@ -20,6 +20,16 @@ impl Entry {
     ghost use Rattle.std.specs.Prelude.{◌≡◌};
     ghost use Rattle.conref_push.specs.Table as spec;
 
+    fn new(alloc: Global) -> Entry
+        ensures { result ≡ spec.no_entry }
+    {
+        Entry {
+            pushes: List::new(alloc),
+            faults: List::new(alloc),
+            acts: false,
+        }
+    }
+
     pub fn touches(&self) -> bool
         ensures { result ≡ spec.touched_by self.now }
     {
@@ -52,9 +62,8 @@ impl Entries {
     pub fn add_push(&mut self, alloc: Global, name: &Name, push: Push) -> Result<(), NoMemory>
         ensures { OnOk result (spec.IsChanged self.old self.new name.now (spec.with_push push)) }
     {
-        let mut entry = self.take(alloc, name);
-        entry.pushes.push(push)?;
-        self.put(name, entry)
+        let entry = self.map.entry(name.clone()?)?.or_insert(Entry::new(alloc));
+        Ok(entry.pushes.push(push)?)
     }
 
     // Puts a fault behind the others that stand in a document.
@@ -62,39 +71,16 @@ impl Entries {
         ensures { OnOk result (spec.IsChanged self.old self.new name.now
             (spec.with_fault fault)) }
     {
-        let mut entry = self.take(alloc, name);
-        entry.faults.push(fault)?;
-        self.put(name, entry)
+        let entry = self.map.entry(name.clone()?)?.or_insert(Entry::new(alloc));
+        Ok(entry.faults.push(fault)?)
     }
 
     // Notes that an element of a document acts.
     pub fn set_acts(&mut self, alloc: Global, name: &Name) -> Result<(), NoMemory>
         ensures { OnOk result (spec.IsChanged self.old self.new name.now spec.with_acts) }
     {
-        let mut entry = self.take(alloc, name);
+        let entry = self.map.entry(name.clone()?)?.or_insert(Entry::new(alloc));
         entry.acts = true;
-        self.put(name, entry)
-    }
-
-    // Takes out the entry of a document, if it has one.
-    fn take(&mut self, alloc: Global, name: &Name) -> Entry
-        ensures entry { result ≡ spec.entry_at self.old name.now }
-        ensures others { spec.HasAt self.old self.new name.now None }
-    {
-        match self.map.remove(name) {
-            Some(entry) => entry,
-            None => Entry {
-                pushes: List::new(alloc),
-                faults: List::new(alloc),
-                acts: false,
-            },
-        }
-    }
-
-    fn put(&mut self, name: &Name, entry: Entry) -> Result<(), NoMemory>
-        ensures { OnOk result (spec.HasAt self.old self.new name.now (Some entry)) }
-    {
-        self.map.insert(name.clone()?, entry)?;
         Ok(())
     }
 }

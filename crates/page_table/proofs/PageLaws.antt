@@ -1,9 +1,9 @@
 -- The table, one page after the other, and what is found in it.
-use Rattle.std.specs.Prelude.{◌≡◌, ◌+◌, ◌&&◌, ◌||◌, not, ℕ, Bool, true, false, List, [], ◌∷◌, ◌++◌, Option, Some, None, cond, is_some, length, option_map, bytes_eq, if◌then◌else◌}
+use Rattle.std.specs.Prelude.{◌≡◌, ◌&&◌, ◌||◌, not, ℕ, Bool, true, false, List, [], ◌∷◌, ◌++◌, Option, Some, None, cond, is_some, length, option_map}
 use Rattle.std.specs.BTreeMap as tree
 use Rattle.std.specs.Cmp.Lexicographic.{slice_cmp, texts_ties}
 use Rattle.std.specs.Option.{option_or}
-use Rattle.std.specs.Ordering.{is_eq, nat_cmp}
+use Rattle.std.specs.Ordering.{nat_cmp}
 use Rattle.std.proofs.Common.{refl, sym, ap, subst, ◌∙◌}
 use Rattle.dita_doc.proofs.NameOrder.{same_from_equal}
 use Rattle.dita_doc.specs.declared.plan.PageId.{PageId}
@@ -34,7 +34,7 @@ abbrev PutsDoc : PageTable → PageTable → List ℕ → DocPages → Type 0
 PutsDoc old new name doc = (q : List ℕ) → doc_in new q
     ≡ cond (tree.is_at (slice_cmp nat_cmp name) q) (Some doc) (doc_in old q)
 
-abbrev PutsPage : PageTable → PageTable → PageKey → ℕ → Type 0
+abbrev pub PutsPage : PageTable → PageTable → PageKey → ℕ → Type 0
 PutsPage old new key place = (q : PageKey) → page_at new q ≡ cond (tree.is_at (order key) q) (Some place) (page_at old q)
 
 module _ (pages : List PagePlan) (page : PagePlan) (old new : PageTable) (before : IsPageTable pages old) where
@@ -192,7 +192,7 @@ module _ (pages : List PagePlan) (page : PagePlan) (old new : PageTable) (before
 
 -- A key is fresh if no page has it. A document that is new has no page, so that its key is
 
-abbrev IsFresh : PageTable → DocPages → PageKey → Bool
+abbrev pub IsFresh : PageTable → DocPages → PageKey → Bool
 IsFresh table doc key = doc.alone || not (is_some (page_at table key))
 
 not_there : (there : Bool) → true ≡ not there → there ≡ false

@@ -1,6 +1,9 @@
 //! The table of a plan's pages.
 
-ghost use Rattle.std.specs.Prelude.{◌≡◌, ◌++◌, ◌||◌, [], ◌∷◌, List, length, is_some, not, IfOk, OnOk};
+ghost use Rattle.std.specs.Prelude.{◌≡◌, ◌++◌, ◌||◌, [], ◌∷◌, ℕ, List, Some, length, is_some, not, IfOk, OnOk, if◌then◌else◌};
+ghost use Rattle.std.specs.BTreeMap as tree;
+ghost use Rattle.std.specs.Cmp.Lexicographic.{slice_cmp};
+ghost use Rattle.std.specs.Ordering.{nat_cmp};
 ghost use Rattle.dita_doc.specs.declared.plan.PagePlan as page_plan_spec;
 ghost use Rattle.map_spec.specs.Pages as pages_spec;
 ghost use Rattle.page_table.specs.Pages as spec;
@@ -10,6 +13,7 @@ use dita_doc::{Name, NoMemory, PageId, PagePlan};
 use plan_nodes::place_of;
 use std::alloc::Global;
 use std::collections::BTreeMap;
+use std::collections::btree_map::Entry;
 
 // The first page of a document, and whether it has no other.
 #[derive(Clone, Copy, Debug)]
@@ -53,9 +57,8 @@ impl PageTable {
             → OnOk result (spec.IsPageTable (pages ++ page.now ∷ []) self.new) }
     {
         let place = place_of(index)?;
-        let doc = self.doc_with(&page.id.doc, place);
         let key = key_of(alloc, &page.id.doc, &page.id)?;
-        self.docs.insert(page.id.doc.clone()?, doc)?;
+        let doc = self.put_doc(page.id.doc.clone()?, place)?;
         if self.is_fresh(doc, &key) {
             self.pages.insert(key, place)?;
         }
@@ -69,19 +72,28 @@ impl PageTable {
         doc.alone || !self.pages.contains_key(key)
     }
 
-    // The first page of a document, when one more is at this place.
-    fn doc_with(&self, name: &Name, place: u32) -> DocPages
-        ensures { result ≡ spec.doc_with (spec.doc_in self.now name.now) place }
+    // Notes that a document has one more page, at this place, and gives its first page.
+    fn put_doc(&mut self, name: Name, place: u32) -> Result<DocPages, NoMemory>
+        ensures doc { IfOk result (λ doc. doc
+            ≡ spec.doc_with (spec.doc_in self.old name) place) }
+        ensures docs { IfOk result (λ doc. (other : List ℕ) → spec.doc_in self.new other
+            ≡ (if tree.is_at (slice_cmp nat_cmp name) other then Some doc
+            else spec.doc_in self.old other)) }
+        ensures pages { self.new.pages ≡ self.old.pages }
     {
-        match self.docs.get(name) {
-            Some(known) => DocPages {
-                first: known.first,
-                alone: false,
-            },
-            None => DocPages {
-                first: place,
-                alone: true,
-            },
+        match self.docs.entry(name)? {
+            Entry::Occupied(known) => {
+                let doc = known.into_mut();
+                doc.alone = false;
+                Ok(*doc)
+            }
+            Entry::Vacant(absent) => {
+                let doc = absent.insert(DocPages {
+                    first: place,
+                    alone: true,
+                });
+                Ok(*doc)
+            }
         }
     }
 

@@ -50,10 +50,11 @@ fn walk_to_element<'a>(
                 rest,
                 ..
             } => {
-                if is_meant(node, around, meant) {
+                let is_topic = is_topic(node);
+                if is_meant(node, is_topic, around, meant) {
                     return ControlFlow::Break(here);
                 }
-                let nearest = topic_inside(here, node, around);
+                let nearest = topic_inside(here, node, is_topic, around);
                 here = walk_to_element(inside, here + 1, nearest, meant)?;
                 left = rest;
             }
@@ -65,13 +66,16 @@ fn walk_to_element<'a>(
 pub(crate) fn topic_inside<'a>(
     place: u32,
     element: &'a Node,
+    is_topic: bool,
     around: Option<TopicAround<'a>>,
 ) -> Option<TopicAround<'a>>
-    ensures { (name : List ℕ) → option_map walk_spec.topic_at result
+    ensures { (name : List ℕ)
+        → is_topic ≡ places_spec.is_topic (walk_spec.element_of name element.now)
+        → option_map walk_spec.topic_at result
         ≡ places_spec.topic_inside place (walk_spec.element_of name element.now)
         (option_map walk_spec.topic_at around.entry) }
 {
-    if is_topic(element) {
+    if is_topic {
         let id = element.value_of("id").unwrap_or("");
         Some(TopicAround { place, id })
     } else {
@@ -80,11 +84,18 @@ pub(crate) fn topic_inside<'a>(
 }
 
 // Whether this is the element that is meant, by the nearest topic around it.
-fn is_meant(element: &Node, around: Option<TopicAround<'_>>, meant: ElementMeant<'_>) -> bool
-    ensures { (name : List ℕ) → result ≡ walk_spec.is_element_meant meant.entry
+fn is_meant(
+    element: &Node,
+    is_topic: bool,
+    around: Option<TopicAround<'_>>,
+    meant: ElementMeant<'_>,
+) -> bool
+    ensures { (name : List ℕ)
+        → is_topic ≡ places_spec.is_topic (walk_spec.element_of name element.now)
+        → result ≡ walk_spec.is_element_meant meant.entry
         (option_map walk_spec.topic_at around.entry) (walk_spec.element_of name element.now) }
 {
-    if is_topic(element) {
+    if is_topic {
         return false;
     }
     has_id(element, meant.id) && is_in_topic(around, meant.topic)

@@ -184,8 +184,9 @@ fn add_elements<'a>(
                 rest,
                 ..
             } => {
-                add_one(alloc, table, here, node, around)?;
-                let nearest = topic_inside(here, node, around);
+                let is_topic = is_topic(node);
+                add_one(alloc, table, here, node, is_topic, around)?;
+                let nearest = topic_inside(here, node, is_topic, around);
                 here = add_elements(alloc, table, inside, here + 1, nearest)?;
                 left = rest;
             }
@@ -200,16 +201,18 @@ fn add_one(
     table: &mut TargetTable,
     place: u32,
     element: &Node,
+    is_topic: bool,
     around: Option<TopicAround<'_>>,
 ) -> Result<(), NoMemory>
     ensures { (name : List ℕ) (seen : List Standing) (one : Standing)
+        → is_topic ≡ places_spec.is_topic (walk_spec.element_of name element.now)
         → table_spec.IsTableOf table.old seen
         → table_spec.IsNext seen one place (walk_spec.element_of name element.now)
         (option_map walk_spec.topic_at around.entry)
         → OnOk result (table_spec.IsTableOf table.new (seen ++ one ∷ [])) }
 {
     let id = id_of(element);
-    if is_topic(element) {
+    if is_topic {
         return table.add_topic(alloc, place, id);
     }
     let Some(topic) = around else {
@@ -248,8 +251,6 @@ fn add_first<K: Ord + Drop>(
     ensures { OnOk result ((other : K) → tree.get K.cmp places.new other
         ≡ table_spec.or_at (tree.get K.cmp places.old other) (is_eq (K.cmp key other)) place) }
 {
-    if !places.contains_key(&key) {
-        places.insert(key, place)?;
-    }
+    places.entry(key)?.or_insert(place);
     Ok(())
 }

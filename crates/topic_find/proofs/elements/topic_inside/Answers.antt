@@ -4,7 +4,7 @@ use Rattle.topic_find.proofs.WalkLaws.{read_or}
 use Rattle.topic_find.proofs.elements.topic_inside.Goals as goal
 
 pub returns-then-is_topic : goal.returns-then-is_topic
-returns-then-is_topic c = λ name. rw (← c.if-is_topic.ensures name) (ap
+returns-then-is_topic c = λ name typed. rw (← typed, c.if-is_topic.true) (ap
     (λ id. (let topic : TopicAt = record { place = c.args.place; id = id } in Some topic))
     (
     ap (λ text. text.now) c.unwrap_or-id.ensures
@@ -13,4 +13,4 @@ returns-then-is_topic c = λ name. rw (← c.if-is_topic.ensures name) (ap
     ))
 
 pub returns-else-is_topic : goal.returns-else-is_topic
-returns-else-is_topic c = λ name. rw (← c.if-is_topic.ensures name) refl
+returns-else-is_topic c = λ name typed. rw (← typed, c.if-is_topic.false) refl

@@ -34,8 +34,8 @@ loop-rest-preserved t c = record {
       (option_map topic_at c.topic_inside-nearest.result) (content_in name c.loop-rest.left) _
       (element_of name c.in-Element.node.now) (content_in name c.in-Element.inside) (content_in name c.in-Element.rest)
       (ap (written_in name) c.in-Element.ensures.content)
-      (λ some one are next. c.in_ok-add_one-in-Element.ensures name some one are next)
-      (c.topic_inside-nearest.ensures name)
+      (λ some one are next. c.in_ok-add_one-in-Element.ensures name some one (c.is_topic-is_topic.ensures name) are next)
+      (c.topic_inside-nearest.ensures name (c.is_topic-is_topic.ensures name))
       (λ some earlier are none. c.in_ok-here-in-Element.ensures.table name some earlier are none)
       past (c.loop-rest.invariant.way name seen before is inside);
   size = omega (arith, ap size_of c.in-Element.ensures.content);

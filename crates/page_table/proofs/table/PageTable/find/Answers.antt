@@ -1,4 +1,4 @@
-use Rattle.page_table.proofs.PageLaws.{found_alone, found_first, found_key, found_nothing}
+use Rattle.page_table.proofs.PageLaws.{found_nothing}
 use Rattle.page_table.proofs.table.PageTable.find.Goals as goal
 
 pub returns-in_default : goal.returns-in_default

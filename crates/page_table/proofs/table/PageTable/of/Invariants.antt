@@ -1,4 +1,4 @@
-use Rattle.std.proofs.Common.{◌≡◌, take}
+use Rattle.std.proofs.Common.{take}
 use Rattle.page_table.specs.Pages.{IsPageTable}
 use Rattle.page_table.proofs.table.PageTable.of.Given as goal
 
