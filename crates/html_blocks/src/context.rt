@@ -5,6 +5,7 @@ ghost use Rattle.html_blocks.specs.Shown as shown_spec;
 ghost use Rattle.page_spec.specs.Blocks as blocks_spec;
 
 use dita_doc::Node;
+use html_forms::is_same_token;
 use html_tables::TableContext;
 
 /// The nearest of topic, section or example, figure and table around an element.
@@ -94,7 +95,7 @@ impl<'a> Context<'a> {
         ensures nearest { result.around ≡ self.entry.around }
         ensures tables { result.tables ≡ self.entry.tables }
     {
-        if token != "topic/topic" {
+        if !is_same_token(token.as_bytes(), b"topic/topic") {
             return self;
         }
         Context {
@@ -109,11 +110,18 @@ fn around_in(token: &str, around: Around) -> Around
     ensures { shown_spec.around_shown result
         ≡ blocks_spec.around_in token.now (shown_spec.around_shown around) }
 {
-    match token {
-        "topic/topic" => Around::Topic,
-        "topic/section" | "topic/example" => Around::Section,
-        "topic/fig" => Around::Figure,
-        "topic/table" => Around::Table,
-        _ => around,
+    let token = token.as_bytes();
+    if is_same_token(token, b"topic/topic") {
+        return Around::Topic;
     }
+    if is_same_token(token, b"topic/section") || is_same_token(token, b"topic/example") {
+        return Around::Section;
+    }
+    if is_same_token(token, b"topic/fig") {
+        return Around::Figure;
+    }
+    if is_same_token(token, b"topic/table") {
+        return Around::Table;
+    }
+    around
 }

@@ -1,9 +1,7 @@
 -- The rows of the table as the definition of a page has them.
-use Rattle.std.specs.Prelude.{ℕ, Bool, List, [], ◌∷◌, Option, option_map, if◌then◌else◌}
+use Rattle.std.specs.Prelude.{ℕ, List, Option, option_map}
 use Rattle.std.specs.Borrow.{Bor}
-use Rattle.std.specs.Cmp.Lexicographic.{slice_cmp}
 use Rattle.std.specs.List.{filter_map}
-use Rattle.std.specs.Ordering.{is_lt, nat_cmp}
 use Rattle.html_forms.specs.declared.forms.Form.{Form}
 use Rattle.html_forms.specs.declared.forms.Form.TheVariants as forms
 use Rattle.page_spec.specs.Blocks as blocks
@@ -37,19 +35,3 @@ form_found form = option_map form_shown_of form
 -- the last of some tokens that the table has
 abbrev pub row_among : List (List ℕ) → Option (List ℕ × blocks.Form)
 row_among tokens = last_of (filter_map row_of tokens)
-
--- Rows in the order of their tokens
-
-abbrev pub Shown : Type 0
-Shown = List ℕ × blocks.Form
-
-abbrev pub is_below : List ℕ → List ℕ → Bool
-is_below first second = is_lt (slice_cmp nat_cmp first second)
-
-abbrev pub put_in : Shown → List Shown → List Shown
-put_in row [] = row ∷ []
-put_in row (first ∷ more) = if is_below row.0 first.0 then row ∷ first ∷ more else first ∷ put_in row more
-
-abbrev pub by_tokens : List Shown → List Shown
-by_tokens [] = []
-by_tokens (row ∷ rows) = put_in row (by_tokens rows)

@@ -1,6 +1,6 @@
 //! The row of the table that counts for an element.
 
-ghost use Rattle.std.specs.Prelude.{◌≡◌, ℕ, List, map, option_map};
+ghost use Rattle.std.specs.Prelude.{◌≡◌, ℕ, List, bytes_eq, option_map};
 ghost use Rattle.dita_doc.specs.ClassValue.{words_of};
 ghost use Rattle.doc_elements.specs.Walk as walk_spec;
 ghost use Rattle.html_forms.specs.Shown as shown_spec;
@@ -48,16 +48,17 @@ pub fn row_among(tokens: &[u8]) -> Option<(&'static str, Form)>
 fn row_named(token: &[u8]) -> Option<(&'static str, Form)>
     ensures { shown_spec.row_found result ≡ blocks_spec.row_of token.now }
 {
-    row_in(&ROWS, token)
+    ROWS.iter()
+        .find(|row| is_same_token(row.0.as_bytes(), token))
+        .copied()
 }
 
-// The row of a token among rows that stand by their tokens.
-fn row_in(rows: &[(&'static str, Form)], token: &[u8]) -> Option<(&'static str, Form)>
-    requires { map shown_spec.row_shown_of rows.now ≡ shown_spec.by_tokens blocks_spec.forms }
-    ensures { shown_spec.row_found result ≡ blocks_spec.row_of token.now }
+/// Whether two tokens are one. Their lengths are compared first: most tokens differ in them.
+pub fn is_same_token(one: &[u8], other: &[u8]) -> bool
+    ensures { result ≡ bytes_eq one.now other.now }
 {
-    match rows.binary_search_by(|row| row.0.as_bytes().cmp(&token)) {
-        Ok(at) => Some(rows[at]),
-        Err(_) => None,
+    if one.len() != other.len() {
+        return false;
     }
+    one == other
 }

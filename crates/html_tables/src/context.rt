@@ -3,6 +3,8 @@
 ghost use Rattle.std.specs.Prelude.{◌≡◌};
 ghost use Rattle.page_spec.specs.Blocks as blocks_spec;
 
+use html_forms::is_same_token;
+
 /// Whether a cell heads its column here, and the nearest group of rows.
 #[derive(Clone, Copy, Debug)]
 pub struct TableContext {
@@ -50,19 +52,25 @@ impl TableContext {
 fn head_in(token: &str, around: bool) -> bool
     ensures { result ≡ blocks_spec.head_in token.now around }
 {
-    match token {
-        "topic/thead" => true,
-        "topic/tbody" | "topic/table" => false,
-        _ => around,
+    let token = token.as_bytes();
+    if is_same_token(token, b"topic/thead") {
+        return true;
     }
+    if is_same_token(token, b"topic/tbody") || is_same_token(token, b"topic/table") {
+        return false;
+    }
+    around
 }
 
 fn simple_head_in(token: &str, around: bool) -> bool
     ensures { result ≡ blocks_spec.simple_head_in token.now around }
 {
-    match token {
-        "topic/sthead" => true,
-        "topic/strow" | "topic/simpletable" => false,
-        _ => around,
+    let token = token.as_bytes();
+    if is_same_token(token, b"topic/sthead") {
+        return true;
     }
+    if is_same_token(token, b"topic/strow") || is_same_token(token, b"topic/simpletable") {
+        return false;
+    }
+    around
 }
