@@ -272,6 +272,14 @@ pub links_more : (told : List Told) (links : List Link) (link : Link) → AreGiv
 links_more told [] link given more = (more, tt)
 links_more told (one ∷ links) link given more = (given.0, links_more told links link given.1 more)
 
+-- the last of them, and those before it
+pub links_apart : (told : List Told) (links : List Link) (link : Link) → AreGivenTo told (links ++ link ∷ [])
+    → AreGivenTo told links × IsGivenTo told link
+links_apart told [] link given = (tt, given.0)
+links_apart told (one ∷ links) link given =
+    let behind = links_apart told links link given.1 in
+    ((given.0, behind.0), behind.1)
+
 -- one of them
 pub link_given : (told : List Told) (links : List Link) (at : ℕ) (link : Link) → AreGivenTo told links
     → at < length links → link ≡ get_or links at link → IsGivenTo told link

@@ -9,6 +9,11 @@ pub mod EndLaws
 pub mod FileLaws
 pub mod FindLaws
 pub mod FollowLaws
+pub mod HrefDocLaws
+pub mod HrefGivenLaws
+pub mod HrefLaws
+pub mod HrefMergeLaws
+pub mod HrefWalkLaws
 pub mod JudgeLaws
 pub mod KnownLaws
 pub mod LabelLaws

@@ -6,8 +6,9 @@ use Rattle.doc_maker.specs.Building.{Building, behind}
 use Rattle.doc_maker.proofs.BuildingLaws.{behind_behind, behind_end, beside_end}
 use Rattle.map_spec.specs.Written.{Written}
 use Rattle.page_spec.specs.Content.{Made, count_limit, made_beside, nothing_made}
-use Rattle.conref_pull.specs.Putting.{IsPut, built}
+use Rattle.conref_pull.specs.Putting.{IsPut, IsSameMaker, built}
 use Rattle.conref_pull.specs.declared.resolver.Resolver.{Resolver}
+use Rattle.conref_pull.proofs.SettingLaws.{paging}
 
 pub put_nothing : (a b : Resolver) → b ≡ a → a.count ≤ count_limit → IsPut nothing_made a b
 put_nothing a b same room = record {
@@ -44,3 +45,17 @@ pub nothing_beside : (made : Made) → made_beside nothing_made made ≡ made
 nothing_beside made =
     let count : 0 + made.count ≡ made.count = omega arith in
     ap (λ n. (let all : Made = record { nodes = made.nodes; count = n; faults = made.faults } in all)) count
+
+-- Where nothing is put
+
+pub maker_same : (a b : Resolver) → b ≡ a → IsSameMaker a b
+maker_same a b is = record { is = ap (λ (r : Resolver). r.maker) is }
+
+pub maker_faults : (a b : Resolver) (faults : List Fault) → b ≡ record a { faults = faults } → IsSameMaker a b
+maker_faults a b faults is = record { is = ap (λ (r : Resolver). r.maker) is }
+
+pub maker_then : (a b c : Resolver) → IsSameMaker a b → IsSameMaker b c → IsSameMaker a c
+maker_then a b c first next = record { is = next.is ∙ first.is }
+
+-- what closes most claims that the page is the same, and that nothing is put
+pub ruleset making = (paging, maker_same, maker_faults, maker_then)

@@ -3,6 +3,7 @@ pub mod Around
 pub mod Asking
 pub mod Count
 pub mod Found
+pub mod Hrefs
 pub mod Judging
 pub mod Linked
 pub mod Merging

@@ -23,3 +23,7 @@ abbrev pub Puts : Result (Unit {0}) (Stop TooMany) → Made → Resolver → Res
 Puts (Ok done) made old new = IsPut made old new
 Puts (Err (stops.Fault fault)) made old new = count_limit < old.count + made.count
 Puts (Err stops.NoMemory) made old new = Unit {0}
+
+-- nothing is put
+pub record IsSameMaker (old new : Resolver) : Type 0 where
+  pub is : new.maker ≡ old.maker

@@ -35,6 +35,7 @@ impl<'a> Resolver<'a> {
     ghost use Rattle.conref_pull.specs.Accepting as accepting_spec;
     ghost use Rattle.conref_pull.specs.Found as found_spec;
     ghost use Rattle.conref_pull.specs.Linked as linked_spec;
+    ghost use Rattle.conref_pull.specs.Putting.{IsSameMaker};
     ghost use Rattle.conref_pull.specs.Setting as setting_spec;
     ghost use Rattle.conref_pull.specs.Step as step_spec;
     ghost use Rattle.conref_pull.specs.Tables.{AreTables, Documents};
@@ -42,7 +43,7 @@ impl<'a> Resolver<'a> {
     // Takes a target into an element that is resolved within so many others; none, with a fault, if
     // its type does not fit, its range has no end, it is being resolved already, or it would be too
     // deep.
-    #[tactic(auto, using(crate::proofs::SettingLaws::paging))]
+    #[tactic(auto, using(crate::proofs::PutLaws::making))]
     pub(crate) fn accept(
         &mut self,
         places: &mut PlaceTables,
@@ -62,6 +63,7 @@ impl<'a> Resolver<'a> {
             (walk_spec.element_of origin.now element.now) meant)) self.old self.new places.new link) }
         ensures doc { IfOk result (λ link. IfSome link (λ one. one.doc ≡ found.entry.doc)) }
         ensures page { OnOk result (setting_spec.IsSamePage self.old self.new) }
+        ensures maker { OnOk result (IsSameMaker self.old self.new) }
     {
         let Some(target) = whole_at(&found.doc, found.place) else {
             return Ok(None);

@@ -4,16 +4,19 @@ ghost use Rattle.std.specs.Prelude.{◌≡◌, ◌+◌, ◌++◌, [], ◌∷◌,
 ghost use Rattle.std.specs.Option.{option_copied};
 ghost use Rattle.dita_doc.specs.Tree.{tree_of};
 ghost use Rattle.dita_doc.specs.declared.plan.PlanNode.{PlanNode};
+ghost use Rattle.doc_maker.specs.Made as made_spec;
 ghost use Rattle.map_spec.specs.Written as written_spec;
 ghost use Rattle.page_spec.specs.Content as content_spec;
 ghost use Rattle.page_spec.specs.Content.{Made, count_limit, within};
 ghost use Rattle.reader_spec.specs.World.{World};
 ghost use Rattle.readers.specs.Documents.{AsksOnly};
 ghost use Rattle.readers.specs.Founded as founded_spec;
-ghost use Rattle.readers.specs.Founded.{Grows, StaysFounded};
-ghost use Rattle.readers.specs.Told.{Agrees};
+ghost use Rattle.readers.specs.Founded.{AreAllowed, Grows, StaysFounded};
+ghost use Rattle.readers.specs.Named as named_spec;
+ghost use Rattle.readers.specs.Told.{Agrees, Told};
 ghost use Rattle.conref_pull.specs.Asking as asking_spec;
 ghost use Rattle.conref_pull.specs.Asking.{Asks};
+ghost use Rattle.conref_pull.specs.Hrefs.{HaveNamed, PutNamed};
 ghost use Rattle.conref_pull.specs.Resolved as resolved_spec;
 ghost use Rattle.conref_pull.specs.Resolved.{IsResolved, too_many_faults};
 ghost use Rattle.conref_pull.specs.Rules.{AreRules, ditavals};
@@ -56,6 +59,8 @@ pub fn resolve<A: Asker>(
     ensures asks { AsksOnly asking_spec.of_content (context.now.page.doc
         ∷ ditavals context.now.val context.now.page.filters) (A.told asker.old)
         (A.told asker.new) }
+    ensures given { IfOk result (λ resolved. (roots : List (List ℕ)) → AreAllowed roots
+        (A.told asker.new) (named_spec.linked_in (made_spec.resolved_tree resolved))) }
     ensures grows { Grows (A.told asker.old) (A.told asker.new) }
 {
     let mut tables = Tables::new(alloc);
@@ -82,6 +87,8 @@ pub fn resolve_page<A: Asker>(
     ensures asks { AsksOnly asking_spec.of_content (context.now.page.doc
         ∷ ditavals context.now.val context.now.page.filters) (A.told asker.old)
         (A.told asker.new) }
+    ensures given { IfOk result (λ resolved. (roots : List (List ℕ)) → AreAllowed roots
+        (A.told asker.new) (named_spec.linked_in (made_spec.resolved_tree resolved))) }
     ensures grows { Grows (A.told asker.old) (A.told asker.new) }
 {
     let mut tables = Tables::new(alloc);
@@ -114,6 +121,8 @@ pub fn resolve_with<A: Asker>(
     ensures asks { AsksOnly asking_spec.of_content (context.now.page.doc
         ∷ ditavals context.now.val context.now.page.filters) (A.told asker.old)
         (A.told asker.new) }
+    ensures given { IfOk result (λ resolved. (roots : List (List ℕ)) → AreAllowed roots
+        (A.told asker.new) (named_spec.linked_in (made_spec.resolved_tree resolved))) }
     ensures grows { Grows (A.told asker.old) (A.told asker.new) }
 {
     let Some(doc) = asker.pushed(alloc, &context.page.doc)? else {
@@ -158,6 +167,8 @@ pub fn resolve_page_with<A: Asker>(
     ensures asks { AsksOnly asking_spec.of_content (context.now.page.doc
         ∷ ditavals context.now.val context.now.page.filters) (A.told asker.old)
         (A.told asker.new) }
+    ensures given { IfOk result (λ resolved. (roots : List (List ℕ)) → AreAllowed roots
+        (A.told asker.new) (named_spec.linked_in (made_spec.resolved_tree resolved))) }
     ensures grows { Grows (A.told asker.old) (A.told asker.new) }
 {
     let Some(doc) = asker.pushed(alloc, &context.page.doc)? else {
@@ -187,6 +198,8 @@ fn finish<A: Asker>(
         → resolved_spec.IsDone done made resolver.entry → IfOk result (λ resolved. IsResolved
         resolved (within count_limit (too_many_faults world context.now.page.doc) made)) }
     ensures memory { OnOk result (resolved_spec.HasMemory done) }
+    ensures hrefs { (told : List Told) → OnOk done (PutNamed told resolver.entry)
+        → IfOk result (λ resolved. HaveNamed told (made_spec.resolved_tree resolved)) }
     ensures stand { A.stand asker.new ≡ A.stand asker.old }
     ensures asks { (nodes : List PlanNode) → Asks nodes (context.now.page.doc ∷ [])
         (A.told asker.old) (A.told asker.new) }
@@ -210,6 +223,8 @@ fn stopped<A: Asker>(
         → resolved_spec.IsStopped stop made → IfOk result (λ resolved. IsResolved
         resolved (within count_limit (too_many_faults world context.now.page.doc) made)) }
     ensures memory { OnOk result (resolved_spec.HasRoom stop) }
+    ensures hrefs { (told : List Told)
+        → IfOk result (λ resolved. HaveNamed told (made_spec.resolved_tree resolved)) }
     ensures stand { A.stand asker.new ≡ A.stand asker.old }
     ensures asks { (nodes : List PlanNode) → Asks nodes (context.now.page.doc ∷ [])
         (A.told asker.old) (A.told asker.new) }
@@ -233,6 +248,8 @@ fn too_many<A: Asker>(alloc: Global, asker: &mut A, context: &Context) -> Result
     ensures known { (world : World) → Agrees world (A.told asker.new)
         → IfOk result (λ resolved. IsResolved resolved (resolved_spec.too_much
         (too_many_faults world context.now.page.doc))) }
+    ensures hrefs { (told : List Told)
+        → IfOk result (λ resolved. HaveNamed told (made_spec.resolved_tree resolved)) }
     ensures stand { A.stand asker.new ≡ A.stand asker.old }
     ensures asks { (nodes : List PlanNode) → Asks nodes (context.now.page.doc ∷ [])
         (A.told asker.old) (A.told asker.new) }

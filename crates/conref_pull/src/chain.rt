@@ -19,9 +19,11 @@ pub(crate) struct Link {
 }
 
 impl Link {
-    ghost use Rattle.std.specs.Prelude.{◌≡◌, Some, IfSome};
+    ghost use Rattle.std.specs.Prelude.{◌≡◌, List, Some, IfSome};
     ghost use Rattle.std.specs.Arc.{arc_value};
+    ghost use Rattle.readers.specs.Told.{Told};
     ghost use Rattle.conref_pull.specs.Asking as asking_spec;
+    ghost use Rattle.conref_pull.specs.Hrefs.{WholeNamed};
     ghost use Rattle.conref_pull.specs.Linked as linked_spec;
     ghost use Rattle.conref_pull.specs.Origin as origin_spec;
     ghost use Rattle.conref_pull.specs.Step.{Taken};
@@ -33,6 +35,8 @@ impl Link {
         ensures names { IfSome result (λ whole. asking_spec.AreAmong
             (asking_spec.reused_of_whole whole)
             (asking_spec.reused_of_doc (arc_value self.now.doc))) }
+        ensures hrefs { (told : List Told) → asking_spec.IsGivenTo told self.now
+            → IfSome result (WholeNamed told) }
     {
         whole_at(&self.doc, self.place)
     }
@@ -51,6 +55,7 @@ impl Chain {
     ghost use Rattle.page_spec.specs.Content.{Place};
     ghost use Rattle.readers.specs.Told.{Told};
     ghost use Rattle.conref_pull.specs.Asking as asking_spec;
+    ghost use Rattle.conref_pull.specs.Hrefs.{WholeNamed};
     ghost use Rattle.conref_pull.specs.Linked as linked_spec;
     ghost use Rattle.conref_pull.specs.Origin as origin_spec;
     ghost use Rattle.conref_pull.specs.Step.{Taken};
@@ -63,6 +68,8 @@ impl Chain {
         ensures given { (told : List Told) → asking_spec.AreGivenTo told self.now.links.items
             → IfSome result (λ whole. asking_spec.AreGiven told
             (asking_spec.reused_of_whole whole)) }
+        ensures hrefs { (told : List Told) → asking_spec.AreGivenTo told self.now.links.items
+            → IfSome result (WholeNamed told) }
     {
         match self.links.split_first() {
             None => None,
@@ -83,6 +90,7 @@ impl<'a> Resolver<'a> {
     ghost use Rattle.readers.specs.Told.{Agrees};
     ghost use Rattle.conref_pull.specs.Asking.{AreGivenTo, Asks, IsGivenIf};
     ghost use Rattle.conref_pull.specs.Linked as linked_spec;
+    ghost use Rattle.conref_pull.specs.Putting.{IsSameMaker};
     ghost use Rattle.conref_pull.specs.Setting as setting_spec;
     ghost use Rattle.conref_pull.specs.Step as step_spec;
     ghost use Rattle.conref_pull.specs.Tables.{AreTables};
@@ -90,7 +98,7 @@ impl<'a> Resolver<'a> {
     // Follows the reference of an element, target by target, until one has none or can't be taken.
     // `topic` is the id of the topic around the element, and `links` tells within how many targets
     // it is resolved.
-    #[tactic(auto, using(crate::proofs::AskingLaws::following, crate::proofs::SettingLaws::paging))]
+    #[tactic(auto, using(crate::proofs::AskingLaws::following, crate::proofs::PutLaws::making))]
     pub(crate) fn chain<A: Asker>(
         &mut self,
         asker: &mut A,
@@ -118,6 +126,7 @@ impl<'a> Resolver<'a> {
             (A.told asker.new) }
         ensures given { IfOk result (λ chain. AreGivenTo (A.told asker.new) chain.links.items) }
         ensures page { OnOk result (setting_spec.IsSamePage self.old self.new) }
+        ensures maker { OnOk result (IsSameMaker self.old self.new) }
         ensures stand { A.stand asker.new ≡ A.stand asker.old }
         ensures grows { Grows (A.told asker.old) (A.told asker.new) }
     {
@@ -128,7 +137,7 @@ impl<'a> Resolver<'a> {
 
     // Puts the targets that an element takes behind others, and tells within how many targets the
     // content of the farthest is resolved.
-    #[tactic(auto, using(crate::proofs::AskingLaws::following, crate::proofs::SettingLaws::paging))]
+    #[tactic(auto, using(crate::proofs::AskingLaws::following, crate::proofs::PutLaws::making))]
     fn follow<A: Asker>(
         &mut self,
         asker: &mut A,
@@ -159,6 +168,7 @@ impl<'a> Resolver<'a> {
         ensures given { AreGivenTo (A.told asker.old) taken.old.items
             → OnOk result (AreGivenTo (A.told asker.new) taken.new.items) }
         ensures page { OnOk result (setting_spec.IsSamePage self.old self.new) }
+        ensures maker { OnOk result (IsSameMaker self.old self.new) }
         ensures stand { A.stand asker.new ≡ A.stand asker.old }
         ensures grows { Grows (A.told asker.old) (A.told asker.new) }
     {
@@ -176,7 +186,7 @@ impl<'a> Resolver<'a> {
 
     // Takes the target that an element refers to, within so many targets; none, if it has no
     // reference, or has a fault.
-    #[tactic(auto, using(crate::proofs::AskingLaws::following, crate::proofs::SettingLaws::paging))]
+    #[tactic(auto, using(crate::proofs::AskingLaws::following, crate::proofs::PutLaws::making))]
     fn take<A: Asker>(
         &mut self,
         asker: &mut A,
@@ -202,6 +212,7 @@ impl<'a> Resolver<'a> {
             (A.told asker.new) }
         ensures given { IfOk result (λ link. IsGivenIf (A.told asker.new) link) }
         ensures page { OnOk result (setting_spec.IsSamePage self.old self.new) }
+        ensures maker { OnOk result (IsSameMaker self.old self.new) }
         ensures stand { A.stand asker.new ≡ A.stand asker.old }
         ensures grows { Grows (A.told asker.old) (A.told asker.new) }
     {

@@ -59,13 +59,14 @@ impl<'a> Resolver<'a> {
     ghost use Rattle.readers.specs.Told.{Agrees};
     ghost use Rattle.conref_pull.specs.Asking.{Asks, IsGivenIn, names_of_value};
     ghost use Rattle.conref_pull.specs.Found as found_spec;
+    ghost use Rattle.conref_pull.specs.Putting.{IsSameMaker};
     ghost use Rattle.conref_pull.specs.Setting as setting_spec;
     ghost use Rattle.conref_pull.specs.Sought as sought_spec;
     ghost use Rattle.conref_pull.specs.Tables.{AreTables};
 
     // The target that an element refers to, by its key, or where that fails by its value; a fault,
     // if it can't be found.
-    #[tactic(auto, using(crate::proofs::AskingLaws::following, crate::proofs::SettingLaws::paging))]
+    #[tactic(auto, using(crate::proofs::AskingLaws::following, crate::proofs::PutLaws::making))]
     pub(crate) fn find<'b, A: Asker>(
         &mut self,
         asker: &mut A,
@@ -85,6 +86,7 @@ impl<'a> Resolver<'a> {
             → Asks nodes (self.old.context.now.page.doc ∷ names_of_value origin.now (option_copied sought.entry.conref)) (A.told asker.old) (A.told asker.new) }
         ensures given { IfOk result (λ found. IsGivenIn (A.told asker.new) found) }
         ensures page { OnOk result (setting_spec.IsSamePage self.old self.new) }
+        ensures maker { OnOk result (IsSameMaker self.old self.new) }
         ensures stand { A.stand asker.new ≡ A.stand asker.old }
         ensures grows { Grows (A.told asker.old) (A.told asker.new) }
     {

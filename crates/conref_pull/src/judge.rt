@@ -8,9 +8,20 @@ ghost use Rattle.map_spec.specs.Judged as judged_spec;
 ghost use Rattle.conref_pull.specs.Judging as judging_spec;
 
 use crate::resolver::Resolver;
+use crate::text::is_same;
 use dita_doc::{Attribute, Fault, FaultCode, List, Name, NoMemory, Node};
 use doc_elements::fault_at;
 use std::alloc::Global;
+
+// The names of the conditional attributes.
+const CONDITIONAL: [&str; 6] = [
+    "audience",
+    "platform",
+    "product",
+    "otherprops",
+    "props",
+    "deliveryTarget",
+];
 
 impl<'a> Resolver<'a> {
     ghost use Rattle.std.specs.Prelude.{◌≡◌, ◌++◌, IfOk, OnOk};
@@ -83,11 +94,12 @@ fn is_judged(attribute: &Attribute) -> bool
     is_conditional(attribute.name.as_str()) && !is_grouped(attribute)
 }
 
-// The value is looked at first: few have groups.
+// The name is looked at first: its length tells most names apart, while a value is searched to its
+// end.
 fn is_group(attribute: &Attribute) -> bool
     ensures { result ≡ judged_spec.is_group attribute.now }
 {
-    is_grouped(attribute) && is_conditional(attribute.name.as_str())
+    is_conditional(attribute.name.as_str()) && is_grouped(attribute)
 }
 
 fn is_grouped(attribute: &Attribute) -> bool
@@ -99,8 +111,5 @@ fn is_grouped(attribute: &Attribute) -> bool
 fn is_conditional(name: &str) -> bool
     ensures { result ≡ verdict_spec.is_conditional name.now }
 {
-    matches!(
-        name,
-        "audience" | "platform" | "product" | "otherprops" | "props" | "deliveryTarget"
-    )
+    CONDITIONAL.iter().any(|known| is_same(name, known))
 }

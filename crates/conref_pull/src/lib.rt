@@ -20,6 +20,7 @@ mod resolver;
 mod rules;
 mod standing;
 mod tables;
+mod text;
 mod types;
 mod walk;
 

@@ -6,17 +6,24 @@ ghost use Rattle.doc_elements.specs.Walk as walk_spec;
 ghost use Rattle.map_spec.specs.Written.{Element, Written};
 ghost use Rattle.page_spec.specs.Content as content_spec;
 ghost use Rattle.page_spec.specs.Content.{Place};
+ghost use Rattle.readers.specs.Told.{Told};
+ghost use Rattle.conref_pull.specs.Asking.{AreGivenTo, IsGivenTo};
+ghost use Rattle.conref_pull.specs.Hrefs.{HasNamed, MergedNamed};
 ghost use Rattle.conref_pull.specs.Linked as linked_spec;
 ghost use Rattle.conref_pull.specs.Merging as merging_spec;
 ghost use Rattle.conref_pull.specs.Step as step_spec;
 ghost use Rattle.conref_pull.specs.Step.{Taken};
 
 use crate::chain::Link;
+use crate::text::is_same;
 use dita_doc::{Attribute, List, Name, NoMemory, Node};
 use std::alloc::Global;
 
 // The value that an element leaves to its target.
 pub(crate) const USE_TARGET: &str = "-dita-use-conref-target";
+
+// The names of attributes that an element does not take from its target.
+const NOT_TAKEN: [&str; 5] = ["id", "conref", "conkeyref", "conrefend", "conaction"];
 
 // The attributes of an element with those that it takes, and the document in which its href was
 // written.
@@ -32,6 +39,9 @@ impl Merged {
     ghost use Rattle.map_spec.specs.Written.{Element};
     ghost use Rattle.page_spec.specs.Content as content_spec;
     ghost use Rattle.page_spec.specs.Content.{Place};
+    ghost use Rattle.readers.specs.Told.{Told};
+    ghost use Rattle.conref_pull.specs.Asking.{AreGivenTo, IsGivenTo};
+    ghost use Rattle.conref_pull.specs.Hrefs.{HasNamed, MergedNamed};
     ghost use Rattle.conref_pull.specs.Linked as linked_spec;
     ghost use Rattle.conref_pull.specs.Merging as merging_spec;
     ghost use Rattle.conref_pull.specs.Step.{Taken};
@@ -53,8 +63,11 @@ impl Merged {
 
     // What an element does not leave to its target.
     fn specified(alloc: Global, origin: &Name, element: &Node) -> Result<Merged, NoMemory>
-        ensures { IfOk result (λ merged. merging_spec.IsMerged merged
+        ensures merged { IfOk result (λ merged. merging_spec.IsMerged merged
             (merging_spec.own_part (walk_spec.element_of origin.now element.now))) }
+        ensures hrefs { (told : List Told)
+            → HasNamed told (walk_spec.element_of origin.now element.now)
+            → IfOk result (MergedNamed told) }
     {
         let mut attributes = List::new(alloc);
         append_specified(&mut attributes, element)?;
@@ -67,9 +80,11 @@ impl Merged {
     // The same with what it has not from these targets, the nearest of which stands last. Each of
     // them leaves values to the one before it.
     fn with_nearer(self, alloc: Global, nearer: &[Link]) -> Result<Merged, NoMemory>
-        ensures { (path : List Place) (end : ℕ) (taken : List Taken) (own : Element)
+        ensures merged { (path : List Place) (end : ℕ) (taken : List Taken) (own : Element)
             → linked_spec.AreLinks path end taken nearer.now → merging_spec.IsMerged self own
             → IfOk result (λ merged. merging_spec.TakesAll merged own taken) }
+        ensures hrefs { (told : List Told) → AreGivenTo told nearer.now → MergedNamed told self
+            → IfOk result (MergedNamed told) }
     {
         let mut merged = self;
         let mut left = nearer;
@@ -82,9 +97,11 @@ impl Merged {
 
     // The same with what it has not from a target, which may leave values to another.
     fn with_link(self, alloc: Global, link: &Link, leaves: bool) -> Result<Merged, NoMemory>
-        ensures { (own : Element) (one : Taken) → merging_spec.IsMerged self own
+        ensures merged { (own : Element) (one : Taken) → merging_spec.IsMerged self own
             → linked_spec.IsLink link.now one → IfOk result (λ merged. merging_spec.IsMerged merged
             (merging_spec.taking own (merging_spec.part_of leaves one.element))) }
+        ensures hrefs { (told : List Told) → IsGivenTo told link.now → MergedNamed told self
+            → IfOk result (MergedNamed told) }
     {
         let Some(target) = link.whole() else {
             return Ok(self);
@@ -100,9 +117,12 @@ impl Merged {
         target: &Node,
         leaves: bool,
     ) -> Result<Merged, NoMemory>
-        ensures { (own : Element) → merging_spec.IsMerged self own
+        ensures merged { (own : Element) → merging_spec.IsMerged self own
             → IfOk result (λ merged. merging_spec.IsMerged merged (merging_spec.taking own
             (merging_spec.part_of leaves (walk_spec.element_of origin.now target.now)))) }
+        ensures hrefs { (told : List Told)
+            → HasNamed told (walk_spec.element_of origin.now target.now) → MergedNamed told self
+            → IfOk result (MergedNamed told) }
     {
         let Merged {
             attributes,
@@ -149,10 +169,12 @@ pub(crate) fn merged_with(
     element: &Node,
     links: &[Link],
 ) -> Result<Merged, NoMemory>
-    ensures { (path : List Place) (end : ℕ) (taken : List Taken) (inside : Written)
+    ensures merged { (path : List Place) (end : ℕ) (taken : List Taken) (inside : Written)
         → linked_spec.AreLinks path end taken links.now
         → IfOk result (λ merged. merging_spec.IsMerged merged (step_spec.followed_to_all
         (walk_spec.element_of origin.now element.now) inside [] [] taken).element) }
+    ensures hrefs { (told : List Told) → HasNamed told (walk_spec.element_of origin.now element.now)
+        → AreGivenTo told links.now → IfOk result (MergedNamed told) }
 {
     match links.split_first() {
         None => Merged::written(alloc, origin, element),
@@ -168,11 +190,14 @@ fn merged_from(
     farthest: &Link,
     nearer: &[Link],
 ) -> Result<Merged, NoMemory>
-    ensures { (path : List Place) (end : ℕ) (one : Taken) (taken : List Taken)
+    ensures merged { (path : List Place) (end : ℕ) (one : Taken) (taken : List Taken)
         → linked_spec.IsLink farthest.now one → linked_spec.AreLinks path end taken nearer.now
         → IfOk result (λ merged. merging_spec.IsMerged merged (content_spec.merged_element
         (walk_spec.element_of origin.now element.now)
         (step_spec.merged_onto one.element taken))) }
+    ensures hrefs { (told : List Told) → HasNamed told (walk_spec.element_of origin.now element.now)
+        → IsGivenTo told farthest.now → AreGivenTo told nearer.now
+        → IfOk result (MergedNamed told) }
 {
     let own = Merged::specified(alloc, origin, element)?;
     let merged = own.with_nearer(alloc, nearer)?;
@@ -267,7 +292,7 @@ fn has_name(attributes: &List<Attribute>, name: &str) -> bool
     ensures { result ≡ is_some (class_value_spec.value_of name.now attributes.now) }
 {
     for own in attributes.as_slice() {
-        if own.name.as_str() == name {
+        if is_same(own.name.as_str(), name) {
             return true;
         }
     }
@@ -297,15 +322,12 @@ fn is_own_id(attribute: &Attribute) -> bool
 fn is_specified(attribute: &Attribute) -> bool
     ensures { result ≡ merging_spec.is_specified attribute.now }
 {
-    attribute.value.as_str() != USE_TARGET
+    !is_same(attribute.value.as_str(), USE_TARGET)
 }
 
 // Whether an attribute of this name is taken from a target.
 fn is_taken(name: &str) -> bool
     ensures { result ≡ merging_spec.is_taken name.now }
 {
-    !matches!(
-        name,
-        "id" | "conref" | "conkeyref" | "conrefend" | "conaction"
-    )
+    !NOT_TAKEN.iter().any(|kept| is_same(name, kept))
 }

@@ -1,11 +1,14 @@
 //! Where nodes were written.
 
-ghost use Rattle.std.specs.Prelude.{◌≡◌, ℕ, true, Some, slice_get, IfSome};
+ghost use Rattle.std.specs.Prelude.{◌≡◌, ℕ, true, List, Some, slice_get, IfSome};
 ghost use Rattle.std.specs.Option.{option_copied};
 ghost use Rattle.dita_doc.specs.Siblings as siblings_spec;
 ghost use Rattle.dita_doc.specs.Tree as tree_spec;
 ghost use Rattle.dita_doc.specs.Tree.{Content};
+ghost use Rattle.readers.specs.Named.{named_tree};
+ghost use Rattle.readers.specs.Told.{Told};
 ghost use Rattle.conref_pull.specs.Asking.{AreAmong, reused_of_doc, reused_of_whole};
+ghost use Rattle.conref_pull.specs.Hrefs.{HaveNamed, WholeNamed};
 ghost use Rattle.conref_pull.specs.Parts as parts_spec;
 ghost use Rattle.conref_pull.specs.Origin as origin_spec;
 
@@ -28,6 +31,8 @@ pub(crate) fn whole_at(doc: &Doc, place: u32) -> Option<Whole<'_>>
     ensures here { IfSome result (λ whole. slice_get doc.now.nodes place ≡ Some whole.node.now) }
     ensures names { IfSome result (λ whole. AreAmong (reused_of_whole whole)
         (reused_of_doc doc.now)) }
+    ensures hrefs { (told : List Told) → HaveNamed told (named_tree doc.now)
+        → IfSome result (WholeNamed told) }
 {
     match Siblings::element_at(doc, place) {
         None => None,
@@ -44,6 +49,9 @@ fn whole_of<'a>(doc: &'a Doc, node: &'a Node, inside: Siblings<'a>) -> Option<Wh
     ensures node { IfSome result (λ whole. whole.node.now ≡ node.now) }
     ensures names { (place : ℕ) → siblings_spec.IsElementAt doc.now place node.now inside.entry
         → IfSome result (λ whole. AreAmong (reused_of_whole whole) (reused_of_doc doc.now)) }
+    ensures hrefs { (told : List Told) (place : ℕ)
+        → siblings_spec.IsElementAt doc.now place node.now inside.entry
+        → HaveNamed told (named_tree doc.now) → IfSome result (WholeNamed told) }
 {
     match origin_of(doc, node) {
         None => None,

@@ -1,6 +1,8 @@
 //! The references of elements, as they are written.
 
 ghost use Rattle.std.specs.Prelude.{◌≡◌, ℕ, List, IfOk};
+ghost use Rattle.std.specs.Option.{option_copied};
+ghost use Rattle.dita_doc.specs.ClassValue as class_value_spec;
 ghost use Rattle.href_text.specs.Reference as reference_spec;
 ghost use Rattle.map_spec.specs.Target as target_spec;
 ghost use Rattle.page_spec.specs.Content as content_spec;
@@ -9,6 +11,7 @@ ghost use Rattle.doc_elements.specs.Walk as walk_spec;
 ghost use Rattle.targets.specs.Named as named_spec;
 ghost use Rattle.conref_pull.specs.Sought as sought_spec;
 
+use crate::text::is_same;
 use dita_doc::{NoMemory, Node, Reference, Stop, Text};
 use href_text::{RefFault, read_reference};
 use std::alloc::Global;
@@ -27,14 +30,27 @@ impl<'a> Sought<'a> {
             (content_spec.sought_by (walk_spec.element_of name element.now)) }
     {
         let sought = Sought {
-            conref: element.value_of("conref"),
-            conkeyref: element.value_of("conkeyref"),
+            conref: value_of(element, "conref"),
+            conkeyref: value_of(element, "conkeyref"),
         };
         if sought.conref.is_none() && sought.conkeyref.is_none() {
             return None;
         }
         Some(sought)
     }
+}
+
+// The value of an attribute, if the element has it: what `Node::value_of` gives, at less cost, since
+// every element is asked.
+fn value_of<'a>(element: &'a Node, name: &str) -> Option<&'a str>
+    ensures { option_copied result ≡ class_value_spec.value_of name.now element.now.attributes }
+{
+    let attribute = element
+        .attributes
+        .as_slice()
+        .iter()
+        .find(|attribute| is_same(attribute.name.as_str(), name))?;
+    Some(attribute.value.as_str())
 }
 
 // The reference that a value is, if it can be read.

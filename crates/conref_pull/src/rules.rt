@@ -7,16 +7,17 @@ ghost use Rattle.reader_spec.specs.World.{World};
 ghost use Rattle.readers.specs.Documents as documents_spec;
 ghost use Rattle.readers.specs.Documents.{AsksOnly};
 ghost use Rattle.readers.specs.Founded.{Grows, StaysFounded};
-ghost use Rattle.readers.specs.Told.{Agrees};
+ghost use Rattle.readers.specs.Told.{Agrees, tree_found};
 ghost use Rattle.conref_pull.specs.Rules as rules_spec;
 ghost use Rattle.conref_pull.specs.Shown.{shown};
 
-use dita_doc::{Attribute, Context, List, Name, NoMemory, Rule, Stop};
+use dita_doc::{Attribute, Context, Doc, List, Name, NoMemory, Rule, Stop};
 use ditaval_rules::{NotDitaval, RuleTable, read_rules};
 use readers::Reader;
 use std::alloc::Global;
 use std::collections::BTreeMap;
 use std::marker::Model;
+use std::sync::Arc;
 
 // The rules of each DITAVAL, by its name; a document that is none has no rules.
 #[derive(Debug, Drop)]
@@ -120,31 +121,26 @@ impl RuleLists {
             (R.told reader.new) }
         ensures grows { Grows (R.told reader.old) (R.told reader.new) }
     {
-        let rules = rules_under(alloc, reader, name)?;
+        let doc = reader.doc(alloc, name)?;
         if self.lists.contains_key(name) {
             return Ok(());
         }
+        let rules = rules_of(alloc, name, doc)?;
         self.lists.insert(name.clone()?, rules)?;
         Ok(())
     }
 }
 
-// The rules of the DITAVAL of this name.
-#[tactic(auto, using(crate::proofs::Telling::telling))]
-fn rules_under<R: Reader>(
+// The rules of the DITAVAL of this name, if a document was found and is one.
+fn rules_of(
     alloc: Global,
-    reader: &mut R,
     name: &Name,
+    found: Option<Arc<Doc>>,
 ) -> Result<Option<List<Rule>>, NoMemory>
-    ensures known { (world : World) → Agrees world (R.told reader.new)
+    ensures { (world : World) → world name.now ≡ tree_found found
         → IfOk result (λ rules. rules ≡ rules_spec.rules_under world name.now) }
-    ensures stand { R.stand reader.new ≡ R.stand reader.old }
-    ensures founded { StaysFounded (name.now ∷ []) (R.told reader.old) (R.told reader.new) }
-    ensures asks { AsksOnly documents_spec.nothing (name.now ∷ []) (R.told reader.old)
-        (R.told reader.new) }
-    ensures grows { Grows (R.told reader.old) (R.told reader.new) }
 {
-    let Some(doc) = reader.doc(alloc, name)? else {
+    let Some(doc) = found else {
         return Ok(None);
     };
     match read_rules(alloc, name, &doc) {

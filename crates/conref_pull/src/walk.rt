@@ -32,6 +32,7 @@ impl<'a> Resolver<'a> {
     ghost use Rattle.readers.specs.Named.{reused_in};
     ghost use Rattle.readers.specs.Told.{Agrees};
     ghost use Rattle.conref_pull.specs.Asking.{AreGiven, AreGivenTo, Asks, IsGivenTo, element_around, reused_of_doc, reused_of_node};
+    ghost use Rattle.conref_pull.specs.Hrefs.{HasNamed, HaveNamed, PutNamed};
     ghost use Rattle.conref_pull.specs.Linked as linked_spec;
     ghost use Rattle.conref_pull.specs.Origin.{named_content};
     ghost use Rattle.conref_pull.specs.Parts as parts_spec;
@@ -59,6 +60,9 @@ impl<'a> Resolver<'a> {
         ensures asks { (nodes : List PlanNode) → (A.stand asker.old).setting.nodes ≡ nodes
             → Asks nodes (self.old.context.now.page.doc ∷ reused_in (named_content siblings.entry)) (A.told asker.old)
             (A.told asker.new) }
+        ensures hrefs { HaveNamed (A.told asker.old) (named_content siblings.entry)
+            → PutNamed (A.told asker.old) self.old
+            → OnOk result (PutNamed (A.told asker.new) self.new) }
         ensures page { OnOk result (setting_spec.IsSamePage self.old self.new) }
         ensures stand { A.stand asker.new ≡ A.stand asker.old }
         ensures grows { Grows (A.told asker.old) (A.told asker.new) }
@@ -105,6 +109,10 @@ impl<'a> Resolver<'a> {
         ensures asks { (nodes : List PlanNode) → (A.stand asker.old).setting.nodes ≡ nodes
             → Asks nodes (self.old.context.now.page.doc ∷ reused_of_node inside.entry node.now) (A.told asker.old)
             (A.told asker.new) }
+        ensures hrefs { HasNamed (A.told asker.old) (element_around inside.entry node.now)
+            → HaveNamed (A.told asker.old) (named_content inside.entry)
+            → PutNamed (A.told asker.old) self.old
+            → OnOk result (PutNamed (A.told asker.new) self.new) }
         ensures page { OnOk result (setting_spec.IsSamePage self.old self.new) }
         ensures stand { A.stand asker.new ≡ A.stand asker.old }
         ensures grows { Grows (A.told asker.old) (A.told asker.new) }
@@ -148,6 +156,10 @@ impl<'a> Resolver<'a> {
         ensures asks { (nodes : List PlanNode) → (A.stand asker.old).setting.nodes ≡ nodes
             → Asks nodes (self.old.context.now.page.doc ∷ reused_in (named_content inside.entry)) (A.told asker.old)
             (A.told asker.new) }
+        ensures hrefs { HasNamed (A.told asker.old) (walk_spec.element_of origin.now node.now)
+            → HaveNamed (A.told asker.old) (named_content inside.entry)
+            → PutNamed (A.told asker.old) self.old
+            → OnOk result (PutNamed (A.told asker.new) self.new) }
         ensures page { OnOk result (setting_spec.IsSamePage self.old self.new) }
         ensures stand { A.stand asker.new ≡ A.stand asker.old }
         ensures grows { Grows (A.told asker.old) (A.told asker.new) }
@@ -196,6 +208,10 @@ impl<'a> Resolver<'a> {
             → AreGivenTo (A.told asker.old) chain.now.links.items
             → Asks nodes (self.old.context.now.page.doc ∷ []) (A.told asker.old)
             (A.told asker.new) }
+        ensures hrefs { HasNamed (A.told asker.old) (walk_spec.element_of origin.now node.now)
+            → AreGivenTo (A.told asker.old) chain.now.links.items
+            → PutNamed (A.told asker.old) self.old
+            → OnOk result (PutNamed (A.told asker.new) self.new) }
         ensures page { OnOk result (setting_spec.IsSamePage self.old self.new) }
         ensures stand { A.stand asker.new ≡ A.stand asker.old }
         ensures grows { Grows (A.told asker.old) (A.told asker.new) }
@@ -249,6 +265,9 @@ impl<'a> Resolver<'a> {
             → AreGivenTo (A.told asker.old) chain.now.links.items
             → Asks nodes (self.old.context.now.page.doc ∷ []) (A.told asker.old)
             (A.told asker.new) }
+        ensures hrefs { AreGivenTo (A.told asker.old) chain.now.links.items
+            → PutNamed (A.told asker.old) self.old
+            → OnOk result (PutNamed (A.told asker.new) self.new) }
         ensures page { OnOk result (setting_spec.IsSamePage self.old self.new) }
         ensures stand { A.stand asker.new ≡ A.stand asker.old }
         ensures grows { Grows (A.told asker.old) (A.told asker.new) }
@@ -288,6 +307,8 @@ impl<'a> Resolver<'a> {
             → IsGivenTo (A.told asker.old) link.now
             → Asks nodes (self.old.context.now.page.doc ∷ []) (A.told asker.old)
             (A.told asker.new) }
+        ensures hrefs { IsGivenTo (A.told asker.old) link.now → PutNamed (A.told asker.old) self.old
+            → OnOk result (PutNamed (A.told asker.new) self.new) }
         ensures page { OnOk result (setting_spec.IsSamePage self.old self.new) }
         ensures stand { A.stand asker.new ≡ A.stand asker.old }
         ensures grows { Grows (A.told asker.old) (A.told asker.new) }
@@ -334,6 +355,9 @@ impl<'a> Resolver<'a> {
             → AreGiven (A.told asker.old) (reused_of_doc doc.now)
             → Asks nodes (self.old.context.now.page.doc ∷ []) (A.told asker.old)
             (A.told asker.new) }
+        ensures hrefs { HaveNamed (A.told asker.old) (named_spec.named_tree doc.now)
+            → PutNamed (A.told asker.old) self.old
+            → OnOk result (PutNamed (A.told asker.new) self.new) }
         ensures page { OnOk result (setting_spec.IsSamePage self.old self.new) }
         ensures stand { A.stand asker.new ≡ A.stand asker.old }
         ensures grows { Grows (A.told asker.old) (A.told asker.new) }

@@ -8,17 +8,22 @@ use Rattle.map_spec.specs.Written.{Written, End}
 use Rattle.readers.specs.Documents.{IsGiven}
 use Rattle.readers.specs.Named.{named_found, named_tree}
 use Rattle.readers.specs.Setting.{Stand}
+use Rattle.doc_maker.specs.Made.{resolved_tree}
 use Rattle.readers.proofs.GivenLaws.{given_later}
 use Rattle.readers.proofs.GrowthLaws.{grows_trans, agrees_before}
 use Rattle.conref_pull.specs.Asking.{AreGiven, reused_of_doc}
 use Rattle.conref_pull.proofs.AskingLaws.{about_next, about_page, about_rules, about_then, given_none, given_reused, none_among}
-use Rattle.std.proofs.lemmas.Result.{on_ok_weaker}
+use Rattle.std.proofs.lemmas.Result.{IfOk-weaker, on_ok_weaker}
 use Rattle.page_spec.specs.Content.{Made, page_root, resolved_in}
+use Rattle.conref_pull.specs.Hrefs.{HaveNamed, HaveNamedIn}
+use Rattle.conref_pull.specs.Putting.{built}
 use Rattle.conref_pull.specs.Resolved.{IsResolved, too_many_faults}
 use Rattle.conref_pull.specs.Rules.{ditavals, page_rules}
 use Rattle.conref_pull.specs.Setting.{setting_of}
 use Rattle.conref_pull.specs.Walking.{among_made}
 use Rattle.conref_pull.proofs.CallLaws.{Begins, all_made, done_of, here_begins, ready_begins, setting_begins, tables_kept, no_node_made}
+use Rattle.conref_pull.proofs.HrefGivenLaws.{found_named}
+use Rattle.conref_pull.proofs.HrefLaws.{building_later, linked_allowed, nodes_later}
 use Rattle.conref_pull.proofs.RuleLaws.{rules_of_page}
 use Rattle.conref_pull.proofs.WalkLaws.{walks_as}
 use Rattle.conref_pull.specs.Around.{Around, alone_at, around_at, nothing_around}
@@ -175,3 +180,24 @@ returns-clause-kept g c = λ world agrees rules tables.
           (λ part there some. c.node_at-done.ensures.known world here part later ready there some)
           (λ none. c.node_at-done.ensures.missing world here later ready none)),
     )) c.finish.ensures.memory)
+
+pub returns-in_default-clause-given : goal.returns-in_default-clause-given
+returns-in_default-clause-given g c = λ roots.
+    linked_allowed roots (g.A.Reader.told c.pushed.new.self) (resolved_tree c.nothing.result)
+    (subst (HaveNamed (g.A.Reader.told c.pushed.new.self)) (sym c.nothing.ensures.nodes) tt)
+
+pub returns-clause-given : goal.returns-clause-given
+returns-clause-given g c =
+    let asked = g.A.Reader.told c.pushed.new.self in
+    let read = g.A.Reader.told c.read.new.reader in
+    let walked = g.A.Reader.told c.node_at-done.new.asker in
+    let last = g.A.Reader.told c.finish.new.asker in
+    let all = subst (λ (doc : Doc). HaveNamed read (named_tree doc)) (sym c.deref-2.ensures)
+    (nodes_later asked read c.in_ok-read.ensures.grows (named_tree (arc_value c.in-Some.doc))
+    (found_named asked _ c.in-Some.doc c.in-Some.is c.in_ok-doc.ensures.given)) in
+    let none = subst (HaveNamedIn read) (sym c.new-resolver.ensures.nodes) tt in
+    IfOk-weaker c.finish.result _ _ (λ resolved named roots. linked_allowed roots last (resolved_tree resolved) named)
+    (c.finish.ensures.hrefs last
+    (on_ok_weaker c.node_at-done.result
+    (λ put. building_later walked last c.finish.ensures.grows (built c.node_at-done.new.self) put)
+    (c.node_at-done.ensures.hrefs all none)))

@@ -1,4 +1,4 @@
-use Rattle.std.proofs.Common.{List, [], ◌∷◌, ◌++◌, ap, subst, ◌∙◌}
+use Rattle.std.proofs.Common.{List, [], ◌∷◌, ◌++◌, ap, subst, sym, ◌∙◌}
 use Rattle.std.specs.Arc.{arc_value}
 use Rattle.dita_doc.specs.Tree.{tree_of}
 use Rattle.dita_doc.specs.declared.doc.Doc.{Doc}
@@ -6,6 +6,7 @@ use Rattle.dita_doc.specs.declared.fault.Fault.{Fault}
 use Rattle.doc_maker.specs.Building.{whole}
 use Rattle.map_spec.specs.Written.{written_in}
 use Rattle.readers.specs.Told.{Agrees, Told, tree_found}
+use Rattle.conref_pull.specs.Hrefs.{HaveNamed}
 use Rattle.conref_pull.specs.Resolved.{root_element}
 use Rattle.conref_pull.proofs.RootLaws.{faults_none, faults_rootless, faults_some}
 use Rattle.conref_pull.proofs.calls.too_many.Goals as goal
@@ -38,3 +39,7 @@ returns-clause-known g c = λ world agrees.
             ∙ faults_none world name (told ∙ ap tree_found w.in_default.is)
       ];
     })
+
+pub returns-clause-hrefs : goal.returns-clause-hrefs
+returns-clause-hrefs g c = λ told.
+    subst (HaveNamed told) (sym (c.finish_resolved.ensures.content ∙ ap whole c.new.ensures)) tt

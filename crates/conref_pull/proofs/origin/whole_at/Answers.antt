@@ -25,3 +25,6 @@ returns-in-Some-clause-here c = node_here c.args.doc.now.nodes c.args.place c.in
 
 pub returns-in-Some-clause-names : goal.returns-in-Some-clause-names
 returns-in-Some-clause-names c = c.whole_of.ensures.names c.args.place c.in-Some.ensures
+
+pub returns-in-Some-clause-hrefs : goal.returns-in-Some-clause-hrefs
+returns-in-Some-clause-hrefs c = λ told all. c.whole_of.ensures.hrefs told c.args.place c.in-Some.ensures all

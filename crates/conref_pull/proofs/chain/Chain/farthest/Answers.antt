@@ -20,4 +20,7 @@ returns-in-Some c = record {
       whole_given told c.in-Some.farthest.now c.whole.result
       (first_given told c.args.self.now.links.items c.in-Some.farthest.now _
       (sym c.deref.ensures.value ∙ c.in-Some.ensures.cases.0) given) c.whole.ensures.names;
+  hrefs = λ told given.
+      c.whole.ensures.hrefs told (first_given told c.args.self.now.links.items c.in-Some.farthest.now _
+      (sym c.deref.ensures.value ∙ c.in-Some.ensures.cases.0) given);
 }

@@ -3,21 +3,24 @@ use Rattle.std.specs.Arc.{arc_value}
 use Rattle.std.proofs.lemmas.List.{drop_all}
 use Rattle.std.specs.Borrow.{Bor}
 use Rattle.dita_doc.specs.Siblings.{content, document}
+use Rattle.dita_doc.specs.declared.doc.Attribute.{Attribute}
 use Rattle.dita_doc.specs.declared.doc.Doc.{Doc}
 use Rattle.dita_doc.specs.declared.plan.Context.{Context}
 use Rattle.readers.specs.Setting.{Stand}
 use Rattle.doc_elements.specs.Walk.{element_of}
+use Rattle.doc_maker.specs.Made.{building}
 use Rattle.map_spec.specs.Judged.{group_faults}
 use Rattle.map_spec.specs.Written.{Element}
 use Rattle.page_spec.specs.Content.{Setting, merged_element, text_made, topic_for, topic_within, without_id}
-use Rattle.readers.specs.Named.{name_at, named}
+use Rattle.readers.specs.Named.{name_at, named, named_tree}
 use Rattle.readers.proofs.GivenLaws.{given_later}
 use Rattle.readers.proofs.GrowthLaws.{agrees_before, grows_same, grows_trans}
 use Rattle.conref_pull.specs.Asking.{AreGiven, AreGivenTo, element_around, reused_of_doc}
+use Rattle.conref_pull.specs.Hrefs.{AreNamed, HaveNamed}
 use Rattle.conref_pull.specs.Linked.{AreLinks}
 use Rattle.conref_pull.specs.Origin.{named_content, whole_of}
 use Rattle.conref_pull.specs.Parts.{IsPart}
-use Rattle.conref_pull.specs.Putting.{IsPut}
+use Rattle.conref_pull.specs.Putting.{IsPut, built}
 use Rattle.conref_pull.specs.Setting.{path_within}
 use Rattle.conref_pull.specs.Step.{merged_onto}
 use Rattle.conref_pull.specs.Walking.{IsWalked, Walks, among_made, first_alone, inside_of, kept_made, merged_made, ranges_put, whole_made}
@@ -28,8 +31,13 @@ use Rattle.conref_pull.proofs.OriginLaws.{among_then, around_is, first_among, in
 use Rattle.conref_pull.proofs.AroundLaws.{around_not, closes_by, counts_one, counts_room, element_put_as, goes_as, home_kept, merged_count, merged_goes, merged_not, merged_stays, opened_named, opens_by, page_judged, page_one, put_around, ready_opened}
 use Rattle.conref_pull.proofs.ChainLaws.{asked_here, gone_walked, kept_ready, kept_walks, not_none, plain_walks, ready_judged, shown_inside, took, took_not, took_ready, took_walks, walk_there, within_end}
 use Rattle.conref_pull.proofs.ElementLaws.{alone_element, alone_text}
+use Rattle.conref_pull.proofs.HrefDocLaws.{behind_text_named, inside_named, node_named, origin_named, parts_named}
+use Rattle.conref_pull.proofs.HrefGivenLaws.{link_named}
+use Rattle.conref_pull.proofs.HrefLaws.{building_later, element_later, nodes_later}
+use Rattle.conref_pull.proofs.HrefMergeLaws.{by_element, is_shown, shown, without_id_named}
+use Rattle.conref_pull.proofs.HrefWalkLaws.{closed_put, maker_counted, more_put, opened_put, puts_named, same_put}
 use Rattle.conref_pull.proofs.NodeLaws.{node_element, node_none, node_text, puts_walks, some_node}
-use Rattle.conref_pull.proofs.PutLaws.{put_nothing}
+use Rattle.conref_pull.proofs.PutLaws.{maker_faults, maker_then, put_nothing}
 use Rattle.conref_pull.proofs.SettingLaws.{page_same, page_then}
 use Rattle.dita_doc.specs.Tree.{size_of, tree_of}
 use Rattle.conref_pull.proofs.SiblingLaws.{element_next, element_stops, none_next, text_next}
@@ -60,6 +68,7 @@ siblings-loop-node-init g t c = record {
   asks = λ nodes same. about_same nodes _ _ _ refl;
   stand = refl;
   grows = grows_same _;
+  hrefs = λ given put. (given, put);
   walked = λ world here agrees ready. so_far_begin here.setting.pushed c.args.at.links
       (among_made here c.args.at.is_range c.args.at.topic.now (named_content c.args.siblings)) c.args.self.now
       c.args.places.now ready.room ready.within ready.tables;
@@ -71,6 +80,7 @@ range-loop-init g t c = record {
   asks = λ nodes same given. about_same nodes _ _ _ refl;
   stand = refl;
   grows = grows_same _;
+  hrefs = λ given put. put;
   walked = λ world here one agrees ready is.
       range_begins (arc_value c.args.link.now.doc) c.args.link.now one here c.args.at.links c.args.at.is_range
       c.args.at.topic.now c.args.self.now c.args.places.now refl is ready.room ready.within ready.tables;
@@ -82,6 +92,7 @@ ranges-loop-link-init g t c = record {
   asks = λ nodes same given. about_same nodes _ _ _ refl;
   stand = refl;
   grows = grows_same _;
+  hrefs = λ given put. put;
   walked = λ world here path taken agrees ready far limit same count linked.
       behind_begins here c.args.at.links c.args.chain.now.end c.args.at.topic.now path _ taken c.args.self.now
       c.args.places.now
@@ -174,6 +185,12 @@ range-loop-preserved g t c = record {
       (given_reused _ (arc_value c.args.link.now.doc) (given_later _ _ _ c.loop.invariant.grows given)))));
   stand = c.in_ok-node_at.ensures.stand ∙ c.loop.invariant.stand;
   grows = grows_trans _ _ _ c.loop.invariant.grows c.in_ok-node_at.ensures.grows;
+  hrefs = λ given put. c.in_ok-node_at.ensures.hrefs
+      (subst (λ (doc : Doc). HaveNamed (g.A.Reader.told c.loop.asker) (named_tree doc)) (sym c.deref-in-loop.ensures)
+      (nodes_later (g.A.Reader.told c.args.asker.now) (g.A.Reader.told c.loop.asker) c.loop.invariant.grows
+      (named_tree (arc_value c.args.link.now.doc))
+      (link_named (g.A.Reader.told c.args.asker.now) c.args.link.now given)))
+      (c.loop.invariant.hrefs given put);
   walked = λ world here one agrees ready is.
       (let left = c.loop.invariant.walked world here one
       (agrees_before world _ _ c.in_ok-node_at.ensures.grows agrees) ready is in
@@ -226,6 +243,11 @@ ranges-loop-link-preserved g t c = record {
       (sym c.deref-link-items.ensures.value) given) c.loop-link-test.true c.link-item.is))));
   stand = c.in_ok-range.ensures.stand ∙ c.loop-link.invariant.stand;
   grows = grows_trans _ _ _ c.loop-link.invariant.grows c.in_ok-range.ensures.grows;
+  hrefs = λ given put. c.in_ok-range.ensures.hrefs
+      (given_later _ _ _ c.loop-link.invariant.grows (link_given _ _ _ _
+      (subst (λ (links : List Link). AreGivenTo (g.A.Reader.told c.args.asker.now) links)
+      (sym c.deref-link-items.ensures.value) given) c.loop-link-test.true c.link-item.is))
+      (c.loop-link.invariant.hrefs given put);
   walked = λ world here path taken agrees ready far limit same count linked.
       (let left = c.loop-link.invariant.walked world here path taken
       (agrees_before world _ _ c.in_ok-range.ensures.grows agrees) ready far limit same count linked in
@@ -288,6 +310,18 @@ siblings-loop-node-preserved g t c = record {
       (c.element.ensures.asks nodes (ap (λ (stand : Stand). stand.setting.nodes) c.loop-node.invariant.stand ∙ same)));
   stand = c.in_ok-element-in-Element.ensures.stand ∙ c.loop-node.invariant.stand;
   grows = grows_trans _ _ _ c.loop-node.invariant.grows c.in_ok-element-in-Element.ensures.grows;
+  hrefs = λ given put.
+      (let told = g.A.Reader.told c.args.asker.now in
+      let before = c.loop-node.invariant.hrefs given put in
+      let parts = parts_named told c.loop-node.left c.in-Element.node.now c.in-Element.inside c.in-Element.rest
+      c.in-Element.ensures.content c.in-Element.ensures.document.0 c.in-Element.ensures.document.1 before.0 in (
+        parts.2,
+        c.in_ok-element-in-Element.ensures.hrefs
+            (element_later told (g.A.Reader.told c.loop-node.asker) c.loop-node.invariant.grows
+            (element_around c.in-Element.inside c.in-Element.node.now) parts.0)
+            (nodes_later told (g.A.Reader.told c.loop-node.asker) c.loop-node.invariant.grows
+            (named_content c.in-Element.inside) parts.1) before.1,
+      ));
   walked = λ world here agrees ready.
       (let before = c.loop-node.invariant.walked world here
       (agrees_before world _ _ c.in_ok-element-in-Element.ensures.grows agrees) ready in
@@ -315,6 +349,126 @@ unchanged-returns-clause-asks g t c = λ nodes same.
     about_part nodes _ _ _ _ _ _
     (ap (λ (r : Resolver). r.context.now.page.doc) c.in_ok-count_one.ensures.state) (among_same _)
     (c.siblings.ensures.asks nodes same)
+
+-- The documents that hrefs name
+
+pub siblings-returns-in-End-clause-hrefs : goal.siblings-returns-in-End-clause-hrefs
+siblings-returns-in-End-clause-hrefs g t c = λ given put. (c.loop-node.invariant.hrefs given put).1
+
+pub node_at-returns-in-Some-clause-hrefs : goal.node_at-returns-in-Some-clause-hrefs
+node_at-returns-in-Some-clause-hrefs g t c = λ all put.
+    (let told = g.A.Reader.told c.args.asker.now in
+    c.element.ensures.hrefs
+    (node_named told c.args.doc.now c.args.place c.in-Some.node.now c.in-Some.inside c.in-Some.ensures all)
+    (inside_named told c.args.doc.now c.args.place c.in-Some.node.now c.in-Some.inside c.in-Some.ensures all) put)
+
+pub node_at-returns-in-Some-node_of-clause-hrefs : goal.node_at-returns-in-Some-node_of-clause-hrefs
+node_at-returns-in-Some-node_of-clause-hrefs g t c = λ all put.
+    (let node = c.in-Some-node_of.node.now in
+    puts_named (g.A.Reader.told c.args.asker.now) c.put_chars.result
+    (text_made node.text (name_at c.args.doc.now.origins node.origin)) c.args.self.now c.put_chars.new.self
+    (c.put_chars.ensures.put c.args.place (sym c.in-Some-node_of.ensures)) tt put)
+
+pub range-returns-in_default-clause-hrefs : goal.range-returns-in_default-clause-hrefs
+range-returns-in_default-clause-hrefs g t c = c.loop.invariant.hrefs
+
+pub range-returns-then-place-link-clause-hrefs : goal.range-returns-then-place-link-clause-hrefs
+range-returns-then-place-link-clause-hrefs g t c = c.loop.invariant.hrefs
+
+pub range-returns-clause-hrefs : goal.range-returns-clause-hrefs
+range-returns-clause-hrefs g t c = c.loop.invariant.hrefs
+
+pub ranges-returns-then-count-at-clause-hrefs : goal.ranges-returns-then-count-at-clause-hrefs
+ranges-returns-then-count-at-clause-hrefs g t c = c.loop-link.invariant.hrefs
+
+pub ranges-returns-clause-hrefs : goal.ranges-returns-clause-hrefs
+ranges-returns-clause-hrefs g t c = c.loop-link.invariant.hrefs
+
+pub element-returns-then-branch-clause-hrefs : goal.element-returns-then-branch-clause-hrefs
+element-returns-then-branch-clause-hrefs g t c = λ named held put.
+    same_put (g.A.Reader.told c.args.asker.now) c.args.self.now c.is_excluded.new.self
+    (maker_faults _ _ _ c.in_ok-is_excluded.ensures.state) put
+
+pub element-returns-then-is_none-clause-hrefs : goal.element-returns-then-is_none-clause-hrefs
+element-returns-then-is_none-clause-hrefs g t c = λ named held put.
+    (let told = g.A.Reader.told c.args.asker.now in
+    c.unchanged.ensures.hrefs
+    (origin_named told c.args.inside c.args.node.now c.in-Some.origin.now c.doc.result.now c.doc.ensures
+    c.in-Some.ensures named) held
+    (same_put told c.args.self.now c.is_excluded.new.self (maker_faults _ _ _ c.in_ok-is_excluded.ensures.state) put))
+
+pub element-returns-then-chain-at-clause-hrefs : goal.element-returns-then-chain-at-clause-hrefs
+element-returns-then-chain-at-clause-hrefs g t c = λ named held put.
+    (let told = g.A.Reader.told c.args.asker.now in
+    let more = g.A.Reader.told c.chain.new.asker in
+    let grows = c.in_ok-chain.ensures.grows in
+    c.unchanged-then-chain-at.ensures.hrefs
+    (element_later told more grows (element_of c.in-Some.origin.now c.args.node.now)
+    (origin_named told c.args.inside c.args.node.now c.in-Some.origin.now c.doc.result.now c.doc.ensures
+    c.in-Some.ensures named))
+    (nodes_later told more grows (named_content c.args.inside) held)
+    (building_later told more grows (built c.chain.new.self)
+    (same_put told c.args.self.now c.chain.new.self
+    (maker_then _ _ _ (maker_faults _ _ _ c.in_ok-is_excluded.ensures.state) c.in_ok-chain.ensures.maker) put)))
+
+pub element-returns-clause-hrefs : goal.element-returns-clause-hrefs
+element-returns-clause-hrefs g t c = λ named held put.
+    (let told = g.A.Reader.told c.args.asker.now in
+    let more = g.A.Reader.told c.chain.new.asker in
+    let grows = c.in_ok-chain.ensures.grows in
+    c.ranges-2.ensures.hrefs (links_later _ _ _ c.in_ok-merged.ensures.grows c.in_ok-chain.ensures.given)
+    (c.in_ok-merged.ensures.hrefs
+    (element_later told more grows (element_of c.in-Some.origin.now c.args.node.now)
+    (origin_named told c.args.inside c.args.node.now c.in-Some.origin.now c.doc.result.now c.doc.ensures
+    c.in-Some.ensures named)) c.in_ok-chain.ensures.given
+    (building_later told more grows (built c.chain.new.self)
+    (same_put told c.args.self.now c.chain.new.self
+    (maker_then _ _ _ (maker_faults _ _ _ c.in_ok-is_excluded.ensures.state) c.in_ok-chain.ensures.maker) put))))
+
+pub merged-returns-then-branch-clause-hrefs : goal.merged-returns-then-branch-clause-hrefs
+merged-returns-then-branch-clause-hrefs g t c = λ named given put.
+    same_put (g.A.Reader.told c.args.asker.now) c.args.self.now c.is_excluded.new.self
+    (maker_then _ _ _ (maker_counted _ _ c.in_ok-count_one.ensures)
+    (maker_faults _ _ _ c.in_ok-is_excluded.ensures.state)) put
+
+pub merged-returns-in_default-clause-hrefs : goal.merged-returns-in_default-clause-hrefs
+merged-returns-in_default-clause-hrefs g t c = λ named given put.
+    same_put (g.A.Reader.told c.args.asker.now) c.args.self.now c.is_excluded.new.self
+    (maker_then _ _ _ (maker_counted _ _ c.in_ok-count_one.ensures)
+    (maker_faults _ _ _ c.in_ok-is_excluded.ensures.state)) put
+
+pub merged-returns-clause-hrefs : goal.merged-returns-clause-hrefs
+merged-returns-clause-hrefs g t c = λ named given put.
+    (let told = g.A.Reader.told c.args.asker.now in
+    let merged = c.in_ok-merged.merged in
+    let written = c.in_ok-attributes.field-0 in
+    let is = c.in_ok-merged.ensures.hrefs told named
+    (subst (λ (links : List Link). AreGivenTo told links) (sym c.deref.ensures.value) given) in
+    let own = by_element told written (without_id c.args.at.is_range (shown merged))
+    (c.in_ok-attributes.ensures (shown merged) (is_shown merged))
+    (without_id_named told c.args.at.is_range (shown merged) is) in
+    let before = same_put told c.args.self.now c.is_excluded.new.self
+    (maker_then _ _ _ (maker_counted _ _ c.in_ok-count_one.ensures)
+    (maker_faults _ _ _ c.in_ok-is_excluded.ensures.state)) put in
+    closed_put (g.A.Reader.told c.siblings.new.asker) (built c.siblings.new.self) (building c.close.new.self)
+    c.close.ensures
+    (c.in_ok-siblings.ensures.hrefs (c.in-Some.ensures.hrefs told given).1
+    (opened_put told (built c.is_excluded.new.self) (building c.open.new.self) _ c.in_ok-open.ensures.opened own
+    before)))
+
+pub unchanged-returns-clause-hrefs : goal.unchanged-returns-clause-hrefs
+unchanged-returns-clause-hrefs g t c = λ named held put.
+    (let told = g.A.Reader.told c.args.asker.now in
+    let element = element_of c.args.origin.now c.args.node.now in
+    let own = subst (λ (all : List Attribute). AreNamed told c.args.origin.now all)
+    (sym (c.in_ok-attributes.ensures element c.in_ok-own.ensures).attributes)
+    (subst (λ (doc : List ℕ). AreNamed told doc (without_id c.args.at.is_range element).attributes)
+    (sym (home_kept c.args.at.is_range element)) (without_id_named told c.args.at.is_range element named)) in
+    let before = same_put told c.args.self.now c.count_one.new.self (maker_counted _ _ c.in_ok-count_one.ensures) put in
+    closed_put (g.A.Reader.told c.siblings.new.asker) (built c.siblings.new.self) (building c.close.new.self)
+    c.close.ensures
+    (c.in_ok-siblings.ensures.hrefs held
+    (opened_put told (built c.count_one.new.self) (building c.open.new.self) _ c.in_ok-open.ensures.opened own before)))
 
 -- What was put
 
@@ -369,6 +523,19 @@ siblings-loop-node-preserved-in-Chars g t c = record {
   asks = c.loop-node.invariant.asks;
   stand = c.loop-node.invariant.stand;
   grows = c.loop-node.invariant.grows;
+  hrefs = λ given put.
+      (let before = c.loop-node.invariant.hrefs given put in
+      let text = text_made c.in-Chars.node.now.text
+      (name_at (document c.loop-node.left).origins c.in-Chars.node.now.origin) in (
+        behind_text_named (g.A.Reader.told c.args.asker.now) c.loop-node.left c.in-Chars.rest c.in-Chars.node.now.text
+            c.in-Chars.node.now.origin c.in-Chars.node.now.line c.in-Chars.ensures.content
+            c.in-Chars.ensures.document before.0,
+        more_put (g.A.Reader.told c.loop-node.asker) text c.loop-node.self c.put_chars.new.self
+            (subst (λ (d : Doc). slice_get d.nodes c.in-Chars.place ≡ Some c.in-Chars.node.now
+            → IsPut (text_made c.in-Chars.node.now.text (name_at d.origins c.in-Chars.node.now.origin)) c.loop-node.self
+            c.put_chars.new.self) c.doc.ensures (λ at. c.in_ok-put_chars-in-Chars.ensures.put c.in-Chars.place at)
+            c.in-Chars.ensures.node) tt before.1,
+      ));
   walked = λ world here agrees ready.
       text_next here c.args.at.links c.args.at.is_range c.args.at.topic.now (named_content c.loop-node.left)
       (among_made here c.args.at.is_range c.args.at.topic.now (named_content c.args.siblings)) c.args.self.now
@@ -567,7 +734,7 @@ pub merged-returns-then-branch-clause-known : goal.merged-returns-then-branch-cl
 merged-returns-then-branch-clause-known g t c = λ world here farthest nearer agrees ready linked types.
     (let element = element_of c.args.origin.now c.args.node.now in
     let target = merged_onto farthest.element nearer in
-    let is = c.in_ok-merged.ensures here.path c.args.chain.now.end (farthest ∷ nearer) farthest.inside
+    let is = c.in_ok-merged.ensures.merged here.path c.args.chain.now.end (farthest ∷ nearer) farthest.inside
     (subst (λ (links : List Link). AreLinks here.path c.args.chain.now.end (farthest ∷ nearer) links)
     (sym c.deref.ensures.value) linked) in
     merged_goes here c.args.chain.now.end c.args.at.is_range c.args.topic.now element target farthest.inside
@@ -587,7 +754,7 @@ merged-returns-in_err-siblings-clause-known g t c = λ world here farthest neare
     let target = merged_onto farthest.element nearer in
     let merged = merged_element element target in
     let end = c.args.chain.now.end in
-    let is = c.in_ok-merged.ensures here.path end (farthest ∷ nearer) farthest.inside
+    let is = c.in_ok-merged.ensures.merged here.path end (farthest ∷ nearer) farthest.inside
     (subst (λ (links : List Link). AreLinks here.path end (farthest ∷ nearer) links) (sym c.deref.ensures.value) linked) in
     let rules = ap (λ (s : Setting). s.rules) ready.setting
     ∙ sym (ap (λ (r : Resolver). r.rules) c.in_ok-count_one.ensures.state) in
@@ -633,7 +800,7 @@ merged-returns-clause-known g t c = λ world here farthest nearer agrees ready l
     let target = merged_onto farthest.element nearer in
     let merged = merged_element element target in
     let end = c.args.chain.now.end in
-    let is = c.in_ok-merged.ensures here.path end (farthest ∷ nearer) farthest.inside
+    let is = c.in_ok-merged.ensures.merged here.path end (farthest ∷ nearer) farthest.inside
     (subst (λ (links : List Link). AreLinks here.path end (farthest ∷ nearer) links) (sym c.deref.ensures.value) linked) in
     let rules = ap (λ (s : Setting). s.rules) ready.setting
     ∙ sym (ap (λ (r : Resolver). r.rules) c.in_ok-count_one.ensures.state) in

@@ -9,6 +9,7 @@ use Rattle.readers.specs.Founded.{Grows}
 use Rattle.readers.specs.Named.{reused_in}
 use Rattle.readers.specs.Told.{Agrees}
 use Rattle.conref_pull.specs.Asking.{AreAmong, AreGivenTo, Asks, IsGivenTo}
+use Rattle.conref_pull.specs.Hrefs.{HaveNamed, PutNamed}
 use Rattle.conref_pull.specs.Origin.{named_content}
 use Rattle.conref_pull.specs.Linked.{AreLinks, IsLink}
 use Rattle.conref_pull.specs.Setting.{IsSamePage, path_within}
@@ -50,6 +51,9 @@ invariant-siblings-loop-node g l = record {
       (g.A.Reader.told l.fn.asker) (g.A.Reader.told l.asker);
   stand : g.A.Reader.stand l.asker ≡ g.A.Reader.stand l.fn.asker;
   grows : Grows (g.A.Reader.told l.fn.asker) (g.A.Reader.told l.asker);
+  hrefs : HaveNamed (g.A.Reader.told l.fn.asker) (named_content l.fn.siblings)
+      → PutNamed (g.A.Reader.told l.fn.asker) l.fn.self
+      → HaveNamed (g.A.Reader.told l.fn.asker) (named_content l.left) × PutNamed (g.A.Reader.told l.asker) l.self;
   walked : (world : World) (here : Here) → Agrees world (g.A.Reader.told l.asker)
       → IsReady world (g.A.Reader.stand l.fn.asker) l.at.links here l.fn.self l.fn.places
       → SoFar here.setting.pushed l.at.links (among_made here l.at.is_range l.at.topic.now (named_content l.left))
@@ -67,6 +71,8 @@ invariant-ranges-loop-link g l = record {
       → Asks nodes (l.fn.self.context.now.page.doc ∷ []) (g.A.Reader.told l.fn.asker) (g.A.Reader.told l.asker);
   stand : g.A.Reader.stand l.asker ≡ g.A.Reader.stand l.fn.asker;
   grows : Grows (g.A.Reader.told l.fn.asker) (g.A.Reader.told l.asker);
+  hrefs : AreGivenTo (g.A.Reader.told l.fn.asker) l.fn.chain.links.items
+      → PutNamed (g.A.Reader.told l.fn.asker) l.fn.self → PutNamed (g.A.Reader.told l.asker) l.self;
   walked : (world : World) (here : Here) (path : List Place) (taken : List Taken) → Agrees world (g.A.Reader.told l.asker)
       → IsReady world (g.A.Reader.stand l.fn.asker) l.at.links here l.fn.self l.fn.places
       → l.chain.end ≤ length l.fn.self.path.items → l.chain.end ≤ 32 → path ≡ path_within l.fn.self l.chain.end
@@ -83,6 +89,8 @@ invariant-range-loop g l = record {
       → Asks nodes (l.fn.self.context.now.page.doc ∷ []) (g.A.Reader.told l.fn.asker) (g.A.Reader.told l.asker);
   stand : g.A.Reader.stand l.asker ≡ g.A.Reader.stand l.fn.asker;
   grows : Grows (g.A.Reader.told l.fn.asker) (g.A.Reader.told l.asker);
+  hrefs : IsGivenTo (g.A.Reader.told l.fn.asker) l.fn.link → PutNamed (g.A.Reader.told l.fn.asker) l.fn.self
+      → PutNamed (g.A.Reader.told l.asker) l.self;
   walked : (world : World) (here : Here) (one : Taken) → Agrees world (g.A.Reader.told l.asker)
       → IsReady world (g.A.Reader.stand l.fn.asker) l.at.links here l.fn.self l.fn.places → IsLink l.link one
       → Left (arc_value l.link.doc) here l.at.links l.at.is_range l.at.topic.now l.link.to
