@@ -1,6 +1,6 @@
 //! The copies of branches.
 
-ghost use Rattle.std.specs.Prelude.{◌≡◌, ℕ, List, Some, map, slice_get};
+ghost use Rattle.std.specs.Prelude.{◌≡◌, ℕ, List, IfOk, Some, map, slice_get};
 ghost use Rattle.std.specs.Result.{result_map_both};
 ghost use Rattle.branch_copies.specs.Copied as copied_spec;
 ghost use Rattle.branch_copies.specs.Ditavalrefs as ditavalrefs_spec;
@@ -13,6 +13,7 @@ ghost use Rattle.map_spec.specs.Cascade as cascade_spec;
 ghost use Rattle.map_spec.specs.Included as included_spec;
 ghost use Rattle.map_spec.specs.MapTree as map_tree_spec;
 ghost use Rattle.map_spec.specs.MapTree.{Grown, Head, MapTree};
+ghost use Rattle.plan_nodes.specs.Given.{AreTold};
 ghost use Rattle.reader_spec.specs.World.{World};
 ghost use Rattle.readers.specs.Documents.{AsksOnly};
 ghost use Rattle.readers.specs.Founded as founded_spec;
@@ -44,6 +45,8 @@ pub fn copy_branches<R: Reader>(
     ensures known { (world : World) → Agrees world (R.told reader.new)
         → copied_spec.AreCopied world nodes.now result }
     ensures value { copied_spec.AreCopied (R.stand reader.old).world nodes.now result }
+    ensures told { IfOk result (λ copies. AreTold (R.told reader.new)
+        (map (cascade_spec.whole_at (R.stand reader.old).world) nodes.now)) }
     ensures stand { R.stand reader.new ≡ R.stand reader.old }
     ensures founded { StaysFounded (founded_spec.homes nodes.now) (R.told reader.old)
         (R.told reader.new) }

@@ -1,7 +1,12 @@
 pub mod CarryLaws
+pub mod CopyLaws
 pub mod DocLaws
+pub mod EachLaws
+pub mod FilterLaws
 pub mod FoundLaws
+pub mod GivenLaws
 pub mod HomeLaws
+pub mod IncludedLaws
 pub mod PlanLaws
 pub mod Planning
 pub mod RefLaws

@@ -29,7 +29,7 @@ use Rattle.page_names.specs.Made.{all_made, pages_made}
 use Rattle.page_names.specs.declared.made.PagesMade.{PagesMade}
 use Rattle.reader_spec.specs.World.{World}
 use Rattle.build_plan.specs.Stages.{branched_map, cascaded_map, copied_map, judged_map, map_stop}
-use Rattle.build_plan.proofs.FoundLaws.{Found, none_of, some_of}
+use Rattle.build_plan.proofs.FoundLaws.{none_of, some_of}
 
 then_same : {X Y : Type 0} (x : Result X PlanStop) (f g : X → Result Y PlanStop) → ((v : X) → f v ≡ g v)
     → then_plan x f ≡ then_plan x g

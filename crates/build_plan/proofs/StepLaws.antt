@@ -1,5 +1,5 @@
 -- Each step of a plan gives what is defined, if the one before it did.
-use Rattle.std.specs.Prelude.{◌≡◌, ◌++◌, ℕ, List, [], Result, Ok, Err, map}
+use Rattle.std.specs.Prelude.{◌≡◌, ◌+◌, ◌++◌, ℕ, List, [], ◌∷◌, Some, Ok, Err, map, slice_get}
 use Rattle.std.specs.Result.{result_map_both}
 use Rattle.std.proofs.Common.{refl, sym, ap, subst, ◌∙◌}
 use Rattle.dita_doc.specs.Gives.{Gives}
@@ -11,25 +11,31 @@ use Rattle.dita_doc.specs.declared.plan.PlanStop.{PlanStop}
 use Rattle.dita_doc.specs.declared.stop.Stop.{Stop}
 use Rattle.dita_doc.specs.declared.stop.Stop.TheVariants as stop
 use Rattle.map_spec.specs.Branches.{branched, copied}
-use Rattle.map_spec.specs.Cascade.{cascaded}
+use Rattle.map_spec.specs.Cascade.{cascaded, whole_at}
 use Rattle.map_spec.specs.Included.{expanded, included, node_limit}
 use Rattle.map_spec.specs.Judged.{filtered}
 use Rattle.map_spec.specs.MapTree.{Grown, MapNode, NoNodes, plan_nodes, with_faults}
 use Rattle.map_spec.specs.PlanOf.{then_plan}
 use Rattle.reader_spec.specs.World.{World}
 use Rattle.plan_nodes.specs.Carried.{CarryValues}
+use Rattle.plan_nodes.specs.Given.{AreTold}
 use Rattle.plan_nodes.specs.Preorder.{HasParentsBefore, IsTree, shape}
 use Rattle.plan_nodes.proofs.PreorderLaws.{tree_has_parents}
 use Rattle.branch_copies.specs.Filtered.{IsFiltered}
 use Rattle.branch_copies.specs.Copied.{AreCopied}
-use Rattle.build_plan.specs.Stages.{AreMapNodes, IsMapTree, branched_map, cascaded_map, copied_map, judged_map}
+use Rattle.build_plan.specs.Documents.{filters_of}
+use Rattle.build_plan.specs.Stages.{AreMapNodes, AreNew, IsMapTree, branched_map, cascaded_map, copied_map, judged_map}
 use Rattle.build_plan.proofs.FoundLaws.{Found, none_of, some_of}
 use Rattle.build_plan.proofs.HomeLaws.{Fewer, fewer_copied, fewer_filtered}
+use Rattle.build_plan.proofs.IncludedLaws.{HasNoFilters, IsNew, included_new}
+use Rattle.build_plan.proofs.GivenLaws.{filters_may}
 use Rattle.build_plan.proofs.TreeLaws.{copied_tree, filtered_tree, included_tree, one_root}
 use Rattle.map_lemmas.proofs.AlikeLaws.{same_shapes}
 use Rattle.map_lemmas.proofs.CarriedLaws.{alike_cascaded, cascaded_carry}
-use Rattle.map_lemmas.proofs.GrownLaws.{within}
-use Rattle.readers.specs.Founded.{homes}
+use Rattle.map_lemmas.proofs.GrownLaws.{included_made, within}
+use Rattle.map_lemmas.proofs.HeadLaws.{heads_filtered, node_at}
+use Rattle.readers.specs.Founded.{AreAllowed, homes}
+use Rattle.readers.specs.Told.{Told}
 
 same_made : (a b : List PlanNode) (f h : List Fault) → a ≡ b → f ≡ h
     → (let one : Expanded = record { nodes = a; faults = f } in one) ≡ record { nodes = b; faults = h }
@@ -156,6 +162,18 @@ module _ (world : World) (rules : List Rule) (name : List ℕ) where
       are = filter_are;
     }
 
+    -- none has a filter yet
+    pub filtered_new : AreNew filter.nodes
+    filtered_new =
+        let whole = included_made node_limit world name expanded_before.value expanded_before.is in
+        let tree = (filtered world rules expanded_before.value.tree).tree in
+        let all = heads_filtered HasNoFilters world rules expanded_before.value.tree
+        (subst IsNew whole.is (included_new (node_limit + 1) world (name ∷ []) 0 whole.root)) in
+        record {
+          each = λ at node there. node_at HasNoFilters (λ (own : PlanNode). own.filters ≡ []) (λ head parent end is. is)
+              0 0 tree at node all (subst (λ nodes. slice_get nodes at ≡ Some node) filter_are there);
+        }
+
     pub fewer_when_filtered : Fewer (homes filter.nodes) (homes made.nodes)
     fewer_when_filtered = subst (λ nodes. Fewer (homes nodes) (homes made.nodes)) (sym filter_are)
         (subst (λ nodes. Fewer (homes (plan_nodes (filtered world rules expanded_before.value.tree).tree)) (homes nodes))
@@ -182,6 +200,13 @@ module _ (world : World) (nodes : List PlanNode) (of : AreMapNodes nodes) (copy 
         (record { head = of.map.head; below = of.map.below; is = refl; kind = of.map.kind });
     are = copy_are;
   }
+
+  -- if none had a filter, and their elements were told, then their DITAVALs may be asked about
+  pub filters_when_copied : (told : List Told) (roots : List (List ℕ)) → AreNew nodes
+      → AreTold told (map (whole_at world) nodes) → AreAllowed roots told (filters_of copy.nodes)
+  filters_when_copied told roots new were = subst (λ all. AreAllowed roots told (filters_of all)) (sym copy_are)
+      (filters_may world told roots (MapNode of.map.head of.map.below NoNodes) (subst AreNew alone_are new)
+      (subst (λ all. AreTold told (map (whole_at world) all)) alone_are were))
 
   pub fewer_when_copied : Fewer (homes copy.nodes) (homes nodes)
   fewer_when_copied = subst (λ all. Fewer (homes all) (homes nodes)) (sym copy_are)

@@ -1,15 +1,13 @@
 -- The tree of a map keeps its root in each step.
-use Rattle.std.specs.Prelude.{◌≡◌, ◌+◌, ℕ, suc, Bool, true, false, List, [], ◌∷◌, ◌++◌, Option, Some, None, Result, Ok, Err, map, nat_le, if◌then◌else◌}
-use Rattle.std.proofs.Common.{refl, sym, ap, subst, ◌∙◌, arith}
+use Rattle.std.specs.Prelude.{◌≡◌, ◌+◌, ℕ, suc, Bool, true, false, List, [], ◌∷◌, Ok, map, if◌then◌else◌}
+use Rattle.std.proofs.Common.{refl, sym, ap, subst, arith}
 use Rattle.dita_doc.specs.declared.content.Rule.{Rule}
 use Rattle.dita_doc.specs.declared.plan.PlanKind.{PlanKind}
 use Rattle.dita_doc.specs.declared.plan.PlanKind.TheVariants as kinds
-use Rattle.dita_doc.specs.declared.plan.PlanStop.{PlanStop}
-use Rattle.dita_doc.specs.declared.plan.PlanStop.TheVariants as stops
-use Rattle.map_spec.specs.Branches.{Branch, all_beside, branch_faults, branched, branches_of, copied, copies, copy_for, group_for, is_ditavalref, is_map_node, with_scope_names}
-use Rattle.map_spec.specs.Included.{included, included_from, is_map, limited, map_included, new_head, root_in}
+use Rattle.map_spec.specs.Branches.{Branch, all_beside, branches_of, copied, copies, copy_for, group_for, is_ditavalref, is_map_node, with_scope_names}
+use Rattle.map_spec.specs.Included.{included, map_included}
 use Rattle.map_spec.specs.Judged.{filtered, judged}
-use Rattle.map_spec.specs.MapTree.{Grown, Head, MapTree, MapNode, NoNodes, count, trees_beside}
+use Rattle.map_spec.specs.MapTree.{Grown, Head, MapTree, MapNode, NoNodes, trees_beside}
 use Rattle.map_spec.specs.Written.{Whole}
 use Rattle.map_lemmas.proofs.GrownLaws.{included_made}
 use Rattle.plan_nodes.specs.Preorder.{HasOneRoot}

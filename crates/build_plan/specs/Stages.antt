@@ -1,5 +1,5 @@
 -- The stages of a plan (own): each is what is defined for the nodes that the one before it leaves.
-use Rattle.std.specs.Prelude.{◌≡◌, ◌++◌, ℕ, List, Option, Some, None, Result, Ok, Err, if◌then◌else◌}
+use Rattle.std.specs.Prelude.{◌≡◌, ℕ, List, [], Option, Some, None, Result, slice_get, if◌then◌else◌}
 use Rattle.std.specs.Result.{result_map_both}
 use Rattle.dita_doc.specs.declared.content.Rule.{Rule}
 use Rattle.dita_doc.specs.declared.plan.Expanded.{Expanded}
@@ -49,3 +49,7 @@ pub record AreMapNodes (nodes : List PlanNode) : Type 0 where
   pub tree : MapTree
   pub map : IsMapTree tree
   pub are : nodes ≡ plan_nodes tree
+
+-- nodes that no DITAVAL filters yet
+pub record AreNew (nodes : List PlanNode) : Type 0 where
+  pub each : (at : ℕ) (node : PlanNode) → slice_get nodes at ≡ Some node → node.filters ≡ []

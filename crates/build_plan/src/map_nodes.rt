@@ -1,6 +1,6 @@
 //! The nodes of a build's map.
 
-ghost use Rattle.std.specs.Prelude.{◌≡◌, [], ◌∷◌, IfOk};
+ghost use Rattle.std.specs.Prelude.{◌≡◌, [], ◌∷◌, ℕ, List, IfOk};
 ghost use Rattle.std.specs.Result.{result_map_both};
 ghost use Rattle.build_plan.specs.Documents as documents_spec;
 ghost use Rattle.build_plan.specs.Stages as stages_spec;
@@ -12,7 +12,7 @@ ghost use Rattle.plan_nodes.specs.Preorder.{IsTree};
 ghost use Rattle.reader_spec.specs.World.{World};
 ghost use Rattle.readers.specs.Documents.{AsksOnly};
 ghost use Rattle.readers.specs.Founded as founded_spec;
-ghost use Rattle.readers.specs.Founded.{Grows, StaysFounded};
+ghost use Rattle.readers.specs.Founded.{AreAllowed, Grows, StaysFounded};
 ghost use Rattle.readers.specs.Told.{Agrees, Knows};
 
 use attr_cascade::cascade;
@@ -43,6 +43,8 @@ pub(crate) fn nodes_of_map<R: Reader>(
         (λ world. CarryValues world made.nodes)) }
     ensures asked { IfOk result (λ made. AreAsked (R.told reader.new)
         (founded_spec.homes made.nodes)) }
+    ensures filters { IfOk result (λ made. (roots : List (List ℕ)) → AreAllowed roots
+        (R.told reader.new) (documents_spec.filters_of made.nodes)) }
     ensures stand { R.stand reader.new ≡ R.stand reader.old }
     ensures founded { StaysFounded (map.now ∷ []) (R.told reader.old) (R.told reader.new) }
     ensures asks { AsksOnly documents_spec.plan_targets (map.now ∷ []) (R.told reader.old)
@@ -70,6 +72,8 @@ fn branched_nodes<R: Reader>(
     ensures nodes { IfOk result (λ made. stages_spec.AreMapNodes made.nodes) }
     ensures asked { IfOk result (λ made. AreAsked (R.told reader.new)
         (founded_spec.homes made.nodes)) }
+    ensures filters { IfOk result (λ made. (roots : List (List ℕ)) → AreAllowed roots
+        (R.told reader.new) (documents_spec.filters_of made.nodes)) }
     ensures stand { R.stand reader.new ≡ R.stand reader.old }
     ensures founded { StaysFounded (map.now ∷ []) (R.told reader.old) (R.told reader.new) }
     ensures asks { AsksOnly documents_spec.plan_targets (map.now ∷ []) (R.told reader.old)
@@ -103,6 +107,7 @@ fn filtered_nodes<R: Reader>(
         (stages_spec.judged_map world rules.now grown)) (λ stop. stop)
         (included_spec.included included_spec.node_limit world map.now)) }
     ensures nodes { IfOk result (λ made. stages_spec.AreMapNodes made.nodes) }
+    ensures new { IfOk result (λ made. stages_spec.AreNew made.nodes) }
     ensures asked { IfOk result (λ made. AreAsked (R.told reader.new)
         (founded_spec.homes made.nodes)) }
     ensures stand { R.stand reader.new ≡ R.stand reader.old }

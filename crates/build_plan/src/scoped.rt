@@ -50,6 +50,7 @@ pub(crate) fn plan_of_nodes<T: Titles>(
     ensures known { (world : World) → Agrees world (T.told asker.new)
         → GivesSeen (λ planned. planned.plan) result
         (plan_spec.few_pages plan_spec.limits.pages (plan_spec.plan_with world before nodes)) }
+    ensures nodes { IfOk result (λ planned. planned.plan.nodes ≡ scopes_spec.scoped nodes) }
     ensures ready { IfOk result (λ planned.
         AreReady (T.told asker.new) planned.plan.nodes planned.homes) }
     ensures tabled { IfOk result (λ planned. Knows (T.told asker.new)

@@ -1,6 +1,6 @@
 //! The plan of a build, over a reader that knows titles.
 
-ghost use Rattle.std.specs.Prelude.{◌≡◌, IfOk};
+ghost use Rattle.std.specs.Prelude.{◌≡◌, ℕ, List, IfOk};
 ghost use Rattle.std.specs.Option.{option_copied};
 ghost use Rattle.build_plan.specs.Documents as documents_spec;
 ghost use Rattle.dita_doc.specs.Gives.{GivesSeen};
@@ -9,7 +9,7 @@ ghost use Rattle.key_scopes.specs.Made.{IsTableOf};
 ghost use Rattle.map_spec.specs.PlanOf as plan_spec;
 ghost use Rattle.reader_spec.specs.World.{World};
 ghost use Rattle.readers.specs.Documents.{AsksOnly};
-ghost use Rattle.readers.specs.Founded.{Grows, StaysFounded};
+ghost use Rattle.readers.specs.Founded.{AreAllowed, Grows, IsFounded, StaysFounded};
 ghost use Rattle.readers.specs.Told.{Agrees, Knows};
 
 use crate::map_nodes::nodes_of_map;
@@ -41,6 +41,9 @@ pub fn planned<T: Titles>(
         AreReady (T.told asker.new) planned.plan.nodes planned.homes) }
     ensures tabled { IfOk result (λ planned. Knows (T.told asker.new)
         (λ world. ∥ IsTableOf world planned.plan.nodes planned.table ∥₁)) }
+    ensures given { IfOk result (λ planned. (roots : List (List ℕ))
+        → IsFounded roots (T.told asker.new) → AreAllowed roots (T.told asker.new)
+        (documents_spec.names_of_nodes planned.plan.nodes)) }
     ensures stand { T.stand asker.new ≡ T.stand asker.old }
     ensures founded { StaysFounded (documents_spec.build_names map.now (option_copied val.entry))
         (T.told asker.old) (T.told asker.new) }

@@ -11,7 +11,7 @@ use Rattle.map_spec.specs.Judged.{filtered, judged, kept, whole_of}
 use Rattle.map_spec.specs.MapTree.{Head, MapTree, NoNodes, MapNode, trees_beside}
 use Rattle.map_spec.specs.Written.{Whole}
 use Rattle.map_lemmas.proofs.HeadLaws.{AllHeads, heads_beside, heads_of_each, heads_weaker}
-use Rattle.language_laws.proofs.IncludedLaws.{HasNoFilters}
+use Rattle.build_plan.proofs.IncludedLaws.{HasNoFilters}
 use Rattle.language_laws.proofs.KeptLaws.{AreItsRules, IsKept, IsLeft, copy_kept, group_for_kept, is_excluded_in, judged_kept, kept_left, rules_of_filter}
 
 -- The branches on a node

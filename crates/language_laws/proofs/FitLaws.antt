@@ -1,7 +1,7 @@
 -- The names of pages fit into the folder of their build.
 use Rattle.std.specs.Prelude.{◌≡◌, ◌+◌, ◌<◌, ◌≤◌, ◌++◌, ℕ, zero, suc, true, List, [], ◌∷◌, Option, Some, Ok, length, nat_le, slice_get, codes}
 use Rattle.std.specs.Fmt.{decimal}
-use Rattle.std.proofs.Common.{refl, sym, ap, subst, arith, append_assoc, length-append}
+use Rattle.std.proofs.Common.{refl, sym, ap, subst, ◌∙◌, arith, append_assoc, length-append}
 use Rattle.std.proofs.lemmas.Bool.{and_from, and_parts, cond_both, le-leb, leb-true}
 use Rattle.std.proofs.lemmas.Fmt.{length-decimal-le}
 use Rattle.std.proofs.lemmas.Option.{same_Some}
@@ -19,7 +19,7 @@ use Rattle.language_laws.proofs.PlanPagesLaws.{plan_pages}
 use Rattle.language_laws.proofs.WordLaws.{IsWord, decimal_is_word, name_under, name_with_end, word_is_name, words_joined}
 
 -- a name that is short enough for a folder before it
-record IsShortName (name : List ℕ) : Type 0 where
+pub record IsShortName (name : List ℕ) : Type 0 where
   pub named : is_name name ≡ true
   pub short : length name ≤ 248
 
@@ -119,20 +119,26 @@ named_short index taken (first ∷ uses) (suc at) page low few is =
     let name = free_name taken (good_base index (base_of first.id)) in
     named_short (index + 1) (name ∷ taken) uses at page (omega arith) (omega arith) is
 
--- the names of a world's pages fit, if the pages are few
-pub pages_fit : (world : World) (nodes : List PlanNode) → length (pages_of world nodes) ≤ 4096
-    → FitsFolders (pages_of world nodes)
-pages_fit world nodes few number at page small is =
+-- the names of a world's pages are short, if the pages are few
+pages_short : (world : World) (nodes : List PlanNode) (at : ℕ) (page : PagePlan) → length (pages_of world nodes) ≤ 4096
+    → slice_get (pages_of world nodes) at ≡ Some page → IsShortName page.name
+pages_short world nodes at page few is =
     let uses = uses_of world nodes in
     let taken = contents_name ∷ [] in
     let count = length_named 0 taken uses in
-    let short = named_short 0 taken uses at page (omega arith) (omega arith) is in
-    name_under number page.name small short.named short.short
+    named_short 0 taken uses at page (omega arith) (omega arith) is
 
 -- and those of a plan within the limits
-pub plan_fits : (world : World) (map : List ℕ) (val : Option (List ℕ)) (plan : Plan)
-    → plan_of limits world map val ≡ Ok plan → FitsFolders plan.pages
-plan_fits world map val plan is =
+pub plan_short : (world : World) (map : List ℕ) (val : Option (List ℕ)) (plan : Plan) (at : ℕ) (page : PagePlan)
+    → plan_of limits world map val ≡ Ok plan → slice_get plan.pages at ≡ Some page → IsShortName page.name
+plan_short world map val plan at page is there =
     let known = plan_pages limits world map val plan is in
     let few : length (pages_of world known.nodes) ≤ 4096 = omega (arith, ap length known.are) in
-    subst FitsFolders (sym known.are) (pages_fit world known.nodes few)
+    pages_short world known.nodes at page few (ap (λ pages. slice_get pages at) (sym known.are) ∙ there)
+
+-- so they fit into folders
+pub plan_fits : (world : World) (map : List ℕ) (val : Option (List ℕ)) (plan : Plan)
+    → plan_of limits world map val ≡ Ok plan → FitsFolders plan.pages
+plan_fits world map val plan is number at page small there =
+    let short = plan_short world map val plan at page is there in
+    name_under number page.name small short.named short.short

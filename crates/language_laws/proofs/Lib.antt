@@ -1,7 +1,6 @@
 pub mod ListLaws
 pub mod TreeLaws
 pub mod AlikeLaws
-pub mod IncludedLaws
 pub mod KeptLaws
 pub mod CopyLaws
 pub mod PlanLaws

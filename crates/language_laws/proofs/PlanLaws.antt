@@ -19,7 +19,7 @@ use Rattle.map_spec.specs.Written.{Whole}
 use Rattle.language_laws.specs.PlanTree.{IsPlanTree}
 use Rattle.language_laws.proofs.AlikeLaws.{tree_alike, finished_alike}
 use Rattle.language_laws.proofs.CopyLaws.{IsMapTree, copied_map, filtered_map}
-use Rattle.language_laws.proofs.IncludedLaws.{HasNoFilters, included_new}
+use Rattle.build_plan.proofs.IncludedLaws.{HasNoFilters, included_new}
 use Rattle.language_laws.proofs.KeptLaws.{IsKept}
 use Rattle.language_laws.proofs.TreeLaws.{root_tree}
 

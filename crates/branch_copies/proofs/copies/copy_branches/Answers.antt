@@ -1,5 +1,9 @@
-use Rattle.std.proofs.Common.{◌≡◌, subst, sym, ◌∙◌}
+use Rattle.std.specs.Prelude.{Result, Ok, Err, IfOk, map}
+use Rattle.std.proofs.Common.{◌≡◌, ap, subst, sym, ◌∙◌}
+use Rattle.map_spec.specs.Cascade.{whole_at}
 use Rattle.map_spec.specs.MapTree.{MapNode, MapTree, NoNodes, plan_nodes}
+use Rattle.plan_nodes.specs.Given.{AreTold}
+use Rattle.plan_nodes.proofs.GivenLaws.{told_later}
 use Rattle.readers.specs.Told.{Agrees}
 use Rattle.readers.proofs.GrowthLaws.{agrees_before}
 use Rattle.branch_copies.specs.Ditavals.{AreKnown}
@@ -21,3 +25,14 @@ returns-clause-value g c =
     returns-clause-known g c (g.R.Reader.stand c.args.reader.now).world
     (subst (λ s. Agrees s.world (g.R.Reader.told c.read_branches.new.reader))
     (c.in_ok-read.ensures.stand ∙ c.in_ok-homes.ensures.stand) (g.met.R.Reader.agrees c.read_branches.new.reader))
+
+-- what holds whatever was made
+whichever : {X E P : Type 0} (result : Result X E) → P → IfOk result (λ made. P)
+whichever (Ok made) is = is
+whichever (Err stop) is = tt
+
+pub returns-clause-told : goal.returns-clause-told
+returns-clause-told g c = whichever c.copy_read.result
+    (told_later _ _ _ c.in_ok-read.ensures.grows (subst (AreTold (g.R.Reader.told c.of.new.reader))
+    (c.in_ok-homes.ensures.value ∙ ap (map (whole_at (g.R.Reader.stand c.args.reader.now).world)) c.as_slice-nodes.ensures)
+    c.in_ok-homes.ensures.given))

@@ -1,7 +1,7 @@
 use Rattle.map_expand.proofs.AskedForLaws.{asked_later, stays_asked}
 use Rattle.readers.proofs.GrowthLaws.{agrees_before}
 use Rattle.build_plan.proofs.HomeLaws.{asked_fewer}
-use Rattle.build_plan.proofs.StepLaws.{branched_gives, branched_stops, copied_nodes_are, fewer_when_copied, judged_stops}
+use Rattle.build_plan.proofs.StepLaws.{branched_gives, branched_stops, copied_nodes_are, fewer_when_copied, filters_when_copied, judged_stops}
 use Rattle.build_plan.proofs.RefLaws.{are_ditavalrefs}
 use Rattle.build_plan.proofs.TellLaws.{asks_ditavals}
 use Rattle.build_plan.proofs.map_nodes.branched_nodes.Goals as goal
@@ -68,3 +68,9 @@ returns-clause-asks g c =
     asks_ditavals _ _ _ _ _ c.filtered_nodes.ensures.asks c.in-Ok.ensures.asked
     (c.copy_branches.ensures.asks (are_ditavalrefs (g.R.Reader.stand before).world c.args.rules.now c.args.map.now c.in-Ok.made
     (c.in-Ok.ensures.known (g.R.Reader.stand before).world (g.met.R.Reader.agrees before))))
+
+pub returns-clause-filters : goal.returns-clause-filters
+returns-clause-filters g c = λ roots.
+    filters_when_copied (g.R.Reader.stand c.filtered_nodes.new.reader).world c.in-Ok.made.nodes c.in-Ok.ensures.nodes
+    c.in-Ok-copy_branches.made c.in-Ok-copy_branches.ensures.value (g.R.Reader.told c.copy_branches.new.reader) roots
+    c.in-Ok.ensures.new c.in-Ok-copy_branches.ensures.told

@@ -1,7 +1,7 @@
 use Rattle.map_expand.proofs.AskedForLaws.{asked_later, stays_asked}
 use Rattle.readers.proofs.GrowthLaws.{agrees_before}
 use Rattle.build_plan.proofs.HomeLaws.{asked_fewer}
-use Rattle.build_plan.proofs.StepLaws.{fewer_when_filtered, filtered_gives, filtered_nodes_are}
+use Rattle.build_plan.proofs.StepLaws.{fewer_when_filtered, filtered_gives, filtered_new, filtered_nodes_are}
 use Rattle.build_plan.proofs.TellLaws.{asks_again, asks_maps}
 use Rattle.build_plan.proofs.map_nodes.filtered_nodes.Goals as goal
 
@@ -56,3 +56,11 @@ returns-in_err-filtered-clause-asks g c =
 pub returns-in_err-append_faults-clause-asks : goal.returns-in_err-append_faults-clause-asks
 returns-in_err-append_faults-clause-asks g c =
     asks_again _ _ _ _ _ (asks_maps _ _ _ c.expand.ensures.asks) c.in_ok-nodes.ensures.asked c.filter_nodes.ensures.asks
+
+pub returns-clause-new : goal.returns-clause-new
+returns-clause-new g c =
+    let world = (g.R.Reader.stand c.filter_nodes.new.reader).world in
+    let agrees = g.met.R.Reader.agrees c.filter_nodes.new.reader in
+    filtered_new world c.args.rules.now c.args.map.now c.in_ok-nodes.field-0 c.in_ok-filtered.filtered
+    (c.in_ok-nodes.ensures.known world (agrees_before world _ _ c.filter_nodes.ensures.grows agrees))
+    (c.in_ok-filtered.ensures.known world agrees)

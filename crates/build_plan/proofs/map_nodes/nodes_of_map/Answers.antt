@@ -1,8 +1,10 @@
 use Rattle.std.proofs.Common.{subst, sym}
 use Rattle.map_expand.specs.AskedFor.{AreAsked}
 use Rattle.map_expand.proofs.AskedForLaws.{asked_later, stays_asked}
-use Rattle.readers.proofs.GrowthLaws.{agrees_before}
+use Rattle.readers.specs.Founded.{AreAllowed}
+use Rattle.readers.proofs.GrowthLaws.{agrees_before, are_allowed_before}
 use Rattle.build_plan.proofs.HomeLaws.{homes_cascaded}
+use Rattle.build_plan.proofs.GivenLaws.{filters_cascaded}
 use Rattle.build_plan.proofs.StepLaws.{cascaded_gives, cascaded_stand, cascaded_values, copied_parents, copied_stops}
 use Rattle.build_plan.proofs.TellLaws.{asks_again}
 use Rattle.build_plan.proofs.map_nodes.nodes_of_map.Goals as goal
@@ -57,3 +59,13 @@ returns-in_err-nodes-clause-asks g c =
 pub returns-clause-asks : goal.returns-clause-asks
 returns-clause-asks g c =
     asks_again _ _ _ _ _ c.branched_nodes.ensures.asks c.in-Ok.ensures.asked c.cascade.ensures.asks
+
+pub returns-clause-filters : goal.returns-clause-filters
+returns-clause-filters g c = λ roots.
+    let world = (g.R.Reader.stand c.cascade.new.reader).world in
+    let agrees = g.met.R.Reader.agrees c.cascade.new.reader in
+    let given = c.in-Ok.ensures.known world (agrees_before world _ _ c.cascade.ensures.grows agrees) in
+    subst (AreAllowed roots (g.R.Reader.told c.cascade.new.reader))
+    (sym (filters_cascaded world c.in-Ok.made.nodes c.in_ok-nodes.nodes
+    (c.in_ok-nodes.ensures.known world agrees (copied_parents world c.args.rules.now c.args.map.now c.in-Ok.made given))))
+    (are_allowed_before roots _ _ _ c.cascade.ensures.grows (c.in-Ok.ensures.filters roots))

@@ -1,4 +1,4 @@
-use Rattle.std.proofs.Common.{◌++◌, subst, sym, ◌∙◌, ap}
+use Rattle.std.proofs.Common.{◌++◌, subst, ◌∙◌, ap}
 use Rattle.readers.specs.Documents.{AsksOnly, nothing}
 use Rattle.readers.specs.Founded.{StaysFounded}
 use Rattle.readers.proofs.DocumentLaws.{asks_after}
@@ -83,3 +83,6 @@ pub returns-clause-tabled : goal.returns-clause-tabled
 returns-clause-tabled g c = λ world agrees.
     ∣ table_scoped world c.args.nodes c.in_ok-made.field-0.made.nodes c.in_ok-made.field-0.made.table c.in_ok-made.ensures.nodes
     (c.in_ok-made.ensures.made world (agrees_before world _ _ c.keyed_pages.ensures.grows agrees)).table ∣₁
+
+pub returns-clause-nodes : goal.returns-clause-nodes
+returns-clause-nodes g c = c.in_ok-made.ensures.nodes

@@ -1,4 +1,4 @@
-use Rattle.std.proofs.Common.{subst, sym, ◌∙◌, ap}
+use Rattle.std.proofs.Common.{subst, ◌∙◌, ap}
 use Rattle.std.specs.Prelude.{map}
 use Rattle.map_spec.specs.Cascade.{whole_at}
 use Rattle.readers.specs.Documents.{AsksOnly, nothing}

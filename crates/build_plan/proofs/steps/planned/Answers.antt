@@ -1,15 +1,17 @@
-use Rattle.std.proofs.Common.{◌++◌, ◌∙◌, ap, sym, subst}
+use Rattle.std.proofs.Common.{◌∙◌, ap, sym, subst}
 use Rattle.std.specs.Option.{option_copied}
 use Rattle.std.specs.Result.{result_map_both}
+use Rattle.std.proofs.lemmas.Result.{IfOk-weaker}
 use Rattle.dita_doc.specs.Gives.{GivesSeen}
 use Rattle.map_spec.specs.PlanOf.{build_rules, few_pages, limits, plan_of, plan_with}
 use Rattle.map_expand.proofs.AskedForLaws.{asked_allowed}
 use Rattle.readers.proofs.DocumentLaws.{asks_after}
 use Rattle.readers.proofs.FoundedLaws.{stays_after}
-use Rattle.readers.proofs.GrowthLaws.{agrees_before, grows_trans}
+use Rattle.readers.proofs.GrowthLaws.{agrees_before, founded_before, grows_trans}
 use Rattle.build_plan.specs.Documents.{build_names, plan_targets}
 use Rattle.build_plan.specs.Stages.{cascaded_map, copied_map}
 use Rattle.build_plan.specs.declared.scoped.Planned.{Planned}
+use Rattle.build_plan.proofs.GivenLaws.{nodes_may}
 use Rattle.build_plan.proofs.PlanLaws.{no_map, no_nodes, no_rules, stops_by, with_nodes}
 use Rattle.build_plan.proofs.TellLaws.{asks_again, asks_map, asks_root, asks_val, stays_given, stays_map, stays_val}
 use Rattle.build_plan.proofs.steps.planned.Goals as goal
@@ -146,3 +148,11 @@ returns-clause-asks g c =
     (asks_val name val _ _ c.rules_of_build.ensures.asks))
     (asks_map plan_targets name val _ _ c.nodes_of_map.ensures.asks))
     c.in-Ok-nodes_of_map.ensures.asked c.plan_of_nodes.ensures.asks
+
+pub returns-clause-given : goal.returns-clause-given
+returns-clause-given g c =
+    let grows = c.plan_of_nodes.ensures.grows in
+    IfOk-weaker c.plan_of_nodes.result _ _ (λ planned are roots founded.
+    nodes_may roots _ _ c.in-Ok-nodes_of_map.made.nodes _ are grows
+    (asked_allowed roots _ _ (founded_before roots _ _ grows founded) c.in-Ok-nodes_of_map.ensures.asked)
+    (c.in-Ok-nodes_of_map.ensures.filters roots)) c.plan_of_nodes.ensures.nodes
