@@ -1,53 +1,114 @@
--- Texts that are written piece by piece.
-use Rattle.std.specs.Prelude.{◌≡◌, ◌+◌, ◌<◌, ℕ, List, [], ◌∷◌, ◌++◌, Result, Ok, Err, length, take, map, codes, is_ok, OnOk, if◌then◌else◌}
+-- The page of a plan, from the content that was resolved and the root of its document.
+use Rattle.std.specs.Prelude.{◌≡◌, ◌++◌, ℕ, List, [], ◌∷◌, Option, Some, None, option_map, slice_get}
 use Rattle.std.specs.List.{flat_map}
-use Rattle.std.proofs.Common.{refl, ap, ◌∙◌, get_or, append_assoc}
-use Rattle.std.proofs.lemmas.List.{take_more, map-append, flat_map_more}
-use Rattle.clean_build.specs.Page.{page_with}
-use Rattle.dita_doc.specs.Bytes.{line_feed}
-use Rattle.dita_doc.specs.Lines.{line}
+use Rattle.std.specs.Option.{option_map_or, option_to_list}
+use Rattle.std.proofs.Common.{refl, sym, ap, ◌∙◌}
+use Rattle.conref_pull.specs.Resolved.{page_made, root_faults}
+use Rattle.conref_pull.specs.Rules as kept
+use Rattle.conref_pull.specs.Rules.{ditavals, rules_under}
+use Rattle.conref_pull.specs.Setting as pulled
+use Rattle.dita_doc.specs.declared.content.PageLink.{PageLink}
+use Rattle.dita_doc.specs.declared.content.Rule.{Rule}
+use Rattle.dita_doc.specs.declared.fact.Html.{Html}
+use Rattle.dita_doc.specs.declared.fault.Fault.{Fault}
+use Rattle.dita_doc.specs.declared.plan.Context.{Context}
+use Rattle.dita_doc.specs.declared.plan.PagePlan.{PagePlan}
+use Rattle.dita_doc.specs.declared.plan.Plan.{Plan}
+use Rattle.ditaval_rules.specs.declared.rules.RulesRead.{RulesRead}
+use Rattle.map_spec.specs.Branches.{ditaval_in}
+use Rattle.map_spec.specs.Included.{root_in}
+use Rattle.map_spec.specs.Titles.{title_in}
+use Rattle.map_spec.specs.Written.{Whole}
+use Rattle.node_links.specs.NodeTable.{node_links}
+use Rattle.page_spec.specs.Anchors.{element_links}
+use Rattle.page_spec.specs.Content.{Made, count_limit, resolved_page}
+use Rattle.page_spec.specs.Links.{row_faults}
+use Rattle.page_spec.specs.PageHtml.{page_html}
+use Rattle.part_spec.specs.Parts.{here_of, hrefs_once, no_html, page_part, rooms, rules_of, setting_of, too_many}
+use Rattle.reader_spec.specs.World.{World}
+use Rattle.clean_build.specs.Bodies.{IsBodyMade, body_of, content_of}
+use Rattle.clean_build.specs.Made.{page_at, page_behind, page_of_root}
+use Rattle.clean_build.specs.Tables.{made_for}
+use Rattle.clean_build.specs.declared.body.BodyMade.{BodyMade}
+use Rattle.clean_build.proofs.LinkLaws.{links_once}
+use Rattle.clean_build.proofs.RootLaws.{IsRootAt}
 
--- the last piece, whose result is returned as it is
-pub appended_last : {T E : Type 0} → (result : Result T E) (old new joined whole : List ℕ)
-    → new ≡ (if is_ok result then joined else old) → joined ≡ whole → OnOk result (new ≡ whole)
-appended_last (Ok done) old new joined whole e same = e ∙ same
-appended_last (Err error) old new joined whole e same = tt
+-- The rules by which a page is judged
 
--- a piece more for each item
-pub piece_more : {X Y : Type 0} (f : Y → List ℕ) (see : X → Y) (before out new : List ℕ) (items : List X) (i : ℕ)
-    → (item : X) → i < length items → item ≡ get_or items i item
-    → out ≡ before ++ flat_map f (map see (take i items)) → new ≡ out ++ f (see item)
-    → new ≡ before ++ flat_map f (map see (take (i + 1) items))
-piece_more f see before out new items i item within is so_far step =
-    let front = map see (take i items) in
-    let one = map-append see (take i items) (item ∷ []) in
-    rw (step, so_far, flat_map_more f before front (see item), take_more items i item within, ← is, one) refl
+rules_one : (read : Option RulesRead)
+    → option_to_list (option_map (λ (r : RulesRead). r.rules) read) ≡ rules_of read
+rules_one None = refl
+rules_one (Some read) = refl
 
--- what stands before the title of a page, between the title and the body, before the body, and behind it
-abbrev head : List ℕ
-head = line (codes "<!DOCTYPE html>") ++ codes "<html><head><meta charset=\"utf-8\"><title>"
+rules_all : (world : World) (names : List (List ℕ)) → kept.page_rules world names
+    ≡ flat_map (λ name. rules_of (ditaval_in world name)) names
+rules_all world [] = refl
+rules_all world (name ∷ names) =
+    ap (λ rules. rules ++ kept.page_rules world names) (rules_one (ditaval_in world name))
+    ∙ ap (λ rules. rules_of (ditaval_in world name) ++ rules) (rules_all world names)
 
-abbrev middle : List ℕ
-middle = line (codes "</title></head>") ++ line (codes "<body>")
+module _ (world : World) (plan : Plan) (val : Option (List ℕ)) (index : ℕ) (page : PagePlan) (behind : List Fault) where
+  abbrev content : Made
+  content = page_made world (made_for plan) val page.id
 
-abbrev page_start : List ℕ → List ℕ
-page_start title =
-    line (codes "<!DOCTYPE html>")
-    ++ line (codes "<html><head><meta charset=\"utf-8\"><title>" ++ title ++ codes "</title></head>")
-    ++ line (codes "<body>")
+  content_is : (root : Whole) → root_in world page.id.doc ≡ Some root
+      → content ≡ resolved_page rooms.nodes (too_many root) (setting_of world plan val page)
+  content_is root there =
+      ap (λ found. resolved_page count_limit (root_faults found) (pulled.setting_of world (made_for plan) page.id
+      (kept.page_rules world (ditavals val page.id.filters)))) there
+      ∙ ap (λ (rules : List (List Rule)). resolved_page count_limit (too_many root)
+      (pulled.setting_of world (made_for plan) page.id rules)) (rules_all world (ditavals val page.id.filters))
 
-abbrev tail : List ℕ
-tail = line (codes "</body></html>")
+  -- in a document with a root
+  pub page_rooted : (line : ℕ) → IsRootAt world page.id.doc line
+      → page_at rooms world plan index page behind page.id.doc line content
+      ≡ page_behind rooms world plan val index page behind
+  page_rooted line at =
+      ap (λ name. page_at rooms world plan index page behind name line content) (sym at.doc)
+      ∙ ap (λ n. page_at rooms world plan index page behind at.root.0.doc n content) (sym at.line_is)
+      ∙ ap (page_at rooms world plan index page behind at.root.0.doc at.root.0.line) (content_is at.root at.there)
+      ∙ ap (λ (found : Option Whole). option_map_or (page_of_root rooms world plan val index page behind) found no_html)
+      (sym at.there)
 
-start_pieces : (title : List ℕ) → head ++ title ++ middle ≡ page_start title
-start_pieces title = simp append_assoc
+  -- and without one
+  pub page_rootless : root_in world page.id.doc ≡ None
+      → no_html ≡ page_behind rooms world plan val index page behind
+  page_rootless none =
+      ap (λ (found : Option Whole). option_map_or (page_of_root rooms world plan val index page behind) found no_html)
+      (sym none)
 
-regrouped : (start body break end : List ℕ) → start ++ body ++ (break ++ end) ≡ start ++ (body ++ break) ++ end
-regrouped start body break end = simp append_assoc
+-- The page at an index
 
--- a page is these pieces
-pub page_with-pieces : (title body : List ℕ)
-    → head ++ title ++ middle ++ body ++ (line_feed ∷ tail) ≡ page_with title body
-page_with-pieces title body =
-    ap (λ (start : List ℕ). start ++ body ++ (line_feed ∷ tail)) (start_pieces title)
-    ∙ regrouped (page_start title) body (line_feed ∷ []) tail
+pub page_there : (world : World) (plan : Plan) (val : Option (List ℕ)) (index : ℕ) (page : PagePlan)
+    → slice_get plan.pages index ≡ Some page
+    → page_behind rooms world plan val index page (row_faults plan) ≡ page_part rooms world plan val index
+unfolding page_part
+page_there world plan val index page there = ap (λ (found : Option PagePlan). option_map_or
+    (λ (p : PagePlan). page_behind rooms world plan val index p (row_faults plan)) found no_html) (sym there)
+
+pub page_nowhere : (world : World) (plan : Plan) (val : Option (List ℕ)) (index : ℕ)
+    → slice_get plan.pages index ≡ None → no_html ≡ page_part rooms world plan val index
+unfolding page_part
+page_nowhere world plan val index there = ap (λ (found : Option PagePlan). option_map_or
+    (λ (p : PagePlan). page_behind rooms world plan val index p (row_faults plan)) found no_html) (sym there)
+
+-- The page, from its body, its links and its title
+pub page_shown : (world : World) (plan : Plan) (index : ℕ) (page : PagePlan) (behind : List Fault) (line : ℕ)
+    (context : Context) (made : BodyMade) (of_nodes joined hrefs : List PageLink) (title topic : List ℕ) (html : Html)
+    → IsBodyMade world plan context page index behind made → of_nodes ≡ node_links world plan index
+    → joined ≡ of_nodes ++ made.links → hrefs ≡ hrefs_once joined → title_in world page.id.doc topic ≡ title
+    → topic ≡ [] → html ≡ page_html page.id.doc line title made.body hrefs
+    → html ≡ page_at rooms world plan index page behind page.id.doc line (content_of world plan context)
+page_shown world plan index page behind line context made of_nodes joined hrefs title topic html is nodes both once
+    titled none shown =
+    let here = here_of world plan page index in
+    let content = content_of world plan context in
+    let name = page.id.doc in
+    let first = title_in world name [] in
+    let links = once ∙ ap hrefs_once (both ∙ ap (λ all. all ++ made.links) nodes
+    ∙ ap (λ all. node_links world plan index ++ all) is.links)
+    ∙ links_once world plan index (element_links here content.nodes) in
+    shown
+    ∙ ap (λ t. page_html name line t made.body hrefs) (sym titled ∙ ap (title_in world name) none)
+    ∙ ap (λ (body : Html). page_html name line first body hrefs) is.body
+    ∙ ap (λ (all : List PageLink). page_html name line first (body_of here behind content) all) links

@@ -1,11 +1,10 @@
--- What a build gives, in the words of `Given`: an `Arc` is what it holds.
+-- What a build gives, in the words of the definition: an `Arc` is what it holds.
 use Rattle.std.specs.Prelude.{ℕ, List, map}
 use Rattle.std.specs.Arc.{arc_value}
 use Rattle.std.specs.List.{All}
 use Rattle.std.specs.declared.alloc.Global.{Global}
 use Rattle.std.specs.declared.sync.Arc.{Arc}
-use Rattle.build_spec.specs.Built.{Page, Done, Stopped, TooLarge}
-use Rattle.clean_build.specs.Given.{Given, NotYet, Gave}
+use Rattle.build_spec.specs.Built.{Built, Page, Done, Stopped, TooLarge}
 use Rattle.clean_build.specs.PageNames.{IsPageName}
 use Rattle.clean_build.specs.declared.built.Clean.{Clean}
 use Rattle.clean_build.specs.declared.built.Clean.TheVariants as given
@@ -18,11 +17,10 @@ Made = List ℕ × Arc Html Global
 abbrev pub page_seen : Made → Page
 page_seen page = (page.0, (arc_value page.1).bytes)
 
-abbrev pub clean_seen : Clean → Given
-clean_seen (given.Done pages faults) = Gave (Done (map page_seen pages) faults)
-clean_seen (given.Stopped stop) = Gave (Stopped stop)
-clean_seen (given.TooLarge total) = Gave (TooLarge total)
-clean_seen given.NotYet = NotYet
+abbrev pub clean_seen : Clean → Built
+clean_seen (given.Done pages faults) = Done (map page_seen pages) faults
+clean_seen (given.Stopped stop) = Stopped stop
+clean_seen (given.TooLarge total) = TooLarge total
 
 abbrev pub HasPageName : Made → Type 0
 HasPageName page = IsPageName page.0
@@ -32,4 +30,3 @@ abbrev pub HasPageNames : Clean → Type 0
 HasPageNames (given.Done pages faults) = All HasPageName pages
 HasPageNames (given.Stopped stop) = Unit {0}
 HasPageNames (given.TooLarge total) = Unit {0}
-HasPageNames given.NotYet = Unit {0}

@@ -1,7 +1,10 @@
-pub mod Flat
-pub mod Page
-pub mod PageNames
-pub mod FlatBuild
-pub mod Given
-pub mod Topics
+pub mod Bodies
 pub mod Clean
+pub mod Gathering
+pub mod Ground
+pub mod Made
+pub mod Names
+pub mod PageNames
+pub mod Root
+pub mod Single
+pub mod Tables

@@ -12,6 +12,4 @@ pub enum Clean {
     Stopped(PlanStop),
     /// The pages have more bytes than a build may have: so many.
     TooLarge(u64),
-    /// The sources have a form that is not built yet.
-    NotYet,
 }

@@ -1,20 +1,25 @@
-//! The build of a map over what is stored, on one thread: so far of flat maps alone.
+//! The build of a map by the evaluators of the whole language: its plan, each of its pages, the
+//! contents page, and all of them together.
 //!
-//! What is used above it: `clean` gives what the definition of a build gives over the same sources,
-//! or says that they have a form that is not built yet; and the names of its pages stay document
-//! names in the folder of a build.
-#![tactic(auto)]
+//! What is used above it: `clean` gives the clean build of a map over stored sources, as it is
+//! defined. `page` and `toc` give the parts of the plan of a map, as they are defined.
+#![tactic(auto, using(crate::proofs::Putting::putting))]
 
-mod build;
+mod body;
+mod build_tables;
 mod built;
-mod flat;
-mod map_topics;
-mod name;
-mod page;
-mod pages;
-#[cfg(test)]
-mod tests;
-mod topic;
+mod faults;
+mod gathered;
+mod ground;
+mod hrefs;
+mod over_plan;
+mod over_sources;
+mod over_titles;
+mod root;
+mod single_parts;
+mod whole_build;
+mod works;
 
-pub use build::clean;
 pub use built::Clean;
+pub use single_parts::{page, toc};
+pub use whole_build::clean;

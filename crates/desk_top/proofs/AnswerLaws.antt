@@ -5,7 +5,7 @@ use Rattle.std.specs.List.{All, slice_get}
 use Rattle.std.specs.Option.{option_and_then, option_copied}
 use Rattle.std.specs.Str.{is_utf8}
 use Rattle.std.proofs.lemmas.Option.{same_Some, slice_get_within, get_or_from_slice_get}
-use Rattle.clean_build.specs.Given.{Given, given_of}
+use Rattle.build_spec.specs.Built.{Built}
 use Rattle.dita_doc.specs.Bytes.{Bytes}
 use Rattle.dita_doc.specs.Desk.{State, Stored, Reply, IsStored, Conflict, TooManyNames, reply, next, found, store_reply, unless_refused, get_reply, remove_reply, version_at, stored_limit}
 use Rattle.dita_doc.specs.History.{Entry, sources}
@@ -14,7 +14,9 @@ use Rattle.dita_doc.specs.Request.{Request, Put, PutIf, Remove, Get, Names, Buil
 use Rattle.dita_doc.specs.Tree.{Content}
 use Rattle.dita_doc.specs.declared.fault.PyxFault.{PyxFault}
 use Rattle.dita_outside.specs.Pages.{Pages, TakesPages, TakesPagesFront}
-use Rattle.run_spec.specs.Answers.{answer_shown, built_by, given_shown, pages_of_answer}
+use Rattle.part_spec.specs.Parts.{clean_build}
+use Rattle.reader_spec.specs.World.{world_of}
+use Rattle.run_spec.specs.Answers.{answer_shown, build_shown, built_by, pages_of_answer}
 use Rattle.run_spec.proofs.ShownLaws.{begun_built, some_map}
 use Rattle.script_text.specs.Script.{Step}
 use Rattle.transcript_text.specs.Transcript.{BuildShown, EntryShown, entry_shown}
@@ -172,7 +174,7 @@ told_behind before text after (Some entry) told put = (told.0, put ∙ ap (λ t.
 pub answers_whole : (old new : Kept) (step : Step) (place number : ℕ) (entry : Entry) (built : Option BuildShown)
     (told before after : Bytes)
     → HasKept old new step place number → slice_get new.history place ≡ Some entry
-    → built ≡ option_map given_shown (built_at new place)
+    → built ≡ option_map build_shown (built_at new place)
     → IsTextOfEntry (entry_shown place entry built) told → after ≡ before ++ told
     → Answers old.history new.history step before after
 answers_whole old new step place number entry built told before after kept there shown text put =
@@ -180,7 +182,7 @@ answers_whole old new step place number entry built told before after kept there
     let same : entry_shown place entry built ≡ answer_shown (length old.history) answer =
     ap (λ (e : Entry). entry_shown place e built) (entry_is old new step place number entry kept there)
     ∙ ap (entry_shown place answer.entry) (shown
-    ∙ ap (option_map given_shown) (built_new old new step place number kept))
+    ∙ ap (option_map build_shown) (built_new old new step place number kept))
     ∙ ap (λ n. answer_shown n answer) kept.at in
     record {
       grown = new_history old new step place number kept;
@@ -190,19 +192,22 @@ answers_whole old new step place number entry built told before after kept there
 
 -- What a build gave
 
--- an entry that is a build
-pub built_is : (kept : Kept) (place : ℕ) (entry : Entry) (map : List ℕ) (val : Option (List ℕ)) (given : Given)
-    → slice_get kept.history place ≡ Some entry → entry.request ≡ Build map val
-    → given ≡ given_of (stored_now kept) map val → built_at kept place ≡ Some given
-built_is kept place entry map val given there asks gave =
+-- an entry that is a build, over the sources that a store has
+pub built_is : (kept : Kept) (place : ℕ) (entry : Entry) (state : State) (map : List ℕ) (val given : Option (List ℕ))
+    (built : Built) → slice_get kept.history place ≡ Some entry → entry.request ≡ Build map val
+    → state ≡ stored_now kept → given ≡ val → built ≡ clean_build (world_of state) map given
+    → built_at kept place ≡ Some built
+built_is kept place entry state map val given built there asks stored same is =
     ap (option_and_then (λ (e : Entry). built_by (stored_now kept) e.request)) there
-    ∙ ap (built_by (stored_now kept)) asks ∙ ap Some (sym gave)
+    ∙ ap (built_by (stored_now kept)) asks
+    ∙ ap Some (sym (is ∙ ap (λ s. clean_build (world_of s) map given) stored
+    ∙ ap (clean_build (world_of (stored_now kept)) map) same))
 
-pub front_of_build : (kept : Kept) (place number : ℕ) (given : Given) (a b : Option Pages)
-    → built_at kept place ≡ Some given → TakesPagesFront a b (pages_put_by number (Some given))
+pub front_of_build : (kept : Kept) (place number : ℕ) (built : Built) (a b : Option Pages)
+    → built_at kept place ≡ Some built → TakesPagesFront a b (pages_put_by number (Some built))
     → TakesPagesFront a b (pages_put_by number (built_at kept place))
-front_of_build kept place number given a b is front =
-    subst (λ (built : Option Given). TakesPagesFront a b (pages_put_by number built)) (sym is) front
+front_of_build kept place number built a b is front =
+    subst (λ (given : Option Built). TakesPagesFront a b (pages_put_by number given)) (sym is) front
 
 -- what is there is shown, and what is shown is there
 pub some_shown : {A B C : Type 0} (f : A → C) (g : B → C) (shown : Option A) (built : Option B)

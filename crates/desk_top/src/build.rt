@@ -30,7 +30,7 @@ pub fn build<O: Outlet>(
     requires there { place < length store.now.history }
     requires number { number ≤ script_spec.request_limit }
     ensures shown { IfOk result (λ built. written_spec.built_shown built
-        ≡ option_map answers_spec.given_shown (builds_spec.built_at store.now place)) }
+        ≡ option_map answers_spec.build_shown (builds_spec.built_at store.now place)) }
     ensures pages { pages_spec.PutsPages (O.pages outlet.old) (O.pages outlet.new) result
         (builds_spec.pages_put_by number (builds_spec.built_at store.now place)) }
     ensures cause { cause_spec.HasCauseOrNoMemory
@@ -56,7 +56,7 @@ fn put_built<O: Outlet>(
     requires number { number ≤ script_spec.request_limit }
     requires names { clean_spec.HasPageNames built }
     ensures shown { IfOk result (λ text. written_spec.text_shown text
-        ≡ answers_spec.given_shown (clean_spec.clean_seen built)) }
+        ≡ answers_spec.build_shown (clean_spec.clean_seen built)) }
     ensures pages { pages_spec.PutsPages (O.pages outlet.old) (O.pages outlet.new) result
         (builds_spec.pages_put_by number (Some (clean_spec.clean_seen built))) }
     ensures cause { cause_spec.HasCauseOrNoMemory
@@ -70,7 +70,6 @@ fn put_built<O: Outlet>(
         }
         Clean::Stopped(stop) => Ok(BuiltText::Stopped(stop)),
         Clean::TooLarge(total) => Ok(BuiltText::TooLarge(total)),
-        Clean::NotYet => Ok(BuiltText::NotYet),
     }
 }
 

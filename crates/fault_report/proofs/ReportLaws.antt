@@ -1,4 +1,5 @@
--- What is left of faults that are sorted and of which each stands once is their report; and they have one report only.
+-- What is left of faults that are sorted and of which each stands once is their report; and they have one report only,
+-- the one that is made by putting each fault in its place.
 use Rattle.std.specs.Prelude.{◌≡◌, List, [], ◌∷◌, map, true}
 use Rattle.std.specs.List.{All, AllByRecursion, Contains, dedup}
 use Rattle.std.specs.List.Sorted.{IsPermutation, IsSorted, IsStrictlySortedBy}
@@ -12,7 +13,7 @@ use Rattle.std.proofs.lemmas.List.Elements.{All-cons, All-contains, All-weaker, 
 use Rattle.std.proofs.lemmas.List.Kept.{Any-dedup, Contains-from_dedup, IsStrictlySortedBy-dedup}
 use Rattle.std.proofs.lemmas.List.Sorted.{Contains-permutation, IsPermutation-sym}
 use Rattle.dita_doc.specs.declared.fault.Fault.{Fault}
-use Rattle.fault_report.specs.Report.{fault_order, IsAmong, IsBeforeAll, IsRising, IsReport}
+use Rattle.fault_report.specs.Report.{fault_order, put_by, put_fault, report_of, IsAmong, IsBeforeAll, IsRising, IsReport}
 use Rattle.fault_report.proofs.OrderLaws.{fault_order_total, same_fault}
 
 tied_by_test : (order : Ordering) → is_eq order ≡ true → order ≡ Equal
@@ -143,3 +144,86 @@ pub one_report : (faults a b : List Fault) → IsReport faults a → IsReport fa
 one_report faults a b first second = same_rising a b first.rising second.rising
     (λ fault is_among. second.all fault (first.only fault is_among))
     (λ fault is_among. first.all fault (second.only fault is_among))
+
+-- The report as a list
+
+behind_same : (x fault : Fault) (a b : List Fault) → (IsAmong x a → IsAmong x b) → IsAmong x (fault ∷ a)
+    → IsAmong x (fault ∷ b)
+behind_same x fault a b to (inl is) = inl is
+behind_same x fault a b to (inr is_among) = inr (to is_among)
+
+-- a fault that is put in its place is there, and so is each that was there, and no other
+put_by_only : (order : Ordering) (x fault other : Fault) (faults behind : List Fault)
+    → (IsAmong x behind → IsAmong x (fault ∷ faults)) → IsAmong x (put_by order fault other faults behind)
+    → IsAmong x (fault ∷ other ∷ faults)
+put_by_only Less x fault other faults behind rest is_among = is_among
+put_by_only Equal x fault other faults behind rest is_among = inr is_among
+put_by_only Greater x fault other faults behind rest (inl is) = inr (inl is)
+put_by_only Greater x fault other faults behind rest (inr is_among) =
+    behind_same x fault faults (other ∷ faults) (λ one. inr one) (rest is_among)
+
+put_only : (x fault : Fault) (faults : List Fault) → IsAmong x (put_fault fault faults) → IsAmong x (fault ∷ faults)
+put_only x fault [] is_among = is_among
+put_only x fault (other ∷ faults) is_among =
+    put_by_only (fault_order fault other) x fault other faults (put_fault fault faults) (put_only x fault faults) is_among
+
+put_by_all : (order : Ordering) (x fault other : Fault) (faults behind : List Fault) → fault_order fault other ≡ order
+    → (IsAmong x (fault ∷ faults) → IsAmong x behind) → IsAmong x (fault ∷ other ∷ faults)
+    → IsAmong x (put_by order fault other faults behind)
+put_by_all Less x fault other faults behind e rest is_among = is_among
+put_by_all Equal x fault other faults behind e rest (inl is) = inl (is ∙ same_fault fault other e)
+put_by_all Equal x fault other faults behind e rest (inr is_among) = is_among
+put_by_all Greater x fault other faults behind e rest (inl is) = inr (rest (inl is))
+put_by_all Greater x fault other faults behind e rest (inr (inl is)) = inl is
+put_by_all Greater x fault other faults behind e rest (inr (inr is_among)) = inr (rest (inr is_among))
+
+put_all : (x fault : Fault) (faults : List Fault) → IsAmong x (fault ∷ faults) → IsAmong x (put_fault fault faults)
+put_all x fault [] is_among = is_among
+put_all x fault (other ∷ faults) is_among =
+    put_by_all (fault_order fault other) x fault other faults (put_fault fault faults) refl (put_all x fault faults)
+    is_among
+
+before_each : (x : Fault) (faults : List Fault)
+    → ((fault : Fault) → IsAmong fault faults → fault_order x fault ≡ Less) → IsBeforeAll x faults
+before_each x [] below = tt
+before_each x (y ∷ faults) below =
+    (below y (inl refl), before_each x faults (λ fault is_among. below fault (inr is_among)))
+
+before_through : (x y : Fault) (faults : List Fault) → fault_order x y ≡ Less → IsBeforeAll y faults
+    → IsBeforeAll x faults
+before_through x y faults less below = before_each x faults
+    (λ fault is_among. fault_order_total.trans x y fault less (before_among y fault faults below is_among))
+
+before_put : (x fault : Fault) (faults : List Fault) → IsBeforeAll x (fault ∷ faults)
+    → IsBeforeAll x (put_fault fault faults)
+before_put x fault faults below = before_each x (put_fault fault faults)
+    (λ y is_among. before_among x y (fault ∷ faults) below (put_only y fault faults is_among))
+
+-- faults that rise rise still with one more in its place
+put_by_rises : (order : Ordering) (fault other : Fault) (faults : List Fault) → fault_order fault other ≡ order
+    → IsRising (other ∷ faults) → IsRising (put_fault fault faults)
+    → IsRising (put_by order fault other faults (put_fault fault faults))
+put_by_rises Less fault other faults e rising rest = ((e, before_through fault other faults e rising.0), rising)
+put_by_rises Equal fault other faults e rising rest = rising
+put_by_rises Greater fault other faults e rising rest =
+    let less : fault_order other fault ≡ Less = fault_order_total.antisymm other fault ∙ ap ordering_reverse e in
+    (before_put other fault faults (less, rising.0), rest)
+
+put_rises : (fault : Fault) (faults : List Fault) → IsRising faults → IsRising (put_fault fault faults)
+put_rises fault [] rising = (tt, tt)
+put_rises fault (other ∷ faults) rising =
+    put_by_rises (fault_order fault other) fault other faults refl rising (put_rises fault faults rising.1)
+
+pub is_report : (faults : List Fault) → IsReport faults (report_of faults)
+is_report [] = record { rising = tt; all = λ fault is_among. is_among; only = λ fault is_among. is_among }
+is_report (fault ∷ faults) =
+    let report = report_of faults in
+    let rest = is_report faults in
+    record {
+      rising = put_rises fault report rest.rising;
+      all = λ x is_among. put_all x fault report (behind_same x fault faults report (rest.all x) is_among);
+      only = λ x is_among. behind_same x fault report faults (rest.only x) (put_only x fault report is_among);
+    }
+
+pub report_is : (faults report : List Fault) → IsReport faults report → report ≡ report_of faults
+report_is faults report is = one_report faults report (report_of faults) is (is_report faults)

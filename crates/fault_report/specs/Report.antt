@@ -40,3 +40,18 @@ pub record IsReport (faults report : List Fault) : Type 0 where
   pub rising : IsRising report
   pub all : (fault : Fault) → IsAmong fault faults → IsAmong fault report
   pub only : (fault : Fault) → IsAmong fault report → IsAmong fault faults
+
+-- The report as a list: each fault put in its place, unless it is there
+
+abbrev pub put_by : Ordering → Fault → Fault → List Fault → List Fault → List Fault
+put_by Less fault other faults behind = fault ∷ other ∷ faults
+put_by Equal fault other faults behind = other ∷ faults
+put_by Greater fault other faults behind = other ∷ behind
+
+abbrev pub put_fault : Fault → List Fault → List Fault
+put_fault fault [] = fault ∷ []
+put_fault fault (other ∷ faults) = put_by (fault_order fault other) fault other faults (put_fault fault faults)
+
+abbrev pub report_of : List Fault → List Fault
+report_of [] = []
+report_of (fault ∷ faults) = put_fault fault (report_of faults)

@@ -1,11 +1,11 @@
 -- Each page of a build is a page.
-use Rattle.std.specs.Prelude.{◌≡◌, ◌+◌, ◌<◌, ◌≤◌, ◌&&◌, ℕ, zero, suc, Bool, true, false, List, [], ◌∷◌, ◌++◌, Option, Some, None, IfSome, Result, Ok, Err, length, map, option_map, slice_get, if◌then◌else◌}
+use Rattle.std.specs.Prelude.{◌≡◌, ◌+◌, ◌<◌, ◌≤◌, ◌&&◌, ℕ, zero, suc, Bool, true, false, List, [], ◌∷◌, ◌++◌, Option, Some, None, IfSome, Result, Ok, Err, length, map, nat_le, option_map, slice_get, if◌then◌else◌}
 use Rattle.std.specs.List.{All, AllByRecursion, filter_map}
 use Rattle.std.specs.Option.{option_and_then, option_map_or}
 use Rattle.std.proofs.Common.{refl, sym, subst, arith}
 use Rattle.std.proofs.lemmas.Bool.{and_parts}
 use Rattle.std.proofs.lemmas.List.Elements.{All-from_recursion}
-use Rattle.build_spec.specs.Built.{Page, Done}
+use Rattle.build_spec.specs.Built.{Page, Done, TooLarge}
 use Rattle.dita_doc.specs.declared.fact.Html.{Html}
 use Rattle.dita_doc.specs.declared.fault.Fault.{Fault}
 use Rattle.dita_doc.specs.declared.plan.PagePlan.{PagePlan}
@@ -24,7 +24,7 @@ use Rattle.page_spec.specs.Anchors.{anchor_faults, anchors, element_links}
 use Rattle.page_spec.specs.Blocks.{body_html}
 use Rattle.page_spec.specs.Content.{Made, resolved_page}
 use Rattle.page_spec.specs.Links.{row_faults}
-use Rattle.part_spec.specs.Parts.{IsBuildBy, IsCleanBuild, Rooms, contents_part, here_of, links_of, names_of, page_of_root, page_part, page_parts, no_html, page_with, pages_with, parts_of, rooms, setting_of, too_many, total_limit}
+use Rattle.part_spec.specs.Parts.{Rooms, build_by, build_of, clean_build, contents_part, here_of, links_of, names_of, page_of_root, page_part, page_parts, no_html, page_with, pages_with, parts_of, rooms, setting_of, too_many, total_limit, total_of}
 use Rattle.html_laws.specs.Markup.{IsPage}
 use Rattle.html_laws.proofs.BlocksLaws.{body_markup}
 use Rattle.html_laws.proofs.ContentsLaws.{contents_is_page}
@@ -169,9 +169,20 @@ with_names [] parts all = tt
 with_names (name ∷ names) [] all = tt
 with_names (name ∷ names) (part ∷ parts) all = (all.0, with_names names parts all.1)
 
+done_if : (fits : Bool) (total : ℕ) (made pages : List Page) (found report : List Fault)
+    → (if fits then Done made found else TooLarge total) ≡ Done pages report → made ≡ pages
+done_if true total made pages found report e = cc
+done_if false total made pages found report e = absurd (cc)
+
+-- a build that is done has the pages of its parts
+pub done_pages : (limit : ℕ) (plan : Plan) (parts : List Html) (pages : List Page) (report : List Fault)
+    → build_of limit plan parts ≡ Done pages report → pages_with (names_of plan) parts ≡ pages
+done_pages limit plan parts pages report e =
+    done_if (nat_le (total_of parts) limit) _ _ pages _ report e
+
 built_by : (world : World) (map : List ℕ) (val : Option (List ℕ)) (pages : List Page) (report : List Fault)
     (made : Result Plan PlanStop) → plan_of limits world map val ≡ made
-    → IsBuildBy rooms total_limit world val made (Done pages report) → All IsPageHere pages
+    → build_by rooms total_limit world val made ≡ Done pages report → All IsPageHere pages
 built_by world map val pages report (Err stop) e is = absurd (cc)
 built_by world map val pages report (Ok plan) e is =
     let known = plan_pages limits world map val plan e in
@@ -179,11 +190,12 @@ built_by world map val pages report (Ok plan) e is =
     let kinds_are : AllByRecursion kind plan.pages =
     subst (AllByRecursion kind) (sym known.are) (page_kinds world known.nodes) in
     let parts = parts_of rooms world plan val in
-    subst (All IsPageHere) (sym is.1)
+    subst (All IsPageHere) (done_pages total_limit plan parts pages report is)
     (All-from_recursion IsPageHere (pages_with (names_of plan) parts)
     (with_names (names_of plan) parts (parts_are_pages rooms world plan val kinds_are)))
 
 pub build_is_pages : (world : World) (map : List ℕ) (val : Option (List ℕ)) (pages : List Page) (report : List Fault)
-    → IsCleanBuild world map val (Done pages report) → All IsPageHere pages
+    → clean_build world map val ≡ Done pages report → All IsPageHere pages
+unfolding clean_build
 build_is_pages world map val pages report is =
     built_by world map val pages report (plan_of limits world map val) refl is

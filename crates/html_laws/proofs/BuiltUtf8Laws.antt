@@ -1,9 +1,9 @@
 -- Each page of a build of UTF-8 is UTF-8.
-use Rattle.std.specs.Prelude.{◌+◌, ℕ, List, [], ◌∷◌, ◌++◌, Option, Some, None, IfSome, Result, Ok, Err, IfOk, length, map, nat_le, slice_get}
+use Rattle.std.specs.Prelude.{◌≡◌, ◌+◌, ℕ, List, [], ◌∷◌, ◌++◌, Option, Some, None, IfSome, Result, Ok, Err, IfOk, length, map, nat_le, slice_get}
 use Rattle.std.specs.List.{All, AllByRecursion}
 use Rattle.std.specs.Option.{option_map_or}
 use Rattle.std.specs.Str.{IsUtf8}
-use Rattle.std.proofs.Common.{sym, subst}
+use Rattle.std.proofs.Common.{subst}
 use Rattle.std.proofs.lemmas.List.Elements.{All-from_recursion}
 use Rattle.std.proofs.lemmas.Str.{IsUtf8-nil}
 use Rattle.build_spec.specs.Built.{Page, Done}
@@ -29,10 +29,11 @@ use Rattle.page_spec.specs.Anchors.{anchor_faults, anchors, element_links}
 use Rattle.page_spec.specs.Blocks.{body_html}
 use Rattle.page_spec.specs.Content.{resolved_page}
 use Rattle.page_spec.specs.Links.{row_faults}
-use Rattle.part_spec.specs.Parts.{IsBuildBy, IsCleanBuild, Rooms, contents_part, here_of, links_of, names_of, no_html, page_of_root, page_part, page_parts, pages_with, parts_of, rooms, setting_of, too_many, total_limit}
+use Rattle.part_spec.specs.Parts.{Rooms, build_by, clean_build, contents_part, here_of, links_of, names_of, no_html, page_of_root, page_part, page_parts, pages_with, parts_of, rooms, setting_of, too_many, total_limit}
 use Rattle.html_laws.specs.Utf8.{IsUtf8Node, IsUtf8Page, IsUtf8Plan, IsUtf8World}
 use Rattle.html_laws.proofs.AnchorUtf8Laws.{IsUtf8Here, utf8_anchors, utf8_element_links}
 use Rattle.html_laws.proofs.BlocksUtf8Laws.{body_utf8}
+use Rattle.html_laws.proofs.BuiltLaws.{done_pages}
 use Rattle.html_laws.proofs.CascadeUtf8Laws.{utf8_cascaded, utf8_scoped_from}
 use Rattle.html_laws.proofs.ContentUtf8Laws.{IsUtf8Whole, utf8_title_in}
 use Rattle.html_laws.proofs.ContentsUtf8Laws.{contents_utf8}
@@ -187,15 +188,16 @@ utf8_with_names (name ∷ names) (part ∷ parts) all = (all.0, utf8_with_names 
 
 utf8_built_by : (world : World) (val : Option (List ℕ)) (pages : List Page) (report : List Fault)
     (made : Result Plan PlanStop) → IsUtf8World world → PlansInUtf8 made
-    → IsBuildBy rooms total_limit world val made (Done pages report) → All HasUtf8Bytes pages
+    → build_by rooms total_limit world val made ≡ Done pages report → All HasUtf8Bytes pages
 utf8_built_by world val pages report (Err stop) all planned is = absurd (cc)
 utf8_built_by world val pages report (Ok plan) all planned is =
     let parts = parts_of rooms world plan val in
-    subst (All HasUtf8Bytes) (sym is.1)
+    subst (All HasUtf8Bytes) (done_pages total_limit plan parts pages report is)
     (All-from_recursion HasUtf8Bytes (pages_with (names_of plan) parts)
     (utf8_with_names (names_of plan) parts (utf8_parts rooms world plan val all planned)))
 
 pub build_utf8 : (world : World) (map : List ℕ) (val : Option (List ℕ)) (pages : List Page) (report : List Fault)
-    → IsUtf8World world → IsUtf8 map → IsCleanBuild world map val (Done pages report) → All HasUtf8Bytes pages
+    → IsUtf8World world → IsUtf8 map → clean_build world map val ≡ Done pages report → All HasUtf8Bytes pages
+unfolding clean_build
 build_utf8 world map val pages report all named is =
     utf8_built_by world val pages report (plan_of limits world map val) all (utf8_plan limits world all map val named) is

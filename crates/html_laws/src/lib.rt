@@ -35,7 +35,7 @@ pub fn pages_are_markup()
         markup_spec.IsPage (contents_spec.contents world plan) }
     // So is each page of a build, the contents page too.
     ensures built { (world : World) (map : List ℕ) (val : Option (List ℕ)) (pages : List Page)
-        (report : List Fault) → parts_spec.IsCleanBuild world map val (Done pages report) →
+        (report : List Fault) → parts_spec.clean_build world map val ≡ Done pages report →
         All (λ page. markup_spec.IsPage page.1) pages }
 {}
 
@@ -86,7 +86,7 @@ pub fn pages_are_utf8()
     // So is each page of a build, if the map's name and the documents are UTF-8.
     ensures built { (world : World) (map : List ℕ) (val : Option (List ℕ)) (pages : List Page)
         (report : List Fault) → utf8_spec.IsUtf8World world → IsUtf8 map →
-        parts_spec.IsCleanBuild world map val (Done pages report) →
+        parts_spec.clean_build world map val ≡ Done pages report →
         All (λ page. IsUtf8 page.1) pages }
     // The documents of a world are UTF-8 if they were read of PYX.
     ensures read { (world : World) → ((name : List ℕ) → IfSome (world name) IsReadTree) →

@@ -3,8 +3,6 @@
 use Prim.Native.String.{String}
 use Rattle.std.specs.Prelude.{◌+◌, ℕ, List, [], ◌∷◌, ◌++◌, Some, None, Result, Ok, Err, length, map, codes, bytes_eq, if◌then◌else◌}
 use Rattle.std.specs.Option.{option_map_or}
-use Rattle.std.specs.declared.cmp.Ordering.{Ordering}
-use Rattle.std.specs.declared.cmp.Ordering.TheVariants.{Less, Equal, Greater}
 use Rattle.dita_doc.specs.ClassValue.{value_of}
 use Rattle.dita_doc.specs.Tree.{Content, End, Chars, Element}
 use Rattle.dita_doc.specs.declared.content.KeyAnswer.{KeyAnswer}
@@ -16,7 +14,7 @@ use Rattle.dita_doc.specs.declared.plan.PlanKind.{PlanKind}
 use Rattle.dita_doc.specs.declared.plan.PlanNode.{PlanNode}
 use Rattle.dita_doc.specs.declared.plan.PlanStop.{PlanStop}
 use Rattle.fault_report.specs.FaultLine.{fault_line}
-use Rattle.fault_report.specs.Report.{fault_order}
+use Rattle.fault_report.specs.Report.{report_of}
 use Rattle.map_spec.specs.Keys.{key_answer}
 use Rattle.map_spec.specs.PlanOf.{limits, plan_of}
 use Rattle.reader_spec.specs.World.{World}
@@ -185,24 +183,10 @@ answer scope name world made = view (λ plan. key_answer world plan.nodes scope 
 abbrev pub label : ℕ → String → World → Planned → Seen (List ℕ)
 label scope name world made = view (λ plan. (key_answer world plan.nodes scope (codes name)).label) made
 
--- Faults in the order of a report, each once
-
-abbrev put_in : Fault → List Fault → Ordering → List Fault → List Fault
-put_in fault others Less rest = fault ∷ others
-put_in fault others Equal rest = others
-put_in fault others Greater rest = rest
-
-abbrev inserted : Fault → List Fault → List Fault
-inserted fault [] = fault ∷ []
-inserted fault (other ∷ faults) =
-    put_in fault (other ∷ faults) (fault_order fault other) (other ∷ inserted fault faults)
-
-abbrev sorted : List Fault → List Fault
-sorted [] = []
-sorted (fault ∷ faults) = inserted fault (sorted faults)
+-- The lines of a report
 
 abbrev pub report : List Fault → List (List ℕ)
-report faults = map fault_line (sorted faults)
+report faults = map fault_line (report_of faults)
 
 abbrev pub faults : Planned → Seen (List (List ℕ))
 faults made = view (λ plan. report plan.faults) made

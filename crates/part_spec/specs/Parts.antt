@@ -1,5 +1,5 @@
 -- The parts of a build (own): its plan, each page, and the contents page; and the build that they make up.
-use Rattle.std.specs.Prelude.{◌≡◌, ℕ, true, false, not, List, [], ◌∷◌, ◌++◌, Option, Some, None, Result, Ok, Err, filter, length, map, nat_le, slice_get, sum_by, bytes_eq}
+use Rattle.std.specs.Prelude.{ℕ, not, List, [], ◌∷◌, ◌++◌, Option, Some, None, Result, Ok, Err, filter, length, map, nat_le, slice_get, sum_by, bytes_eq, if◌then◌else◌}
 use Rattle.std.specs.List.{flat_map}
 use Rattle.std.specs.Option.{option_map_or, option_to_list}
 use Rattle.build_spec.specs.Built.{Built, Page, Done, Stopped, TooLarge}
@@ -12,7 +12,7 @@ use Rattle.dita_doc.specs.declared.plan.PagePlan.{PagePlan}
 use Rattle.dita_doc.specs.declared.plan.Plan.{Plan}
 use Rattle.dita_doc.specs.declared.plan.PlanStop.{PlanStop}
 use Rattle.ditaval_rules.specs.declared.rules.RulesRead.{RulesRead}
-use Rattle.fault_report.specs.Report.{IsReport}
+use Rattle.fault_report.specs.Report.{report_of}
 use Rattle.reader_spec.specs.World.{World}
 use Rattle.map_spec.specs.Branches.{ditaval_in}
 use Rattle.map_spec.specs.Elements.{fault_at}
@@ -134,17 +134,16 @@ faults_of plan parts = plan.faults ++ flat_map (λ (part : Html). part.faults) p
 abbrev pub total_limit : ℕ
 total_limit = 268435456
 
--- a build of a plan is too large, or has each page with its name, the contents last, and the report of all faults
-abbrev pub IsBuildOf : ℕ → Plan → List Html → Built → Type 0
-IsBuildOf limit plan parts (Done pages report) = (nat_le (total_of parts) limit ≡ true)
-    × (pages ≡ pages_with (names_of plan) parts) × IsReport (faults_of plan parts) report
-IsBuildOf limit plan parts (TooLarge total) = (nat_le (total_of parts) limit ≡ false) × (total ≡ total_of parts)
-IsBuildOf limit plan parts (Stopped stop) = ⊥
+-- the build of a plan is too large, or it is each page with its name, the contents last, and the report of all faults
+abbrev pub build_of : ℕ → Plan → List Html → Built
+build_of limit plan parts =
+    if nat_le (total_of parts) limit then Done (pages_with (names_of plan) parts) (report_of (faults_of plan parts))
+    else TooLarge (total_of parts)
 
-abbrev pub IsBuildBy : Rooms → ℕ → World → Option (List ℕ) → Result Plan PlanStop → Built → Type 0
-IsBuildBy room limit world val (Err stop) built = built ≡ Stopped stop
-IsBuildBy room limit world val (Ok plan) built = IsBuildOf limit plan (parts_of room world plan val) built
+abbrev pub build_by : Rooms → ℕ → World → Option (List ℕ) → Result Plan PlanStop → Built
+build_by room limit world val (Err stop) = Stopped stop
+build_by room limit world val (Ok plan) = build_of limit plan (parts_of room world plan val)
 
 -- the clean build of a map with a DITAVAL or without, over a world
-abbrev pub IsCleanBuild : World → List ℕ → Option (List ℕ) → Built → Type 0
-IsCleanBuild world map val built = IsBuildBy rooms total_limit world val (plan_of limits world map val) built
+unfoldable pub clean_build : World → List ℕ → Option (List ℕ) → Built
+clean_build world map val = build_by rooms total_limit world val (plan_of limits world map val)

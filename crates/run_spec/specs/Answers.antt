@@ -2,27 +2,28 @@
 use Rattle.std.specs.Prelude.{◌+◌, ℕ, List, [], ◌∷◌, ◌++◌, Option, Some, None, length, codes, map, option_map}
 use Rattle.std.specs.Fmt.{decimal}
 use Rattle.std.specs.List.{flat_map}
-use Rattle.build_spec.specs.Built.{Built, Page, Done, Stopped, TooLarge}
-use Rattle.clean_build.specs.Given.{Given, NotYet, Gave, given_of, pages_given}
+use Rattle.build_spec.specs.Built.{Built, Page, Done, Stopped, TooLarge, pages_of}
 use Rattle.dita_doc.specs.Desk.{State, reply, next}
 use Rattle.dita_doc.specs.History.{Entry}
 use Rattle.dita_doc.specs.Request.{Request, Put, PutIf, Remove, Get, Names, Build}
+use Rattle.part_spec.specs.Parts.{clean_build}
+use Rattle.reader_spec.specs.World.{world_of}
 use Rattle.script_text.specs.Script.{Step}
-use Rattle.transcript_text.specs.Transcript.{BuildShown, PageShown, BuiltPages, StoppedBy, PagesTooLarge, NotYetBuilt, InOutlet, EntryShown, Transcript, entry_shown, fault_shown}
+use Rattle.transcript_text.specs.Transcript.{BuildShown, PageShown, BuiltPages, StoppedBy, PagesTooLarge, InOutlet, EntryShown, Transcript, entry_shown, fault_shown}
 
 -- what a request builds over what is stored, if it is a build
-abbrev pub built_by : State → Request → Option Given
+abbrev pub built_by : State → Request → Option Built
 built_by state (Put name body) = None
 built_by state (PutIf version name body) = None
 built_by state (Remove name) = None
 built_by state (Get name) = None
 built_by state Names = None
-built_by state (Build map val) = Some (given_of state map val)
+built_by state (Build map val) = Some (clean_build (world_of state) map val)
 
 -- an entry, and what it built
 pub record Answer : Type 0 where
   pub entry : Entry
-  pub built : Option Given
+  pub built : Option Built
 
 -- the answer to the request of a number at a place
 abbrev pub answer_at : State → ℕ → ℕ → Step → Answer
@@ -58,13 +59,9 @@ build_shown (Done pages faults) = BuiltPages (map page_put pages) (map fault_sho
 build_shown (Stopped stop) = StoppedBy stop
 build_shown (TooLarge total) = PagesTooLarge total
 
-abbrev pub given_shown : Given → BuildShown
-given_shown NotYet = NotYetBuilt
-given_shown (Gave built) = build_shown built
-
 -- the answer at a place: the answers to steps are shown each
 abbrev pub answer_shown : ℕ → Answer → Option EntryShown
-answer_shown place answer = entry_shown place answer.entry (option_map given_shown answer.built)
+answer_shown place answer = entry_shown place answer.entry (option_map build_shown answer.built)
 
 abbrev pub before_shown : Option EntryShown → List EntryShown → List EntryShown
 before_shown None entries = entries
@@ -88,9 +85,9 @@ transcript_of answers = record {
 abbrev pub delivered : ℕ → Page → Page
 delivered number page = (codes "b" ++ decimal number ++ codes "/" ++ page.0, page.1)
 
-abbrev pub pages_built : Option Given → List Page
+abbrev pub pages_built : Option Built → List Page
 pages_built None = []
-pages_built (Some given) = pages_given given
+pages_built (Some built) = pages_of built
 
 abbrev pub pages_of_answer : Answer → List Page
 pages_of_answer answer = map (delivered answer.entry.number) (pages_built answer.built)

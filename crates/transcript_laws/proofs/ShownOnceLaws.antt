@@ -10,7 +10,7 @@ use Rattle.dita_doc.specs.declared.fault.PyxCode.TheVariants as pyx
 use Rattle.dita_doc.specs.declared.plan.PlanStop.{PlanStop}
 use Rattle.dita_doc.specs.declared.plan.PlanStop.TheVariants as stops
 use Rattle.dita_doc.specs.Faults.{pyx_code_text}
-use Rattle.transcript_text.specs.Transcript.{Shown, StoredAt, RemovedAt, ConflictAt, IsAbsent, IsFull, RefusedFor, Lines, Names, OfBuild, BuildShown, BuiltPages, StoppedBy, PagesTooLarge, NotYetBuilt, IsBuildShown, IsShown, shown_words, shown_lines, built_words, built_lines, stop_text, IsNameLine, name_line, PageShown, IsPageShown, page_line, FaultShown, IsFaultShown, fault_line}
+use Rattle.transcript_text.specs.Transcript.{Shown, StoredAt, RemovedAt, ConflictAt, IsAbsent, IsFull, RefusedFor, Lines, Names, OfBuild, BuildShown, BuiltPages, StoppedBy, PagesTooLarge, IsBuildShown, IsShown, shown_words, shown_lines, built_words, built_lines, stop_text, IsNameLine, name_line, PageShown, IsPageShown, page_line, FaultShown, IsFaultShown, fault_line}
 use Rattle.transcript_text.specs.declared.below.Below.{Below}
 use Rattle.transcript_text.specs.declared.below.Below.TheVariants as belows
 use Rattle.dita_doc.specs.Bytes.{spaced_parts}
@@ -32,7 +32,6 @@ lists_of_built : BuildShown → Lists
 lists_of_built (BuiltPages pages faults) = BuildLists pages faults
 lists_of_built (StoppedBy stop) = NoLists
 lists_of_built (PagesTooLarge total) = NoLists
-lists_of_built NotYetBuilt = NoLists
 
 lists_of : Shown → Lists
 lists_of (StoredAt version) = NoLists
@@ -60,7 +59,6 @@ unfolding lists_of_built
 built_has_lists (BuiltPages pages faults) valid = (valid.2, valid.3, refl, refl)
 built_has_lists (StoppedBy stop) valid = (0, refl)
 built_has_lists (PagesTooLarge total) valid = (0, refl)
-built_has_lists NotYetBuilt valid = (0, refl)
 
 has_lists : (shown : Shown) → IsShown shown → HasLists (shown_lines shown) (below_shown shown) (lists_of shown)
 unfolding lists_of
@@ -157,11 +155,10 @@ again_by word words lists lines =
     else if bytes_eq word (codes "noditaval") then OfBuild (StoppedBy stops.NoDitaval)
     else if bytes_eq word (codes "toomanynodes") then OfBuild (StoppedBy stops.TooManyNodes)
     else if bytes_eq word (codes "toomanypages") then OfBuild (StoppedBy stops.TooManyPages)
-    else if bytes_eq word (codes "toolarge") then OfBuild (PagesTooLarge (value_of words))
-    else OfBuild NotYetBuilt
+    else OfBuild (PagesTooLarge (value_of words))
 
 again : List (List ℕ) → Lists → List (List ℕ) → Shown
-again [] lists lines = OfBuild NotYetBuilt
+again [] lists lines = IsAbsent
 again (word ∷ words) lists lines = again_by word words lists lines
 
 value_is : (n : ℕ) → n < 2 ^ 64 → value_of (spaced_parts (decimal n)) ≡ n
@@ -193,7 +190,6 @@ unfolding again again_by lists_of_built pages_in faults_in
 again_built (BuiltPages pages faults) valid = refl
 again_built (StoppedBy stop) valid = again_stop stop NoLists []
 again_built (PagesTooLarge total) small = ap (λ n. OfBuild (PagesTooLarge n)) (value_is total small)
-again_built NotYetBuilt valid = refl
 
 again_is : (shown : Shown) → IsShown shown
     → again (spaced_parts (shown_words shown)) (lists_of shown) (shown_lines shown) ≡ shown

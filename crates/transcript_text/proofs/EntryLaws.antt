@@ -1,15 +1,12 @@
 -- The text of an entry, from its parts, and that it is in the form.
-use Rattle.std.specs.Prelude.{◌≡◌, ◌<◌, ◌==◌, ℕ, Bool, true, false, List, [], ◌∷◌, ◌++◌, Option, Some, None, Result, Ok, Err, length, IfSome, OnOk, if◌then◌else◌}
-use Rattle.std.proofs.Common.{refl, sym, ap, ◌∙◌, arith, append_assoc, length-append}
+use Rattle.std.specs.Prelude.{◌≡◌, ℕ, true, false, List, [], ◌∷◌, ◌++◌, Option, Some, None, IfSome}
+use Rattle.std.proofs.Common.{refl, sym, ap, ◌∙◌, append_assoc}
 use Rattle.std.specs.List.{flat_map}
 use Rattle.dita_doc.specs.Desk.{Reply, IsStored, IsRemoved, Bytes, NameList, IsRefused, Conflict, Absent, TooManyNames, Begun}
 use Rattle.dita_doc.specs.History.{Entry}
 use Rattle.dita_doc.specs.Lines.{line}
-use Rattle.dita_doc.specs.PyxEscapes.{escaped, escaped_byte}
-use Rattle.fault_report.specs.FaultLine.{with_detail}
 use Rattle.transcript_text.specs.Transcript.{Shown, OfBuild, BuildShown, Fits64, Fits32, IsBuildShown, IsShown, shown_words, shown_lines, bar_line, reply_shown, entry_shown}
 use Rattle.transcript_text.specs.Written.{IsTextOfEntry, is_begun, numbers_text, shown_text}
-use Rattle.transcript_text.proofs.FaultLaws.{detail_shown}
 
 -- what is given of a build is shown exactly where the reply is that a build has its place
 begun_shown : (reply : Reply) (built : BuildShown) → true ≡ is_begun reply

@@ -9,7 +9,7 @@ use Rattle.dita_doc.specs.declared.fault.PyxCode.{PyxCode}
 use Rattle.dita_doc.specs.declared.plan.PlanStop.{PlanStop}
 use Rattle.dita_doc.specs.declared.plan.PlanStop.TheVariants as stops
 use Rattle.dita_doc.specs.Lines.{IsLineText}
-use Rattle.transcript_text.specs.Transcript.{Shown, StoredAt, RemovedAt, ConflictAt, IsAbsent, IsFull, RefusedFor, Lines, Names, OfBuild, BuildShown, BuiltPages, StoppedBy, PagesTooLarge, NotYetBuilt, IsBuildShown, IsShown, shown_words, shown_lines, built_words, built_lines, stop_text, IsNameLine, name_line, PageShown, IsPageShown, page_line, FaultShown, IsFaultShown, fault_line, EntryShown, IsEntryShown, entry_head}
+use Rattle.transcript_text.specs.Transcript.{Shown, StoredAt, RemovedAt, ConflictAt, IsAbsent, IsFull, RefusedFor, Lines, Names, OfBuild, BuildShown, BuiltPages, StoppedBy, PagesTooLarge, IsBuildShown, IsShown, shown_words, shown_lines, built_words, built_lines, stop_text, IsNameLine, name_line, PageShown, IsPageShown, page_line, FaultShown, IsFaultShown, fault_line, EntryShown, IsEntryShown, entry_head}
 use Rattle.transcript_text.specs.declared.below.Below.{Below}
 use Rattle.transcript_text.specs.declared.below.Below.TheVariants as belows
 use Rattle.dita_doc.specs.Bytes.{spaced_parts}
@@ -28,7 +28,6 @@ abbrev pub below_built : BuildShown → Below
 below_built (BuiltPages pages faults) = belows.Built (length pages) (length faults)
 below_built (StoppedBy stop) = none_below
 below_built (PagesTooLarge total) = none_below
-below_built NotYetBuilt = none_below
 
 abbrev pub below_shown : Shown → Below
 below_shown (StoredAt version) = none_below
@@ -83,7 +82,6 @@ build_said (BuiltPages pages faults) valid = built_said (length pages) (length f
 build_said (StoppedBy stop) valid = stop_said stop
 build_said (PagesTooLarge total) small =
     numbered (codes "toolarge") total _ small (ap (λ found. none_if (is_some found)) (number64_is total small))
-build_said NotYetBuilt valid = refl
 
 -- the words of a reply announce its lines
 pub shown_said : (shown : Shown) → IsShown shown
@@ -155,7 +153,6 @@ build_fits (BuiltPages pages faults) valid =
     pages_fit_from (length pages) (length faults) 0 pages faults (omega arith) valid.2 valid.3
 build_fits (StoppedBy stop) valid = tt
 build_fits (PagesTooLarge total) valid = tt
-build_fits NotYetBuilt valid = tt
 
 pub shown_fit : (shown : Shown) → IsShown shown → FitFrom (below_shown shown) 0 (shown_lines shown)
 shown_fit (StoredAt version) valid = tt
@@ -175,7 +172,6 @@ build_counted (BuiltPages pages faults) =
     ∙ ap (λ k. length pages + k) (length-map faults fault_line)
 build_counted (StoppedBy stop) = refl
 build_counted (PagesTooLarge total) = refl
-build_counted NotYetBuilt = refl
 
 pub shown_counted : (shown : Shown) → length (shown_lines shown) ≡ count_of (below_shown shown)
 shown_counted (StoredAt version) = refl

@@ -11,7 +11,7 @@ use Rattle.dita_doc.specs.declared.plan.PlanStop.{PlanStop}
 use Rattle.dita_doc.specs.declared.plan.PlanStop.TheVariants as stops
 use Rattle.dita_doc.specs.Faults.{pyx_code_text, fault_code_text}
 use Rattle.fault_report.specs.FaultLine.{with_detail}
-use Rattle.transcript_text.specs.Transcript.{Shown, StoredAt, RemovedAt, ConflictAt, IsAbsent, IsFull, RefusedFor, Lines, Names, OfBuild, BuildShown, BuiltPages, StoppedBy, PagesTooLarge, NotYetBuilt, IsBuildShown, IsShown, shown_words, shown_lines, built_words, built_lines, stop_text, IsNameShown, IsNameLine, name_line, PageMark, InOutlet, InRow, IsMark, mark_words, PageShown, IsPageShown, page_line, FaultShown, IsFaultShown, fault_line, EntryShown, IsEntryShown, entry_head, entry_text, PartShown, IsPage, IsContents, part_text, part_index, val_text, IsValShown, RowShown, IsRowShown, row_head, row_text, bar_line, Totals, end_head, IsTranscript, transcript_text}
+use Rattle.transcript_text.specs.Transcript.{Shown, StoredAt, RemovedAt, ConflictAt, IsAbsent, IsFull, RefusedFor, Lines, Names, OfBuild, BuildShown, BuiltPages, StoppedBy, PagesTooLarge, IsBuildShown, IsShown, shown_words, shown_lines, built_words, built_lines, stop_text, IsNameShown, IsNameLine, name_line, PageMark, InOutlet, InRow, IsMark, mark_words, PageShown, IsPageShown, page_line, FaultShown, IsFaultShown, fault_line, EntryShown, IsEntryShown, entry_head, entry_text, PartShown, IsPage, IsContents, part_text, part_index, val_text, IsValShown, RowShown, IsRowShown, row_head, row_text, bar_line, Totals, end_head, IsTranscript, transcript_text}
 use Rattle.transcript_text.specs.Transcript as shown
 use Rattle.dita_doc.proofs.LinesLaws.{lines_after}
 use Rattle.transcript_text.specs.Told.{bar, first_line, entry_lines, row_lines, transcript_lines}
@@ -44,7 +44,6 @@ build_words_one_line (BuiltPages pages faults) valid =
 build_words_one_line (StoppedBy stop) valid = stop_one stop
 build_words_one_line (PagesTooLarge total) small =
     lacks_append 10 (codes "toolarge ") (decimal total) refl (number_one total small)
-build_words_one_line NotYetBuilt valid = refl
 
 pub words_one_line : (shown : Shown) → IsShown shown → Lacks 10 (shown_words shown)
 words_one_line (StoredAt version) small =
@@ -101,7 +100,6 @@ build_lines_one_line (BuiltPages pages faults) valid =
     (All-weaker IsFaultShown (λ fault. Lacks 10 (fault_line fault)) fault_line_one faults valid.3))
 build_lines_one_line (StoppedBy stop) valid = All-nil (Lacks 10)
 build_lines_one_line (PagesTooLarge total) valid = All-nil (Lacks 10)
-build_lines_one_line NotYetBuilt valid = All-nil (Lacks 10)
 
 pub lines_one_line : (shown : Shown) → IsShown shown → All (Lacks 10) (shown_lines shown)
 lines_one_line (StoredAt version) valid = All-nil (Lacks 10)

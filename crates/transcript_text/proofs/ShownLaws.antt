@@ -11,7 +11,7 @@ use Rattle.std.proofs.lemmas.Slice.Eq.{bytes_eq-Decides}
 use Rattle.dita_doc.specs.Faults.{pyx_code_text}
 use Rattle.dita_doc.specs.declared.plan.PlanStop.TheVariants as stops
 use Rattle.dita_doc.specs.Lines.{IsLineText}
-use Rattle.transcript_text.specs.Transcript.{Shown, StoredAt, RemovedAt, ConflictAt, IsAbsent, IsFull, RefusedFor, Lines, Names, OfBuild, BuiltPages, StoppedBy, PagesTooLarge, NotYetBuilt, IsShown, shown_words, shown_lines, IsNameLine, name_line, PageShown, IsPageShown, page_line, FaultShown, IsFaultShown, fault_line}
+use Rattle.transcript_text.specs.Transcript.{Shown, StoredAt, RemovedAt, ConflictAt, IsAbsent, IsFull, RefusedFor, Lines, Names, OfBuild, BuiltPages, StoppedBy, PagesTooLarge, IsShown, shown_words, shown_lines, IsNameLine, name_line, PageShown, IsPageShown, page_line, FaultShown, IsFaultShown, fault_line}
 use Rattle.transcript_text.specs.declared.below.Below.{Below}
 use Rattle.transcript_text.specs.declared.below.Below.TheVariants as belows
 use Rattle.dita_doc.specs.Bytes.{spaced_parts}
@@ -163,16 +163,15 @@ lone_shown word e =
     let plain : (shown : Shown) → IsShown shown → shown_lines shown ≡ [] → shown_words shown ≡ word
     → P = λ shown valid none is. (shown, record { valid = valid; words = is; below = none }) in
     among P word (codes "absent") (drop 1 lone_words) _ refl e (plain IsAbsent tt refl) (λ e1.
-    among P word (codes "notyet") (drop 2 lone_words) _ refl e1 (plain (OfBuild NotYetBuilt) tt refl) (λ e2.
-    among P word (codes "nomap") (drop 3 lone_words) _ refl e2 (plain (OfBuild (StoppedBy stops.NoMap)) tt refl) (λ e3.
-    among P word (codes "notmap") (drop 4 lone_words) _ refl e3 (plain (OfBuild (StoppedBy stops.NotMap)) tt refl)
+    among P word (codes "nomap") (drop 2 lone_words) _ refl e1 (plain (OfBuild (StoppedBy stops.NoMap)) tt refl) (λ e2.
+    among P word (codes "notmap") (drop 3 lone_words) _ refl e2 (plain (OfBuild (StoppedBy stops.NotMap)) tt refl)
+    (λ e3.
+    among P word (codes "noditaval") (drop 4 lone_words) _ refl e3 (plain (OfBuild (StoppedBy stops.NoDitaval)) tt refl)
     (λ e4.
-    among P word (codes "noditaval") (drop 5 lone_words) _ refl e4 (plain (OfBuild (StoppedBy stops.NoDitaval)) tt refl)
-    (λ e5.
-    among P word (codes "toomanynodes") (drop 6 lone_words) _ refl e5
-    (plain (OfBuild (StoppedBy stops.TooManyNodes)) tt refl) (λ e6.
-    among P word (codes "toomanypages") (drop 7 lone_words) _ refl e6
-    (plain (OfBuild (StoppedBy stops.TooManyPages)) tt refl) (λ e7. absurd (none_among word e7))))))))
+    among P word (codes "toomanynodes") (drop 5 lone_words) _ refl e4
+    (plain (OfBuild (StoppedBy stops.TooManyNodes)) tt refl) (λ e5.
+    among P word (codes "toomanypages") (drop 6 lone_words) _ refl e5
+    (plain (OfBuild (StoppedBy stops.TooManyPages)) tt refl) (λ e6. absurd (none_among word e6)))))))
 
 numbered_shown : (word second : List ℕ) (n : ℕ) → n < 2 ^ 64 → decimal n ≡ second → is_among numbered_words word ≡ true
     → (shown : Shown) × ShowsAlone shown (word ++ 32 ∷ second)

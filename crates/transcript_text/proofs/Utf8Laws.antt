@@ -13,7 +13,7 @@ use Rattle.dita_doc.specs.Desk.{stored_limit}
 use Rattle.dita_doc.specs.Faults.{pyx_code_text, fault_code_text}
 use Rattle.dita_doc.proofs.Utf8Laws.{utf8_cons}
 use Rattle.fault_report.specs.FaultLine.{with_detail}
-use Rattle.transcript_text.specs.Transcript.{Shown, StoredAt, RemovedAt, ConflictAt, IsAbsent, IsFull, RefusedFor, Lines, Names, OfBuild, BuildShown, BuiltPages, StoppedBy, PagesTooLarge, NotYetBuilt, IsBuildShown, IsShown, shown_words, built_words, stop_text, IsNameShown, PageMark, InOutlet, InRow, IsMark, mark_words}
+use Rattle.transcript_text.specs.Transcript.{Shown, StoredAt, RemovedAt, ConflictAt, IsAbsent, IsFull, RefusedFor, Lines, Names, OfBuild, BuildShown, BuiltPages, StoppedBy, PagesTooLarge, IsBuildShown, IsShown, shown_words, built_words, stop_text, IsNameShown, PageMark, InOutlet, InRow, IsMark, mark_words}
 use Rattle.transcript_text.specs.declared.below.Below.{Below}
 use Rattle.transcript_text.specs.declared.below.Below.TheVariants as belows
 use Rattle.transcript_text.specs.Below.{count_of, FitsAt, IsNameText, IsPageText, IsFaultText, below_of}
@@ -56,7 +56,6 @@ build_utf8 (BuiltPages pages faults) valid =
     (numbered_utf8 (codes "built ") (length pages) refl valid.0) (number_utf8 (length faults) valid.1)
 build_utf8 (StoppedBy stop) valid = low_utf8 (stop_text stop) (stop_low stop)
 build_utf8 (PagesTooLarge total) small = numbered_utf8 (codes "toolarge ") total refl small
-build_utf8 NotYetBuilt valid = low_utf8 (codes "notyet") refl
 
 words_utf8 : (shown : Shown) → IsShown shown → IsUtf8 (shown_words shown)
 words_utf8 (StoredAt version) small = numbered_utf8 (codes "stored ") version refl small

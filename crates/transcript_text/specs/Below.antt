@@ -32,8 +32,8 @@ is_fault_code word = list_any (λ code. bytes_eq (fault_code_text code) word) FA
 -- replies of one word
 abbrev pub lone_words : Words
 lone_words =
-    codes "absent" ∷ codes "notyet" ∷ codes "nomap" ∷ codes "notmap" ∷ codes "noditaval"
-    ∷ codes "toomanynodes" ∷ codes "toomanypages" ∷ []
+    codes "absent" ∷ codes "nomap" ∷ codes "notmap" ∷ codes "noditaval" ∷ codes "toomanynodes"
+    ∷ codes "toomanypages" ∷ []
 
 -- replies of a word and a number, without lines
 abbrev pub numbered_words : Words

@@ -41,7 +41,6 @@ pub data BuildShown : Type 0 where
   BuiltPages : (pages : List PageShown) (faults : List FaultShown) → BuildShown
   StoppedBy : PlanStop → BuildShown
   PagesTooLarge : (total : ℕ) → BuildShown
-  NotYetBuilt : BuildShown
 
 -- what a reply is, and of a build what it gave
 pub data Shown : Type 0 where
@@ -66,7 +65,6 @@ abbrev pub built_words : BuildShown → List ℕ
 built_words (BuiltPages pages faults) = codes "built " ++ decimal (length pages) ++ codes " " ++ decimal (length faults)
 built_words (StoppedBy stop) = stop_text stop
 built_words (PagesTooLarge total) = codes "toolarge " ++ decimal total
-built_words NotYetBuilt = codes "notyet"
 
 -- the words of an entry's line behind its three numbers
 abbrev pub shown_words : Shown → List ℕ
@@ -97,7 +95,6 @@ abbrev pub built_lines : BuildShown → List (List ℕ)
 built_lines (BuiltPages pages faults) = map page_line pages ++ map fault_line faults
 built_lines (StoppedBy stop) = []
 built_lines (PagesTooLarge total) = []
-built_lines NotYetBuilt = []
 
 -- the lines below an entry, without the `|` in front
 abbrev pub shown_lines : Shown → List (List ℕ)
@@ -220,7 +217,6 @@ IsBuildShown (BuiltPages pages faults) = Fits64 (length pages) × Fits64 (length
     × All IsFaultShown faults
 IsBuildShown (StoppedBy stop) = Unit {0}
 IsBuildShown (PagesTooLarge total) = Fits64 total
-IsBuildShown NotYetBuilt = Unit {0}
 
 abbrev pub IsShown : Shown → Type 0
 IsShown (StoredAt version) = Fits64 version

@@ -5,7 +5,7 @@ use Rattle.std.specs.List.{flat_map}
 use Rattle.std.specs.Str.{is_utf8}
 use Rattle.dita_doc.specs.Desk.{Reply, IsStored, IsRemoved, Bytes, NameList, IsRefused, Conflict, Absent, TooManyNames, Begun}
 use Rattle.dita_doc.specs.Lines.{line}
-use Rattle.transcript_text.specs.Transcript.{Shown, PageShown, BuildShown, BuiltPages, StoppedBy, PagesTooLarge, NotYetBuilt, InOutlet, InRow, shown_words, shown_lines, bar_line, fault_shown}
+use Rattle.transcript_text.specs.Transcript.{Shown, PageShown, BuildShown, BuiltPages, StoppedBy, PagesTooLarge, InOutlet, InRow, shown_words, shown_lines, bar_line, fault_shown}
 use Rattle.transcript_text.specs.Transcript as shown
 use Rattle.transcript_text.specs.declared.built.PageMark.{PageMark}
 use Rattle.transcript_text.specs.declared.built.PageMark.TheVariants as marks
@@ -24,7 +24,6 @@ abbrev pub text_shown : BuiltText → BuildShown
 text_shown (builds.Pages pages faults) = BuiltPages (map page_shown pages) (map fault_shown faults)
 text_shown (builds.Stopped stop) = StoppedBy stop
 text_shown (builds.TooLarge total) = PagesTooLarge total
-text_shown builds.NotYet = NotYetBuilt
 
 -- and that of the build of an entry, if it has one
 abbrev pub built_shown : Option BuiltText → Option BuildShown

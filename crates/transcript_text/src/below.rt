@@ -106,7 +106,6 @@ fn is_lone(word: &[u8]) -> bool
     ensures { result ≡ below_spec.is_among below_spec.lone_words word.now }
 {
     word == b"absent".as_slice()
-        || word == b"notyet".as_slice()
         || word == b"nomap".as_slice()
         || word == b"notmap".as_slice()
         || word == b"noditaval".as_slice()

@@ -19,6 +19,4 @@ pub enum BuiltText {
     Stopped(PlanStop),
     /// The pages have so many bytes, which are too many.
     TooLarge(u64),
-    /// The sources are of a form that is not built so far.
-    NotYet,
 }

@@ -139,7 +139,6 @@ fn builds_are_written(rt: HostRuntime) -> Result<(), Fail> {
         ),
         (BuiltText::Stopped(PlanStop::NoDitaval), "noditaval\n"),
         (BuiltText::TooLarge(70_000_000), "toolarge 70000000\n"),
-        (BuiltText::NotYet, "notyet\n"),
     ];
     for (built, expected) in &rows {
         let is_written = writes(alloc, Reply::Begun, Some(built), expected)?;
@@ -247,6 +246,7 @@ fn a_fault_has_its_line(rt: HostRuntime) -> Result<(), Fail> {
         (b"entry 00 1 1 absent\nend 0 0 0\n".as_slice(), 2),
         (b"entry 0 4294967296 1 absent\nend 0 0 0\n".as_slice(), 2),
         (b"entry 0 1 1 absent \nend 0 0 0\n".as_slice(), 2),
+        (b"entry 0 1 1 later\nend 0 0 0\n".as_slice(), 2),
         (
             b"entry 0 1 1 built 1 1\n|a:1 NoClass\nend 0 0 0\n".as_slice(),
             3,

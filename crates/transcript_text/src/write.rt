@@ -197,7 +197,6 @@ fn append_built(alloc: Global, out: &mut List<u8>, built: &BuiltText) -> Result<
         }
         BuiltText::Stopped(stop) => Ok(append_stop(out, *stop)?),
         BuiltText::TooLarge(total) => Ok(append_number(alloc, out, b"toolarge ", *total)?),
-        BuiltText::NotYet => Ok(out.append(b"notyet\n")?),
     }
 }
 

@@ -4,5 +4,6 @@ mod CommandRows
 mod DitavalRows
 mod FaultRows
 mod ReferenceRows
+mod RunRows
 mod ScriptRows
 mod TextRows

@@ -14,8 +14,7 @@ pub fn element(
     format!(in alloc; "({name}\nAclass {class}\n{attributes}{content}){name}\n")
 }
 
-/// A flat topic with one text in its title and in each paragraph. The texts have the escapes of
-/// PYX.
+/// A topic with one text in its title and in each paragraph. The texts have the escapes of PYX.
 pub fn topic(
     alloc: Global,
     id: &str,
@@ -56,7 +55,7 @@ fn text_line(alloc: Global, text: &str) -> Result<String, AllocError> {
     format!(in alloc; "-{text}\n")
 }
 
-/// A flat map that refers to these topics.
+/// A map that refers to these topics, side by side.
 pub fn flat_map(alloc: Global, hrefs: &[&str]) -> Result<String, AllocError> {
     let mut content = String::new(alloc);
     for href in hrefs {

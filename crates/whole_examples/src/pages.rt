@@ -1,4 +1,5 @@
-//! Pages of flat maps. Each expected page is put together by hand from the rules of a build.
+//! Pages of maps whose topics stand side by side. Each expected page is put together by hand from
+//! the rules of a build.
 
 use crate::documents::{flat_map, page, put, topic};
 use crate::runs::Run;
@@ -53,8 +54,9 @@ fn escapes_and_blanks_stand_in_the_page_for_what_they_are(rt: HostRuntime) -> Re
     Ok(())
 }
 
+/// A topic that is missing, and one that is none, are told, and have an item without a link.
 #[test]
-fn other_sources_are_not_built_yet(rt: HostRuntime) -> Result<(), Fail> {
+fn a_build_tells_what_is_wrong(rt: HostRuntime) -> Result<(), Fail> {
     let alloc = rt.alloc();
     let map = flat_map(alloc, &["t.dita"])?;
     let map = map.as_str();
@@ -66,8 +68,15 @@ fn other_sources_are_not_built_yet(rt: HostRuntime) -> Result<(), Fail> {
     let run = Run::of(alloc, script.as_str())?;
     assert!(rt;
         run.is_done_with(
-            "dita transcript 1\nentry 0 1 1 stored 1\nentry 1 1 2 notyet\nentry 2 1 3 stored 3\nentry 3 1 4 notyet\nentry 4 1 5 notyet\nentry 5 1 6 nomap\nend 6 0 0\n"
+            "dita transcript 1\nentry 0 1 1 stored 1\nentry 1 1 2 built 1 1\n|page index.html bytes 168\n|m.ditamap:3 TopicMissing t.dita\nentry 2 1 3 stored 3\nentry 3 1 4 built 1 1\n|page index.html bytes 168\n|m.ditamap:3 NotTopic t.dita\nentry 4 1 5 noditaval\nentry 5 1 6 nomap\nend 6 0 0\n"
         )
     );
+    let contents = page(
+        alloc,
+        "Contents",
+        "<nav class=\"toc\"><h1>Contents</h1><ul><li>t.dita</li></ul></nav>",
+    )?;
+    assert!(rt; run.has_page(0, "b2/index.html", contents.as_str()));
+    assert!(rt; run.has_page(1, "b4/index.html", contents.as_str()));
     Ok(())
 }

@@ -2,7 +2,7 @@ use Rattle.std.proofs.Common.{◌++◌, ap, sym, ◌∙◌, subst, Option}
 use Rattle.dita_doc.specs.Bytes.{Bytes}
 use Rattle.dita_doc.specs.History.{Entry}
 use Rattle.dita_doc.specs.Seen.{entry_seen, request_seen}
-use Rattle.run_spec.specs.Answers.{given_shown}
+use Rattle.run_spec.specs.Answers.{build_shown}
 use Rattle.transcript_text.specs.Transcript.{entry_shown}
 use Rattle.transcript_text.specs.Written.{IsText, IsTextOfEntry, built_shown, text_shown}
 use Rattle.transcript_text.specs.declared.built.BuiltText.{BuiltText}
@@ -24,7 +24,7 @@ write_entry-requires-clause-built g c =
     (request_seen c.args.request) c.in_ok-place.place c.entries.result c.in_ok-place.ensures.place
     c.entries.ensures.value c.in_ok-place.ensures.ok in
     some_copied c.as_ref.result c.in_ok-built.built c.as_ref.ensures.value
-    ∙ some_shown text_shown given_shown c.in_ok-built.built _ c.in_ok-built.ensures.shown
+    ∙ some_shown text_shown build_shown c.in_ok-built.built _ c.in_ok-built.ensures.shown
     ∙ begun_answer _ _ _ _ _ (entry_seen c.entry.result.now) kept c.entry.ensures
 
 pub write_entry-requires-clause-text : goal.write_entry-requires-clause-text

@@ -1,9 +1,0 @@
-use Rattle.node_links.specs.NodeTable.{AreNodeLinks}
-use Rattle.build_parts.proofs.ReadyLaws.{can_link, ok_under}
-use Rattle.build_parts.proofs.works.LinksWorkPlanWork.run.Goals as goal
-
-pub returns-clause-known : goal.returns-clause-known
-returns-clause-known g c = λ world agrees.
-    let ground = c.args.self.ground in
-    ok_under c.of.result (AreNodeLinks world ground.plan.now)
-    (λ ready. c.of.ensures.known world agrees (can_link world ground _ ready))

@@ -1,0 +1,24 @@
+use Rattle.std.specs.Prelude.{◌++◌}
+use Rattle.std.proofs.Common.{subst}
+use Rattle.plan_layer.specs.Carried.{made_for}
+use Rattle.readers.specs.Founded.{StaysFounded, homes}
+use Rattle.readers.specs.Noted.{told_onto}
+use Rattle.clean_build.proofs.over_plan.plan_under.Goals as goal
+
+pub returns-clause-known : goal.returns-clause-known
+returns-clause-known g c = λ world agrees. c.run.ensures.known world (c.run.new.asker.carried.agrees world agrees)
+
+pub returns-clause-grows : goal.returns-clause-grows
+returns-clause-grows g c = c.run.new.asker.grown
+
+pub returns-clause-founded : goal.returns-clause-founded
+returns-clause-founded g c =
+    let start = g.S.Since.stand.setting in
+    let first = c.args.layer.now in
+    let last = c.run.new.asker in
+    let names = homes start.nodes ++ g.W.PlanWork.about c.args.work in
+    let above = told_onto (made_for last.documents.now last.pages.now start) g.S.Since.told last.asked.now in
+    let stays = subst (λ notes. StaysFounded names
+    (told_onto (made_for first.documents.now first.pages.now start) g.S.Since.told notes) above) c.requires.asked
+    c.run.ensures.founded in
+    record { by = λ roots allowed founded. last.carried.founded roots founded (stays.by roots allowed founded) }

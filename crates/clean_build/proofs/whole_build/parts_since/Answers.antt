@@ -1,0 +1,25 @@
+use Rattle.std.specs.Option.{option_copied}
+use Rattle.std.proofs.Common.{refl}
+use Rattle.part_spec.specs.Parts.{parts_of, rooms}
+use Rattle.clean_build.proofs.PartLaws.{good_build}
+use Rattle.clean_build.proofs.PlanLaws.{plan_facts}
+use Rattle.clean_build.proofs.whole_build.parts_since.Goals as goal
+
+pub over_sources-requires-clause-goes_on : goal.over_sources-requires-clause-goes_on
+over_sources-requires-clause-goes_on g c = record { sources = c.requires.sources; kept = c.new-docs.ensures _ _ }
+
+pub put_parts-requires-clause-links : goal.put_parts-requires-clause-links
+put_parts-requires-clause-links g c = c.in_ok-links.ensures.made (record { is = c.requires.plan; made = refl })
+
+pub put_parts-requires-clause-gathered : goal.put_parts-requires-clause-gathered
+put_parts-requires-clause-gathered g c = c.in_ok-gathered.ensures g.S.Since.stand.world
+    (c.in_ok-links.ensures.made (record { is = c.requires.plan; made = refl }))
+
+pub returns : goal.returns
+returns g c =
+    let world = g.S.Since.stand.world in
+    let ground = c.args.ground in
+    let plan = ground.plan.now in
+    let val = option_copied ground.val in
+    let topics = (plan_facts world ground.map.now val plan c.requires.plan).topics in
+    c.finish.ensures plan (parts_of rooms world plan val) _ c.in_ok-put_parts.ensures (good_build world plan val topics)

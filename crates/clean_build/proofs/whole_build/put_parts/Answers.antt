@@ -1,0 +1,70 @@
+use Rattle.std.specs.Option.{option_copied}
+use Rattle.std.specs.Prelude.{◌≤◌, List, length, map, slice_get, take}
+use Rattle.std.proofs.Common.{refl, sym, ap, subst, ◌∙◌}
+use Rattle.dita_doc.specs.declared.fact.Html.{Html}
+use Rattle.dita_doc.specs.declared.fault.Fault.{Fault}
+use Rattle.dita_doc.specs.declared.plan.PagePlan.{PagePlan}
+use Rattle.page_spec.specs.Pushes.{pushed}
+use Rattle.part_spec.specs.Parts.{contents_part, page_part, page_parts, rooms}
+use Rattle.clean_build.specs.Made.{page_behind}
+use Rattle.clean_build.proofs.PartLaws.{all_put, contents_put, next_put, none_put, on_ok_both, without_rows}
+use Rattle.clean_build.proofs.PlanLaws.{plan_facts}
+use Rattle.clean_build.proofs.SingleLaws.{page_at}
+use Rattle.clean_build.proofs.whole_build.put_parts.Goals as goal
+
+pub loop-index-init : goal.loop-index-init
+loop-index-init g c =
+    let world = g.S.Since.stand.world in
+    let plan = c.args.ground.plan.now in record {
+      goes_on = c.requires.goes_on;
+      content = record {
+        rules = c.new-content.ensures.rules world;
+        places = c.new-content.ensures.places (pushed world plan.documents);
+      };
+      put = none_put world plan (option_copied c.args.ground.val) c.args.gathered.now c.requires.gathered;
+    }
+
+pub loop-index-preserved : goal.loop-index-preserved
+loop-index-preserved g c =
+    let world = g.S.Since.stand.world in
+    let ground = c.args.ground in
+    let plan = ground.plan.now in
+    let val = option_copied ground.val in
+    let index = c.loop-index.index in
+    let page = c.page-item.result in
+    let names = map (λ (p : PagePlan). p.name) plan.pages in
+    let parts = page_parts rooms world plan val in
+    let topics = (plan_facts world ground.map.now val plan c.requires.plan).topics in
+    let there = page_at plan.pages c.as_slice-page-items.result.now index page c.as_slice-page-items.ensures
+    c.loop-index-test.true c.page-item.is in
+    let place = c.in_ok-place_of.ensures.place in
+    let made = c.in_ok-made.ensures.made (record { is = c.requires.plan; made = refl })
+    (ap (slice_get plan.pages) place ∙ there) c.requires.links c.loop-index.invariant.content in
+    let html = made.html ∙ ap (λ n. page_behind rooms world plan val n page c.new.result) place
+    ∙ ap (λ (behind : List Fault). page_behind rooms world plan val index page behind) c.new.ensures in
+    let same = (without_rows world plan val topics index page there).bytes ∙ ap (λ (h : Html). h.bytes) (sym html) in
+    record {
+      goes_on = c.in_ok-made.ensures.goes_on;
+      content = made.content;
+      put = next_put world plan val topics index page c.in_ok-clone.field-0 c.in_ok-made.made.html _ there
+          c.in_ok-clone.ensures.cases html
+          (c.in_ok-put.ensures.pages (take index names) (take index parts) (page_part rooms world plan val index)
+          c.loop-index.invariant.put.put same)
+          (c.in_ok-put.ensures.faults _ c.loop-index.invariant.put.good);
+    }
+
+pub returns : goal.returns
+returns g c =
+    let world = g.S.Since.stand.world in
+    let plan = c.args.ground.plan.now in
+    let val = option_copied c.args.ground.val in
+    let enough = subst (λ (pages : List PagePlan). length pages ≤ c.loop-index.index) c.as_slice-page-items.ensures
+    c.loop-index-test.false in
+    let has = all_put world plan val c.loop-index.index c.loop-index.gathered enough c.loop-index.invariant.put in
+    let html = c.in_ok-html.ensures.made (record { is = c.requires.plan; made = refl }) in
+    on_ok_both c.put-2.result _ _ _
+    (contents_put world plan val c.in_ok-contents_name.field-0 c.in_ok-html.html c.put-2.new.self
+    c.in_ok-contents_name.ensures html)
+    (c.put-2.ensures.pages (map (λ (p : PagePlan). p.name) plan.pages) (page_parts rooms world plan val)
+    (contents_part world plan) has.put (ap (λ (h : Html). h.bytes) (sym html)))
+    (c.put-2.ensures.faults _ has.good)

@@ -1,0 +1,43 @@
+-- The body of a page, as it is made in a world (own): of content that is resolved, with the links of its elements.
+use Rattle.std.specs.Prelude.{◌≡◌, ◌++◌, ℕ, List}
+use Rattle.conref_pull.specs.Resolved.{page_made}
+use Rattle.conref_pull.specs.Rules.{AreRules}
+use Rattle.conref_pull.specs.Tables as kept
+use Rattle.conref_pull.specs.declared.tables.Tables.{Tables}
+use Rattle.dita_doc.specs.declared.fact.Html.{Html}
+use Rattle.dita_doc.specs.declared.fault.Fault.{Fault}
+use Rattle.dita_doc.specs.declared.plan.Context.{Context}
+use Rattle.dita_doc.specs.declared.plan.PagePlan.{PagePlan}
+use Rattle.dita_doc.specs.declared.plan.Plan.{Plan}
+use Rattle.page_spec.specs.Anchors.{Here, anchor_faults, anchors, element_links}
+use Rattle.page_spec.specs.Blocks.{body_html}
+use Rattle.page_spec.specs.Content.{Made}
+use Rattle.page_spec.specs.Pushes.{pushed}
+use Rattle.part_spec.specs.Parts.{here_of}
+use Rattle.reader_spec.specs.World.{World}
+use Rattle.clean_build.specs.Tables.{made_for}
+use Rattle.clean_build.specs.declared.body.BodyMade.{BodyMade}
+
+-- the tables of content are right in the world, for the documents of the plan with their pushes
+pub record AreKnown (world : World) (plan : Plan) (tables : Tables) : Type 0 where
+  pub rules : AreRules world tables.rules
+  pub places : kept.AreTables (pushed world plan.documents) tables.places
+
+-- the same HTML with other faults around its own
+abbrev pub with_faults : Html → List Fault → List Fault → List Fault → Html
+with_faults html before next behind =
+    record { bytes = html.bytes; faults = before ++ next ++ html.faults ++ behind }
+
+-- the body of content that is resolved, with these faults behind its own
+abbrev pub body_of : Here → List Fault → Made → Html
+body_of here behind made = with_faults (body_html (anchors here made.nodes) made.nodes) made.faults
+    (anchor_faults here made.nodes) behind
+
+abbrev pub content_of : World → Plan → Context → Made
+content_of world plan context = page_made world (made_for plan) context.val context.page
+
+pub record IsBodyMade (world : World) (plan : Plan) (context : Context) (page : PagePlan) (index : ℕ)
+    (behind : List Fault) (made : BodyMade) : Type 0 where
+  pub body : made.body ≡ body_of (here_of world plan page index) behind (content_of world plan context)
+  pub links : made.links ≡ element_links (here_of world plan page index) (content_of world plan context).nodes
+  pub content : AreKnown world plan made.content

@@ -1,0 +1,40 @@
+//! What a build stands on.
+
+ghost use Rattle.std.specs.Prelude.{◌≡◌, IfOk};
+ghost use Rattle.clean_build.specs.Ground as ground_spec;
+
+use dita_doc::{Context, Name, NoMemory, PageId, PagePlan, Plan};
+use plan_nodes::{copy_affixes, copy_names};
+use std::alloc::Global;
+
+/// The map and the DITAVAL of a build, and its plan.
+#[derive(Clone, Copy)]
+pub(crate) struct Ground<'p> {
+    pub map: &'p Name,
+    pub val: Option<&'p Name>,
+    pub plan: &'p Plan,
+}
+
+impl<'p> Ground<'p> {
+    /// What a page of the plan is made for.
+    pub fn context_of(self, alloc: Global, page: &PagePlan) -> Result<Context, NoMemory>
+        ensures { IfOk result (λ context. context ≡ ground_spec.context_for self.entry page.now) }
+    {
+        let val = match self.val {
+            Some(val) => Some(val.clone()?),
+            None => None,
+        };
+        let id = &page.id;
+        Ok(Context {
+            map: self.map.clone()?,
+            val,
+            page: PageId {
+                doc: id.doc.clone()?,
+                scope: id.scope,
+                filters: copy_names(alloc, id.filters.as_slice())?,
+                affixes: copy_affixes(alloc, id.affixes.as_slice())?,
+            },
+            name: page.name.clone()?,
+        })
+    }
+}

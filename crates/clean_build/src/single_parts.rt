@@ -1,0 +1,222 @@
+//! Single parts of a build, over any reader.
+
+ghost use Rattle.std.specs.Prelude.{◌≡◌, ◌++◌, Ok, IfOk};
+ghost use Rattle.std.specs.Option.{option_copied};
+ghost use Rattle.clean_build.specs.Ground.{IsReady};
+ghost use Rattle.clean_build.specs.Names as names_spec;
+ghost use Rattle.clean_build.specs.Single as single_spec;
+ghost use Rattle.build_plan.specs.Documents as documents_spec;
+ghost use Rattle.dita_doc.specs.declared.plan.Plan as plan_declared;
+ghost use Rattle.map_spec.specs.PlanOf as plan_spec;
+ghost use Rattle.node_links.specs.NodeTable.{AreNodeLinks};
+ghost use Rattle.part_spec.specs.Parts as parts_spec;
+ghost use Rattle.reader_spec.specs.World.{World};
+ghost use Rattle.readers.specs.Founded as founded_spec;
+ghost use Rattle.readers.specs.Founded.{Grows, StaysFounded};
+ghost use Rattle.readers.specs.Told.{Agrees};
+
+use crate::body::no_html;
+use crate::build_tables::BuildTables;
+use crate::ground::Ground;
+use crate::over_plan::PlanWork;
+use crate::over_titles::over_titles;
+use crate::works::{PageMade, PageWork};
+use build_plan::{Planned, planned};
+use conref_pull::Tables;
+use dita_doc::{Html, Name, NoMemory, Plan, Stop};
+use node_links::NodeLinks;
+use plan_layer::PushedDocs;
+use readers::{Asker, Titles};
+use std::alloc::Global;
+use toc_page::contents;
+
+/// The page of a plan at an index, with all its faults; it is empty if there is no such page. The
+/// plan is that of the map and the DITAVAL over what the reader reads: it is made anew, so that what
+/// is asked tells it. So is what all pages of a plan need: `clean` finds it once.
+pub fn page<T: Titles>(
+    alloc: Global,
+    asker: &mut T,
+    plan: &Plan,
+    map: &Name,
+    val: Option<&Name>,
+    index: u32,
+) -> Result<Html, NoMemory>
+    ensures known { (world : World) → Agrees world (T.told asker.new)
+        → plan_spec.plan_of plan_spec.limits world map.now (option_copied val.entry) ≡ Ok plan.now
+        → IfOk result (λ html. html ≡ parts_spec.page_part parts_spec.rooms world plan.now
+        (option_copied val.entry) index) }
+    ensures value { plan_spec.plan_of plan_spec.limits (T.stand asker.old).world map.now
+        (option_copied val.entry) ≡ Ok plan.now
+        → IfOk result (λ html. html ≡ parts_spec.page_part parts_spec.rooms
+        (T.stand asker.old).world plan.now (option_copied val.entry) index) }
+    ensures founded { StaysFounded (documents_spec.build_names map.now (option_copied val.entry))
+        (T.told asker.old) (T.told asker.new) }
+    ensures stand { T.stand asker.new ≡ T.stand asker.old }
+    ensures grows { Grows (T.told asker.old) (T.told asker.new) }
+{
+    page_of_plan(alloc, asker, plan, map, val, index)
+}
+
+// What `page` says, but of the reader's own world.
+fn page_of_plan<T: Titles>(
+    alloc: Global,
+    asker: &mut T,
+    plan: &Plan,
+    map: &Name,
+    val: Option<&Name>,
+    index: u32,
+) -> Result<Html, NoMemory>
+    ensures known { (world : World) → Agrees world (T.told asker.new)
+        → plan_spec.plan_of plan_spec.limits world map.now (option_copied val.entry) ≡ Ok plan.now
+        → IfOk result (λ html. html ≡ parts_spec.page_part parts_spec.rooms world plan.now
+        (option_copied val.entry) index) }
+    ensures founded { StaysFounded (documents_spec.build_names map.now (option_copied val.entry))
+        (T.told asker.old) (T.told asker.new) }
+    ensures stand { T.stand asker.new ≡ T.stand asker.old }
+    ensures grows { Grows (T.told asker.old) (T.told asker.new) }
+{
+    if plan.pages.as_slice().get(index as usize).is_none() {
+        return Ok(no_html(alloc));
+    }
+    single(alloc, asker, map, val, Part::Page(index))
+}
+
+/// The contents page of a plan, with the faults of all pushes. The plan is that of the map and the
+/// DITAVAL over what the reader reads: it is made anew, so that what is asked tells it.
+pub fn toc<T: Titles>(
+    alloc: Global,
+    asker: &mut T,
+    plan: &Plan,
+    map: &Name,
+    val: Option<&Name>,
+) -> Result<Html, NoMemory>
+    ensures known { (world : World) → Agrees world (T.told asker.new)
+        → plan_spec.plan_of plan_spec.limits world map.now (option_copied val.entry) ≡ Ok plan.now
+        → IfOk result (λ html. html ≡ parts_spec.contents_part world plan.now) }
+    ensures value { plan_spec.plan_of plan_spec.limits (T.stand asker.old).world map.now
+        (option_copied val.entry) ≡ Ok plan.now
+        → IfOk result (λ html.
+        html ≡ parts_spec.contents_part (T.stand asker.old).world plan.now) }
+    ensures founded { StaysFounded (documents_spec.build_names map.now (option_copied val.entry))
+        (T.told asker.old) (T.told asker.new) }
+    ensures stand { T.stand asker.new ≡ T.stand asker.old }
+    ensures grows { Grows (T.told asker.old) (T.told asker.new) }
+{
+    contents_of_plan(alloc, asker, plan, map, val)
+}
+
+// What `toc` says, but of the reader's own world.
+fn contents_of_plan<T: Titles>(
+    alloc: Global,
+    asker: &mut T,
+    plan: &Plan,
+    map: &Name,
+    val: Option<&Name>,
+) -> Result<Html, NoMemory>
+    ensures known { (world : World) → Agrees world (T.told asker.new)
+        → plan_spec.plan_of plan_spec.limits world map.now (option_copied val.entry) ≡ Ok plan.now
+        → IfOk result (λ html. html ≡ parts_spec.contents_part world plan.now) }
+    ensures founded { StaysFounded (documents_spec.build_names map.now (option_copied val.entry))
+        (T.told asker.old) (T.told asker.new) }
+    ensures stand { T.stand asker.new ≡ T.stand asker.old }
+    ensures grows { Grows (T.told asker.old) (T.told asker.new) }
+{
+    single(alloc, asker, map, val, Part::Contents)
+}
+
+// A part of a build that stands alone.
+#[derive(Clone, Copy, Debug)]
+enum Part {
+    Page(u32),
+    Contents,
+}
+
+// A part of a build; without a plan it is empty.
+fn single<T: Titles>(
+    alloc: Global,
+    asker: &mut T,
+    map: &Name,
+    val: Option<&Name>,
+    part: Part,
+) -> Result<Html, NoMemory>
+    ensures known { (world : World) (plan : plan_declared.Plan) → Agrees world (T.told asker.new)
+        → plan_spec.plan_of plan_spec.limits world map.now (option_copied val.entry) ≡ Ok plan
+        → IfOk result (λ html.
+        html ≡ single_spec.part_html part world plan (option_copied val.entry)) }
+    ensures founded { StaysFounded (documents_spec.build_names map.now (option_copied val.entry))
+        (T.told asker.old) (T.told asker.new) }
+    ensures stand { T.stand asker.new ≡ T.stand asker.old }
+    ensures grows { Grows (T.told asker.old) (T.told asker.new) }
+{
+    let Planned { plan, homes, table } = match planned(alloc, asker, map, val) {
+        Ok(planned) => planned,
+        Err(Stop::Fault(_)) => return Ok(no_html(alloc)),
+        Err(Stop::NoMemory) => return Err(NoMemory),
+    };
+    let tables = BuildTables::of(alloc, asker, &plan, homes, table)?;
+    let mut docs = PushedDocs::new(alloc);
+    let ground = Ground {
+        map,
+        val,
+        plan: &plan,
+    };
+    let work = PartWork { ground, part };
+    over_titles(alloc, asker, &plan, &tables, &mut docs, work)
+}
+
+// What a part that stands alone needs of its plan is found for it.
+#[derive(Clone, Copy)]
+struct PartWork<'p> {
+    ground: Ground<'p>,
+    part: Part,
+}
+
+impl<'p> PlanWork for PartWork<'p> {
+    ghost use Rattle.clean_build.specs.Single as single_spec;
+
+    type Made = Html;
+
+    ghost makes = { single_spec.MakesPart };
+
+    ghost about = { single_spec.about_part };
+
+    fn run<A: Asker>(self, alloc: Global, asker: &mut A) -> Result<Html, NoMemory> {
+        match self.part {
+            Part::Page(index) => page_alone(alloc, asker, self.ground, index),
+            Part::Contents => contents(alloc, asker, self.ground.plan),
+        }
+    }
+}
+
+// The page at an index, with all its faults. A page that is not there is empty.
+fn page_alone<A: Asker>(
+    alloc: Global,
+    asker: &mut A,
+    ground: Ground<'_>,
+    index: u32,
+) -> Result<Html, NoMemory>
+    ensures known { (world : World) → Agrees world (A.told asker.new)
+        → IsReady world ground.entry (A.stand asker.old).setting
+        → IfOk result (λ html. html ≡ parts_spec.page_part parts_spec.rooms world
+        ground.entry.plan.now (option_copied ground.entry.val) index) }
+    ensures founded { StaysFounded (founded_spec.homes (A.stand asker.old).setting.nodes
+        ++ names_spec.names_of ground.entry) (A.told asker.old) (A.told asker.new) }
+    ensures stand { A.stand asker.new ≡ A.stand asker.old }
+    ensures grows { Grows (A.told asker.old) (A.told asker.new) }
+{
+    let plan = ground.plan;
+    let Some(page) = plan.pages.as_slice().get(index as usize) else {
+        return Ok(no_html(alloc));
+    };
+    let links = NodeLinks::of(alloc, asker, plan)?;
+    let work = PageWork {
+        ground,
+        page,
+        index,
+        links: &links,
+        content: Tables::new(alloc),
+        behind: links.faults_by_row(alloc, plan)?,
+    };
+    let PageMade { html, .. } = work.run(alloc, asker)?;
+    Ok(html)
+}

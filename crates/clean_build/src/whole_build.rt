@@ -1,0 +1,155 @@
+//! The build of a map over stored sources.
+
+ghost use Rattle.std.specs.Prelude.{◌≡◌, [], IfOk, Ok, OnOk, codes};
+ghost use Rattle.std.specs.Option.{option_copied};
+ghost use Rattle.clean_build.specs.Clean as clean_spec;
+ghost use Rattle.clean_build.specs.Gathering as gathering_spec;
+ghost use Rattle.clean_build.specs.Gathering.{HasGathered};
+ghost use Rattle.clean_build.specs.Tables.{AreTables, GoesOn};
+ghost use Rattle.map_spec.specs.PlanOf as plan_spec;
+ghost use Rattle.node_links.specs.NodeTable.{AreNodeLinks};
+ghost use Rattle.part_spec.specs.Parts as parts_spec;
+ghost use Rattle.reader_spec.specs.World.{World, world_of};
+ghost use Rattle.readers.specs.Told.{Agrees};
+
+use crate::build_tables::BuildTables;
+use crate::built::Clean;
+use crate::faults::copy_faults;
+use crate::gathered::Gathered;
+use crate::ground::Ground;
+use crate::over_sources::{Lasting, over_sources};
+use crate::works::{ContentsWork, LinksWork, PageMade, PageWork};
+use build_plan::{Planned, planned};
+use conref_pull::Tables;
+use dita_doc::{List, Name, NoMemory, Plan, Sources, Stop, Text};
+use node_links::NodeLinks;
+use plan_layer::PushedDocs;
+use plan_nodes::place_of;
+use readers::{KnownTitles, Questions, Since, SourceReader};
+use std::alloc::{AllocError, Global};
+use std::marker::Brand;
+
+/// The build of a map, with a DITAVAL or without: each page of its plan, the contents page, and the
+/// faults of all, each once and in order. If the pages have more than 268,435,456 bytes together, it
+/// says how many they have.
+pub fn clean(
+    alloc: Global,
+    sources: &Sources,
+    map: &Name,
+    val: Option<&Name>,
+) -> Result<Clean, NoMemory>
+    ensures built { IfOk result (λ built. clean_spec.clean_seen built
+        ≡ parts_spec.clean_build (world_of sources.now) map.now (option_copied val.entry)) }
+    ensures names { IfOk result clean_spec.HasPageNames }
+{
+    let mut reader = SourceReader::new(alloc, KnownTitles::new(alloc, sources));
+    let Planned { plan, homes, table } = match planned(alloc, &mut reader, map, val) {
+        Ok(planned) => planned,
+        Err(Stop::Fault(stop)) => return Ok(Clean::Stopped(stop)),
+        Err(Stop::NoMemory) => return Err(NoMemory),
+    };
+    let tables = BuildTables::of(alloc, &mut reader, &plan, homes, table)?;
+    let ground = Ground {
+        map,
+        val,
+        plan: &plan,
+    };
+    let (asked, known) = reader.into_asked();
+    parts_since::<Brand>(alloc, &asked, known, ground, &tables)
+}
+
+// All parts, by tables that are known by what was told before. Which answers these were is said by
+// the questions, which no code reads here.
+fn parts_since<S: Since>(
+    alloc: Global,
+    asked: &Questions,
+    known: KnownTitles<'_>,
+    ground: Ground<'_>,
+    tables: &BuildTables,
+) -> Result<Clean, NoMemory>
+    requires sources { world_of known.sources.now ≡ S.stand.world }
+    requires agreed { Agrees S.stand.world S.told }
+    requires tables { AreTables S.told ground.plan.now tables.now }
+    requires plan { plan_spec.plan_of plan_spec.limits S.stand.world ground.map.now
+        (option_copied ground.val) ≡ Ok ground.plan.now }
+    ensures { IfOk result (gathering_spec.IsBuilt ground.entry.plan.now
+        (parts_spec.parts_of parts_spec.rooms S.stand.world ground.entry.plan.now
+        (option_copied ground.entry.val))) }
+{
+    let plan = ground.plan;
+    let docs = PushedDocs::new(alloc);
+    let lasting = Lasting { known, docs };
+    let work = LinksWork { ground };
+    let (links, lasting) = over_sources::<S, LinksWork<'_>>(alloc, lasting, plan, tables, work)?;
+    let mut gathered = first_faults(alloc, plan, &links)?;
+    put_parts::<S>(alloc, lasting, ground, tables, &links, &mut gathered)?;
+    gathered.finish(alloc)
+}
+
+// The faults of a plan and those of its rows, before any page is put. Faults of rows are faults of
+// each page, so a plan without pages has none of them.
+fn first_faults(alloc: Global, plan: &Plan, links: &NodeLinks) -> Result<Gathered, NoMemory>
+    ensures { (world : World) → AreNodeLinks world plan.now links.now
+        → IfOk result (HasGathered [] [] (gathering_spec.faults_before plan.now)) }
+{
+    let mut gathered = Gathered::new(alloc);
+    gathered.put_faults(alloc, copy_faults(alloc, plan.faults.as_slice())?)?;
+    if plan.pages.is_empty() {
+        return Ok(gathered);
+    }
+    gathered.put_faults(alloc, copy_faults(alloc, links.faults())?)?;
+    Ok(gathered)
+}
+
+// Puts each page, and the contents page last.
+fn put_parts<S: Since>(
+    alloc: Global,
+    lasting: Lasting<'_>,
+    ground: Ground<'_>,
+    tables: &BuildTables,
+    links: &NodeLinks,
+    gathered: &mut Gathered,
+) -> Result<(), NoMemory>
+    requires agreed { Agrees S.stand.world S.told }
+    requires tables { AreTables S.told ground.plan.now tables.now }
+    requires goes_on { GoesOn S.stand.world ground.plan.now.documents lasting }
+    requires plan { plan_spec.plan_of plan_spec.limits S.stand.world ground.map.now
+        (option_copied ground.val) ≡ Ok ground.plan.now }
+    requires links { AreNodeLinks S.stand.world ground.plan.now links.now }
+    requires gathered { HasGathered [] [] (gathering_spec.faults_before ground.plan.now)
+        gathered.old }
+    ensures { OnOk result (gathering_spec.HasPartsOf S.stand.world ground.entry.plan.now
+        (option_copied ground.entry.val) gathered.new) }
+{
+    let plan = ground.plan;
+    let mut content = Tables::new(alloc);
+    let mut lasting = lasting;
+    for (index, page) in plan.pages.as_slice().iter().enumerate() {
+        let work = PageWork {
+            ground,
+            page,
+            index: place_of(index)?,
+            links,
+            content,
+            behind: List::new(alloc),
+        };
+        let (made, next) = over_sources::<S, PageWork<'_, '_>>(alloc, lasting, plan, tables, work)?;
+        let PageMade {
+            html,
+            content: kept,
+        } = made;
+        content = kept;
+        lasting = next;
+        gathered.put(alloc, page.name.clone()?, html)?;
+    }
+    let work = ContentsWork { ground };
+    let (html, _) = over_sources::<S, ContentsWork<'_>>(alloc, lasting, plan, tables, work)?;
+    gathered.put(alloc, contents_name(alloc)?, html)
+}
+
+// The name of the contents page.
+fn contents_name(alloc: Global) -> Result<Name, AllocError>
+    ensures { IfOk result (λ name. name ≡ codes "index.html") }
+{
+    Name::new(alloc, Text::from_str(alloc, "index.html")?)
+}
