@@ -6,7 +6,6 @@ pub mod GivenLaws
 pub mod LinkLaws
 pub mod NameLaws
 pub mod OnceLaws
-pub mod OwnLaws
 pub mod PageLaws
 pub mod PartLaws
 pub mod PlanLaws

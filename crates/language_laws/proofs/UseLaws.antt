@@ -52,7 +52,7 @@ are_apart [] = true
 are_apart (first ∷ uses) = list_all (is_other first) uses && are_apart uses
 
 -- what holds of each use holds of each that stays
-all_that_stay : (holds stays : Use → Bool) (uses : List Use) → list_all holds uses ≡ true
+pub all_that_stay : (holds stays : Use → Bool) (uses : List Use) → list_all holds uses ≡ true
     → list_all holds (filter stays uses) ≡ true
 all_that_stay holds stays [] all = refl
 all_that_stay holds stays (first ∷ uses) all =
@@ -89,7 +89,7 @@ first_apart (first ∷ uses) =
 -- The pages of uses
 
 -- what holds of the identity of each use holds of that of each page
-page_holds : (holds : PageId → Bool) (index : ℕ) (taken : List (List ℕ)) (uses : List Use) (at : ℕ) (page : PagePlan)
+pub page_holds : (holds : PageId → Bool) (index : ℕ) (taken : List (List ℕ)) (uses : List Use) (at : ℕ) (page : PagePlan)
     → list_all (λ (made : Use). holds made.id) uses ≡ true → slice_get (named_from index taken uses) at ≡ Some page
     → holds page.id ≡ true
 page_holds holds index taken [] at page all is = absurd (cc)
