@@ -1,6 +1,5 @@
 pub mod AnswerLaws
 pub mod DeliverLaws
 pub mod EndsLaws
-pub mod PathLaws
 pub mod RunLaws
 pub mod TakesLaws
