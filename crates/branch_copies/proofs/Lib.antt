@@ -10,7 +10,7 @@ mod PlacedLaws
 mod ReadLaws
 mod ReadingLaws
 mod RefLaws
-mod SeenLaws
+pub mod SeenLaws
 mod SightLaws
 mod StandLaws
 mod StepLaws

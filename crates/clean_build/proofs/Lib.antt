@@ -13,7 +13,6 @@ pub mod Putting
 pub mod ReadyLaws
 pub mod RootLaws
 pub mod RowLaws
-pub mod SeenLaws
 pub mod SingleLaws
 pub mod StandLaws
 pub mod TableLaws
