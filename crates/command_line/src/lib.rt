@@ -7,8 +7,6 @@
 
 mod arguments;
 mod read;
-#[cfg(test)]
-mod tests;
 
 pub use arguments::command;
 pub use read::{out_folder, reads};

@@ -11,8 +11,6 @@ mod deliver;
 mod outside;
 mod path;
 mod run;
-#[cfg(test)]
-mod tests;
 mod top;
 
 pub use clean::run_clean;

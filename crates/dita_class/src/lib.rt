@@ -11,9 +11,6 @@ ghost use Rattle.dita_doc.specs.ClassValue as class_value_spec;
 ghost use Rattle.dita_doc.specs.Gives.{Gives};
 ghost use Rattle.dita_class.specs.Specializes as specializes_spec;
 
-#[cfg(test)]
-mod tests;
-
 use dita_doc::{ClassFault, ClassList, List, Sign, Stop, Text, is_token, split_sign, split_word};
 use std::alloc::Global;
 

@@ -24,8 +24,6 @@ mod request;
 mod siblings;
 mod sources;
 mod stop;
-#[cfg(test)]
-mod tests;
 mod text;
 
 pub use body::Body;

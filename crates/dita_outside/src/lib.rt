@@ -10,8 +10,6 @@ mod folder;
 mod outlet;
 mod sink;
 mod source;
-#[cfg(test)]
-mod tests;
 
 pub use folder::{FolderOutlet, PageError};
 pub use outlet::{MemOutlet, Outlet, SureOutlet};

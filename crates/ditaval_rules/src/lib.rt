@@ -9,8 +9,6 @@ mod exclude;
 mod reading;
 mod rules;
 mod table;
-#[cfg(test)]
-mod tests;
 
 pub use exclude::verdict;
 pub use rules::{NotDitaval, RulesRead, read_rules};

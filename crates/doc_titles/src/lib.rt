@@ -5,8 +5,6 @@
 #![tactic(auto)]
 
 mod kind;
-#[cfg(test)]
-mod tests;
 mod title;
 mod topics;
 

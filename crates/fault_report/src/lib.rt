@@ -7,8 +7,6 @@
 mod distinct;
 mod line;
 mod order;
-#[cfg(test)]
-mod tests;
 
 pub use distinct::report;
 pub use line::fault_line;

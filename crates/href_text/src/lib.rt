@@ -8,8 +8,6 @@
 mod fault;
 mod path;
 mod reference;
-#[cfg(test)]
-mod tests;
 
 pub use fault::RefFault;
 pub use path::{join_name, relative};

@@ -8,8 +8,6 @@
 mod faults;
 mod links;
 mod page;
-#[cfg(test)]
-mod tests;
 
 pub use links::append_anchor;
 pub use page::{page_html, page_text};

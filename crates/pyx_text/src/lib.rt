@@ -16,8 +16,6 @@ mod body;
 mod line;
 mod machine;
 mod reader;
-#[cfg(test)]
-mod tests;
 mod write;
 
 use crate::reader::PyxReader;

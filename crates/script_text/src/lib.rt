@@ -16,8 +16,6 @@ mod machine;
 mod outside;
 mod reader;
 mod script;
-#[cfg(test)]
-mod tests;
 mod words;
 
 use crate::reader::read_lines;

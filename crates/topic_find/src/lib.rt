@@ -8,8 +8,6 @@ mod meant;
 mod node;
 mod table;
 mod target;
-#[cfg(test)]
-mod tests;
 mod topics;
 
 pub use table::TargetTable;

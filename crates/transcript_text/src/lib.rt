@@ -9,8 +9,6 @@ mod built;
 mod head;
 mod read;
 mod state;
-#[cfg(test)]
-mod tests;
 mod transcript;
 mod word;
 mod write;

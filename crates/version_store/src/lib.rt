@@ -9,8 +9,6 @@ mod change;
 mod full;
 mod reply;
 mod store;
-#[cfg(test)]
-mod tests;
 
 pub use full::Full;
 pub use store::{ENTRY_LIMIT, Store, TEXT_LIMIT};

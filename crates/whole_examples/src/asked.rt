@@ -7,12 +7,12 @@ use crate::documents::topic;
 use dita_doc::{DocKind, List, Name, NoMemory, Request, Text};
 use pyx_text::read_body;
 use readers::{KnownTitles, Reader, SourceReader, Titles};
-use std::alloc::Global;
+use std::alloc::{AllocError, Global};
 use std::test::Fail;
 use version_store::Store;
 
-fn name(alloc: Global, text: &str) -> Result<Name, NoMemory> {
-    Name::parse(alloc, text).map_err(|_| NoMemory)
+fn name(alloc: Global, text: &str) -> Result<Name, AllocError> {
+    Name::parse(alloc, text).map_err(|_| AllocError)
 }
 
 // A put of a topic with the title `Hello`.
@@ -24,45 +24,62 @@ fn put(alloc: Global, name: &Name) -> Result<Request, NoMemory>
     Ok(Request::Put(name.clone()?, body))
 }
 
+// A store of the topic `t.dita`.
+fn stored(alloc: Global) -> Result<Store, AllocError> {
+    let mut store = Store::new(alloc).map_err(|_| AllocError)?;
+    let request = put(alloc, &name(alloc, "t.dita")?).map_err(|_| AllocError)?;
+    match store.answer(alloc, 1, 1, request) {
+        Ok(_) => Ok(store),
+        Err(_) => Err(AllocError),
+    }
+}
+
+// The kind, the title and the first topic of a document, or nothing if it is absent.
+fn shown<T: Titles>(
+    alloc: Global,
+    reader: &mut T,
+    name: &Name,
+) -> Result<Option<(DocKind, Text, Text)>, NoMemory> {
+    if reader.doc(alloc, name)?.is_none() {
+        return Ok(None);
+    }
+    let title = reader.title(alloc, name, &Text::new(alloc))?;
+    Ok(Some((reader.kind(alloc, name)?, title, reader.first(alloc, name)?)))
+}
+
 #[test]
-fn a_reader_answers_and_tells_its_questions(rt: HostRuntime) -> Result<(), Fail> {
+fn a_reader_shows_what_is_stored(rt: HostRuntime) -> Result<(), Fail> {
     let alloc = rt.alloc();
-    let mut store = Store::new(alloc).map_err(|_| "no memory")?;
-    let there = name(alloc, "t.dita").map_err(|_| "no name")?;
-    let absent = name(alloc, "u.dita").map_err(|_| "no name")?;
-    let request = put(alloc, &there).map_err(|_| "no memory")?;
-    let place = store.answer(alloc, 1, 1, request);
-    assert_eq!(rt; place.map_err(|_| "full")?, 0);
+    let name = name(alloc, "t.dita")?;
+    let store = stored(alloc)?;
     let mut reader = SourceReader::new(alloc, KnownTitles::new(alloc, store.sources()));
-    let no_topic = Text::new(alloc);
-    let answers = (
-        reader
-            .doc(alloc, &there)
-            .map_err(|_| "no memory")?
-            .is_some(),
-        reader
-            .doc(alloc, &absent)
-            .map_err(|_| "no memory")?
-            .is_some(),
-        reader.kind(alloc, &there).map_err(|_| "no memory")?,
-        reader.kind(alloc, &absent).map_err(|_| "no memory")?,
-    );
-    assert_eq!(rt; answers, (true, false, DocKind::Topic, DocKind::Absent));
     // The second title comes from the table.
     for _ in 0..2 {
-        let title = reader
-            .title(alloc, &there, &no_topic)
-            .map_err(|_| "no memory")?;
-        assert_eq!(rt; title.as_str(), "Hello");
+        let shown = shown(alloc, &mut reader, &name).map_err(|_| AllocError)?;
+        let (kind, title, first) = shown.ok_or("no document")?;
+        assert_eq!(rt; kind, DocKind::Topic);
+        assert!(rt; title.as_str() == "Hello");
+        assert!(rt; first.as_str() == "t");
     }
-    let title = reader
-        .title(alloc, &absent, &no_topic)
-        .map_err(|_| "no memory")?;
-    assert_eq!(rt; title.as_str(), "u.dita");
-    let id = reader.first(alloc, &there).map_err(|_| "no memory")?;
-    assert_eq!(rt; id.as_str(), "t");
     let (asked, _) = reader.into_asked();
-    let asked = asked.into_answered(alloc).map_err(|_| "no memory")?;
+    let asked = asked.into_answered(alloc).map_err(|_| AllocError)?;
     assert_eq!(rt; asked.len(), 8);
+    Ok(())
+}
+
+#[test]
+fn an_absent_document_has_its_name_for_a_title(rt: HostRuntime) -> Result<(), Fail> {
+    let alloc = rt.alloc();
+    let name = name(alloc, "u.dita")?;
+    let store = stored(alloc)?;
+    let mut reader = SourceReader::new(alloc, KnownTitles::new(alloc, store.sources()));
+    assert!(rt; reader.doc(alloc, &name).is_ok_and(|doc| doc.is_none()));
+    assert!(rt;
+        reader
+            .kind(alloc, &name)
+            .is_ok_and(|kind| kind == DocKind::Absent)
+    );
+    let title = reader.title(alloc, &name, &Text::new(alloc));
+    assert!(rt; title.is_ok_and(|title| title.as_str() == "u.dita"));
     Ok(())
 }

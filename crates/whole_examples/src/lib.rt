@@ -8,6 +8,8 @@ mod asked;
 #[cfg(test)]
 mod documents;
 #[cfg(test)]
+mod faults;
+#[cfg(test)]
 mod pages;
 #[cfg(test)]
 mod replies;

@@ -3,9 +3,9 @@
 use crate::runs::Run;
 use dita_doc::Stop;
 use run_spec::Status;
-use std::alloc::AllocError;
+use std::alloc::{AllocError, Global};
 use std::test::Fail;
-use transcript_text::read_transcript;
+use transcript_text::{Transcript, read_transcript};
 
 // What a row is about, its script and its transcript.
 const ROWS: [(&str, &str, &str); 5] = [
@@ -56,22 +56,26 @@ fn the_empty_script_has_the_empty_transcript(rt: HostRuntime) -> Result<(), Fail
     Ok(())
 }
 
+// What is read of the transcript of a run.
+fn transcript_of(alloc: Global, script: &str) -> Result<Transcript, Fail> {
+    let run = Run::of(alloc, script)?;
+    match read_transcript(alloc, run.sink.bytes().as_slice()) {
+        Ok(transcript) => Ok(transcript),
+        Err(Stop::Fault(_)) => Err(Fail::new("it is no transcript")),
+        Err(Stop::NoMemory) => Err(AllocError.into()),
+    }
+}
+
 #[test]
 fn what_a_run_wrote_is_read_again(rt: HostRuntime) -> Result<(), Fail> {
-    let alloc = rt.alloc();
-    let run = Run::of(alloc, "1 put t\n(p\n)p\n.\n1 names\n")?;
-    assert_eq!(rt; run.status, Status::Done);
-    let transcript = match read_transcript(alloc, run.sink.bytes().as_slice()) {
-        Ok(transcript) => transcript,
-        Err(Stop::Fault(_)) => return Err(Fail::new("it is no transcript")),
-        Err(Stop::NoMemory) => return Err(AllocError.into()),
-    };
+    let transcript = transcript_of(rt.alloc(), "1 put t\n(p\n)p\n.\n1 names\n")?;
     assert_eq!(rt; transcript.total, (2, 0, 0));
-    let entries = transcript.entries.as_slice();
-    assert_eq!(rt; entries.len(), 2);
-    assert_eq!(rt; entries[1].reply.as_str(), "names 1");
-    let lines = entries[1].lines.as_slice();
-    assert_eq!(rt; lines.len(), 1);
-    assert_eq!(rt; lines[0].as_str(), "t 1");
+    let rows = [("stored 1", ""), ("names 1", "t 1")];
+    assert_eq!(rt; transcript.entries.len(), rows.len());
+    for (entry, (reply, lines)) in transcript.entries.as_slice().iter().zip(rows) {
+        assert!(rt; entry.reply.as_str() == reply);
+        let line = entry.lines.as_slice().first();
+        assert!(rt; line.map_or("", |line| line.as_str()) == lines);
+    }
     Ok(())
 }

@@ -1,20 +1,10 @@
 //! Known values, and each public call once on its way to success.
 
-use crate::{RefFault, join_name, read_reference, relative};
-use dita_doc::{Name, Reference, Stop, Text};
+use crate::given::{name, text};
+use dita_doc::{Name, Reference, Stop};
+use href_text::{RefFault, join_name, read_reference, relative};
 use std::alloc::{AllocError, Global};
 use std::test::Fail;
-
-fn text(alloc: Global, text: &str) -> Result<Text, AllocError> {
-    Text::from_str(alloc, text)
-}
-
-fn name(alloc: Global, text: &str) -> Result<Name, AllocError> {
-    match Name::parse(alloc, text) {
-        Ok(name) => Ok(name),
-        Err(_) => Err(AllocError),
-    }
-}
 
 fn read(alloc: Global, value: &str) -> Result<Result<Reference, Stop<RefFault>>, AllocError> {
     Ok(read_reference(alloc, &text(alloc, value)?))
@@ -33,20 +23,16 @@ fn refuses<T: Drop>(answer: Result<T, Stop<RefFault>>, fault: RefFault) -> bool 
 
 #[test]
 fn a_value_is_read_in_its_parts(rt: HostRuntime) -> Result<(), Fail> {
-    let alloc = rt.alloc();
-    let whole = read(alloc, "a/b.dita#t/e")?;
-    let named = Reference {
-        file: text(alloc, "a/b.dita")?,
-        topic: text(alloc, "t")?,
-        element: text(alloc, "e")?,
-    };
-    assert!(rt; whole.is_ok_and(|parts| parts == named));
-    let here = Reference {
-        file: text(alloc, "")?,
-        topic: text(alloc, ".")?,
-        element: text(alloc, "e")?,
-    };
-    assert!(rt; read(alloc, "#./e")?.is_ok_and(|parts| parts == here));
+    let rows = [
+        ("a/b.dita#t/e", ("a/b.dita", "t", "e")),
+        ("#./e", ("", ".", "e")),
+    ];
+    for (value, (file, topic, element)) in rows {
+        let parts = read(rt.alloc(), value)?.map_err(|_| AllocError)?;
+        assert!(rt; parts.file.as_str() == file, "{value}");
+        assert!(rt; parts.topic.as_str() == topic, "{value}");
+        assert!(rt; parts.element.as_str() == element, "{value}");
+    }
     Ok(())
 }
 

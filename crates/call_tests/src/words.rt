@@ -1,6 +1,6 @@
 //! The words of the program, as they are written.
 
-use crate::{command, out_folder, reads};
+use command_line::{command, out_folder, reads};
 use std::alloc::{AllocError, Global};
 use std::test::Fail;
 
@@ -23,7 +23,7 @@ fn words_are_read_or_not(rt: HostRuntime) -> Result<(), Fail> {
         "dita_desk -- clean",
     ];
     for line in read {
-        assert_eq!(rt; (line, reads(alloc, &words(alloc, line)?)?), (line, true));
+        assert!(rt; reads(alloc, &words(alloc, line)?)?, "{line}");
     }
     let refused = [
         "dita_desk",
@@ -45,7 +45,7 @@ fn words_are_read_or_not(rt: HostRuntime) -> Result<(), Fail> {
         "dita_desk --version",
     ];
     for line in refused {
-        assert_eq!(rt; (line, reads(alloc, &words(alloc, line)?)?), (line, false));
+        assert!(rt; !reads(alloc, &words(alloc, line)?)?, "{line}");
     }
     Ok(())
 }
@@ -61,7 +61,7 @@ fn the_folder_is_named(rt: HostRuntime) -> Result<(), Fail> {
     ];
     for (line, folder) in folders {
         let named = out_folder(alloc, &words(alloc, line)?)?;
-        assert_eq!(rt; (line, named.as_str()), (line, folder));
+        assert!(rt; named.as_str() == folder, "{line}");
     }
     Ok(())
 }

@@ -1,15 +1,13 @@
 //! Texts with what they stand for, derived by hand from the rules of PYX.
 
-use crate::{read_body, read_pyx, write_pyx};
+use crate::given::{self, document};
 use dita_doc::{List, Name, NodeKind, PyxCode, PyxFault, Stop};
+use pyx_text::{read_body, read_pyx, write_pyx};
 use std::alloc::{AllocError, Global};
 use std::test::Fail;
 
 fn name(alloc: Global) -> Result<Name, AllocError> {
-    match Name::parse(alloc, "t.dita") {
-        Ok(name) => Ok(name),
-        Err(_) => Err(AllocError),
-    }
+    given::name(alloc, "t.dita")
 }
 
 // The fault of a text, if it has one.
@@ -47,7 +45,7 @@ fn each_fault_has_its_line(rt: HostRuntime) -> Result<(), Fail> {
         (b"(p\nx\xff\n)p\n".as_slice(), PyxCode::NotUtf8, 2),
     ];
     for (text, code, line) in rows {
-        assert_eq!(rt; (text, fault(alloc, text)?), (text, at(code, line)));
+        assert_eq!(rt; fault(alloc, text)?, at(code, line), "{text:?}");
     }
     Ok(())
 }
@@ -70,31 +68,37 @@ fn length_has_a_limit(rt: HostRuntime) -> Result<(), Fail> {
     Ok(())
 }
 
+const MANY_FORMS: &str =
+    "?xml\r\n(to\rpic\nAid a\\tb\nAempty\n-one\nCx\n[\\n two\\\\n\n(b\n)b\n-\\q\\\n)topic";
+
 #[test]
 fn a_text_is_read_as_its_tree(rt: HostRuntime) -> Result<(), Fail> {
-    let alloc = rt.alloc();
-    let text =
-        b"?xml\r\n(to\rpic\nAid a\\tb\nAempty\n-one\nCx\n[\\n two\\\\n\n(b\n)b\n-\\q\\\n)topic";
-    let Ok(doc) = read_pyx(alloc, &name(alloc)?, text) else {
-        return Err(AllocError.into());
-    };
-    let nodes = doc.nodes.as_slice();
+    let doc = document(rt.alloc(), MANY_FORMS)?;
     let rows = [
         (NodeKind::Element, "topic", 2, 4),
         (NodeKind::Chars, "one\n two\\n", 0, 2),
         (NodeKind::Element, "b", 8, 3),
         (NodeKind::Chars, "\\q\\", 0, 4),
     ];
-    assert_eq!(rt; nodes.len(), 4);
-    for (node, (kind, text, line, end)) in nodes.iter().zip(rows) {
+    assert_eq!(rt; doc.nodes.len(), rows.len());
+    for (node, (kind, text, line, end)) in doc.nodes.as_slice().iter().zip(rows) {
         assert_eq!(rt; node.kind, kind);
-        assert_eq!(rt; node.text.as_str(), text);
+        assert!(rt; node.text.as_str() == text);
         assert_eq!(rt; (node.origin, node.line, node.end), (0, line, end));
     }
-    let attributes = nodes[0].attributes.as_slice();
-    assert_eq!(rt; attributes.len(), 2);
-    assert_eq!(rt; attributes[0].value.as_str(), "a\tb");
-    assert_eq!(rt; attributes[1].name.as_str(), "empty");
+    Ok(())
+}
+
+#[test]
+fn attributes_are_read_in_their_order(rt: HostRuntime) -> Result<(), Fail> {
+    let doc = document(rt.alloc(), MANY_FORMS)?;
+    let root = doc.nodes.as_slice().first().ok_or("no root")?;
+    let rows = [("id", "a\tb"), ("empty", "")];
+    assert_eq!(rt; root.attributes.len(), rows.len());
+    for (attribute, (name, value)) in root.attributes.as_slice().iter().zip(rows) {
+        assert!(rt; attribute.name.as_str() == name);
+        assert!(rt; attribute.value.as_str() == value);
+    }
     Ok(())
 }
 
@@ -102,16 +106,12 @@ fn a_text_is_read_as_its_tree(rt: HostRuntime) -> Result<(), Fail> {
 #[test]
 fn a_text_of_many_forms_has_one_canonical_text(rt: HostRuntime) -> Result<(), Fail> {
     let alloc = rt.alloc();
-    let text = b"?xml version=\"1.0\"\r\n(p\r\nAid\r\n-a\r\nC x\n[\\tb\\\n-\\q\n)p".as_slice();
-    let canonical = b"(p\nAid \n-a\\tb\\\\\\\\q\n)p\n".as_slice();
+    let text = "?xml version=\"1.0\"\r\n(p\r\nAid\r\n-a\r\nC x\n[\\tb\\\n-\\q\n)p";
+    let canonical = "(p\nAid \n-a\\tb\\\\\\\\q\n)p\n";
     for text in [text, canonical] {
-        let Ok(doc) = read_pyx(alloc, &name(alloc)?, text) else {
-            return Err(AllocError.into());
-        };
-        let Ok(written) = write_pyx(alloc, &doc) else {
-            return Err(AllocError.into());
-        };
-        assert_eq!(rt; written.as_slice(), canonical);
+        let doc = document(alloc, text)?;
+        let written = write_pyx(alloc, &doc).map_err(|_| AllocError)?;
+        assert!(rt; written.as_slice() == canonical.as_bytes());
     }
     Ok(())
 }
@@ -120,10 +120,9 @@ fn a_text_of_many_forms_has_one_canonical_text(rt: HostRuntime) -> Result<(), Fa
 fn a_body_keeps_its_bytes_and_its_fault(rt: HostRuntime) -> Result<(), Fail> {
     let alloc = rt.alloc();
     let text = b"(p\n)q\n".as_slice();
-    let Ok(body) = read_body(alloc, &name(alloc)?, List::from_slice(alloc, text)?) else {
-        return Err(AllocError.into());
-    };
-    assert_eq!(rt; body.bytes.as_slice(), text);
+    let bytes = List::from_slice(alloc, text)?;
+    let body = read_body(alloc, &name(alloc)?, bytes).map_err(|_| AllocError)?;
+    assert!(rt; body.bytes.as_slice() == text);
     assert_eq!(rt; body.read.err(), at(PyxCode::CloseMismatch, 2));
     Ok(())
 }

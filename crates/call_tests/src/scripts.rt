@@ -1,20 +1,13 @@
 //! Scripts with their faults and their requests, derived by hand from the rules of scripts.
 
-use crate::reader::read_lines;
-use crate::{ScriptCode, ScriptFault, read_script};
 use dita_doc::{Body, List, Name, Request, Stop};
+use script_text::{ScriptCode, ScriptFault, read_script};
 use std::alloc::{AllocError, Global};
 use std::test::Fail;
 
 // The fault of a script, if it has one.
 fn fault(alloc: Global, bytes: &[u8]) -> Result<Option<ScriptFault>, AllocError> {
-    fault_of(read_script(alloc, bytes))
-}
-
-fn fault_of<T: Drop>(
-    read: Result<T, Stop<ScriptFault>>,
-) -> Result<Option<ScriptFault>, AllocError> {
-    match read {
+    match read_script(alloc, bytes) {
         Ok(_) => Ok(None),
         Err(Stop::Fault(fault)) => Ok(Some(fault)),
         Err(Stop::NoMemory) => Err(AllocError),
@@ -130,7 +123,7 @@ fn a_fault_is_told_with_its_line(rt: HostRuntime) -> Result<(), Fail> {
         (b"1 put a\n-\xc3\n.\n".as_slice(), ScriptCode::NotUtf8, 2),
     ];
     for (text, code, line) in rows {
-        assert_eq!(rt; (text, fault(alloc, text)?), (text, at(code, line)));
+        assert_eq!(rt; fault(alloc, text)?, at(code, line), "{text:?}");
     }
     Ok(())
 }
@@ -153,7 +146,7 @@ fn a_line_has_its_first_fault(rt: HostRuntime) -> Result<(), Fail> {
         ),
     ];
     for (text, code, line) in rows {
-        assert_eq!(rt; (text, fault(alloc, text)?), (text, at(code, line)));
+        assert_eq!(rt; fault(alloc, text)?, at(code, line), "{text:?}");
     }
     Ok(())
 }
@@ -175,24 +168,7 @@ fn requests_are_at_most_65536(rt: HostRuntime) -> Result<(), Fail> {
         let mut longer = text.clone()?;
         longer.append(last)?;
         let found = fault(alloc, longer.as_slice())?;
-        assert_eq!(rt; (last, found), (last, at(code, 65_539)));
-    }
-    Ok(())
-}
-
-#[test]
-fn the_last_line_of_a_text_that_is_cut_is_too_long(rt: HostRuntime) -> Result<(), Fail> {
-    let alloc = rt.alloc();
-    let rows = [
-        // Of that line nothing is read, not even that it is no UTF-8.
-        (b"# x\n1 names\n\xff".as_slice(), ScriptCode::TooLong, 3),
-        // Its LF may be the first byte beyond the limit.
-        (b"# x\n1 names\n".as_slice(), ScriptCode::TooLong, 2),
-        (b"0 names\n1 names\n".as_slice(), ScriptCode::BadNumber, 1),
-    ];
-    for (text, code, line) in rows {
-        let read = read_lines(alloc, text, true);
-        assert_eq!(rt; (text, fault_of(read)?), (text, at(code, line)));
+        assert_eq!(rt; found, at(code, 65_539));
     }
     Ok(())
 }
@@ -237,7 +213,7 @@ fn forms_of_lines(rt: HostRuntime) -> Result<(), Fail> {
         ),
     ];
     for (text, read) in rows {
-        assert_eq!(rt; (text, shown(alloc, text)?), (text, same(alloc, read)?));
+        assert!(rt; shown(alloc, text)? == same(alloc, read)?, "{text:?}");
     }
     Ok(())
 }

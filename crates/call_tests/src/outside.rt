@@ -1,21 +1,15 @@
 //! One test for each adapter of the system, and the forms in memory at a failing call.
 
-use crate::{
+use crate::given::name;
+use dita_doc::{List, Stop, Text};
+use dita_outside::{
     Failed, FolderOutlet, MemOutlet, MemSink, MemSource, Outlet, Sink, Source, StdSink, StdSource,
 };
-use dita_doc::{List, Name, Stop, Text};
 use std::alloc::{AllocError, Global};
 use std::io::ErrorKind;
 use std::os::unix::fs::MetadataExt;
 use std::test::Fail;
 use std::{env, fs};
-
-fn name(alloc: Global, text: &str) -> Result<Name, AllocError> {
-    match Name::parse(alloc, text) {
-        Ok(name) => Ok(name),
-        Err(_) => Err(AllocError),
-    }
-}
 
 fn calls(alloc: Global, numbers: &[u32]) -> Result<List<u32>, AllocError> {
     Ok(List::from_vec(Vec::from_slice(alloc, numbers)?))
@@ -39,7 +33,7 @@ fn a_sink_takes_what_it_has_room_for(rt: HostRuntime) -> Result<(), Fail> {
     let mut sink = MemSink::with_room(alloc, 3);
     assert_eq!(rt; sink.write(b"abcd"), Ok(3));
     assert_eq!(rt; sink.write(b"d"), Err(Stop::Fault(Failed)));
-    assert_eq!(rt; sink.bytes().as_slice(), b"abc".as_slice());
+    assert!(rt; sink.bytes().as_slice() == b"abc".as_slice());
     Ok(())
 }
 
@@ -55,7 +49,7 @@ fn an_outlet_does_not_take_the_page_that_failed(rt: HostRuntime) -> Result<(), F
     assert_eq!(rt; outlet.put_page(alloc, &page, b"y"), Ok(()));
     let pages = outlet.pages().as_slice();
     assert_eq!(rt; pages.len(), 1);
-    assert_eq!(rt; pages[0].1.as_slice(), b"y".as_slice());
+    assert!(rt; pages[0].1.as_slice() == b"y".as_slice());
     Ok(())
 }
 
@@ -92,7 +86,7 @@ fn a_folder_keeps_the_file_of_an_unchanged_page(rt: HostRuntime) -> Result<(), F
     assert_eq!(rt; fs::metadata(&rt, file.as_str())?.ino(), first);
     assert_eq!(rt; outlet.put_page(alloc, &page, b"two"), Ok(()));
     assert_ne!(rt; fs::metadata(&rt, file.as_str())?.ino(), first);
-    assert_eq!(rt; fs::read(&rt, file.as_str())?.as_slice(), b"two".as_slice());
+    assert!(rt; fs::read(&rt, file.as_str())?.as_slice() == b"two".as_slice());
     // A page where a folder stands is not put, and leaves nothing beside it.
     let taken = name(alloc, "b1/a")?;
     let beside = format!(in alloc; "{folder}/b1/a new")?;
@@ -103,7 +97,7 @@ fn a_folder_keeps_the_file_of_an_unchanged_page(rt: HostRuntime) -> Result<(), F
     assert!(rt; fs::metadata(&rt, beside.as_str()).is_err());
     let told = outlet.last_error().ok_or("no error")?;
     let path = format!(in alloc; "{folder}/b1/a")?;
-    assert_eq!(rt; told.path.as_str(), path.as_str());
+    assert!(rt; told.path.as_str() == path.as_str());
     assert_eq!(rt; told.error.kind(), ErrorKind::IsADirectory);
     fs::remove_dir_all(&rt, folder.as_str())?;
     Ok(())

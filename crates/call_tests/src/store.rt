@@ -3,13 +3,13 @@
 ghost use Rattle.std.specs.Prelude.{IfOk};
 ghost use Rattle.dita_doc.specs.Seen as seen_spec;
 
-use crate::{Full, Store};
-use dita_doc::{
-    Body, Doc, List, Name, Node, NodeKind, PyxCode, PyxFault, Reply, Request, Stop, Text,
-};
+use crate::given::name;
+use dita_doc::{Body, List, Name, PyxCode, PyxFault, Reply, Request, Stop};
+use pyx_text::read_body;
 use std::alloc::{AllocError, Global};
 use std::sync::Arc;
 use std::test::Fail;
+use version_store::{Full, Store};
 
 const TEXT: &[u8] = b"(p\n)p\n";
 
@@ -18,46 +18,31 @@ const NO_ROOT: PyxFault = PyxFault {
     line: 0,
 };
 
-fn name(alloc: Global, text: &str) -> Result<Name, AllocError> {
-    Name::parse(alloc, text).map_err(|_| AllocError)
-}
-
 // The text of one element, to be stored under a name.
 fn element(alloc: Global, name: &Name) -> Result<Body, AllocError>
     ensures { IfOk result (λ body. seen_spec.HasOrigin name.now body) }
 {
-    let mut nodes = List::new(alloc);
-    nodes.push(Node {
-        kind: NodeKind::Element,
-        text: Text::from_str(alloc, "p")?,
-        attributes: List::new(alloc),
-        origin: 0,
-        line: 1,
-        end: 1,
-    })?;
-    let mut origins = List::new(alloc);
-    origins.push(name.clone()?)?;
-    Ok(Body {
-        bytes: Arc::new(alloc, List::from_slice(alloc, TEXT)?)?,
-        read: Ok(Arc::new(alloc, Doc { origins, nodes })?),
-    })
+    read_body(alloc, name, List::from_slice(alloc, TEXT)?).map_err(|_| AllocError)
 }
 
 // The empty text, which is no document.
-#[tactic(auto, unfolding(dita_doc::specs::Pyx::document_of))]
 fn nothing(alloc: Global, name: &Name) -> Result<Body, AllocError>
     ensures { IfOk result (λ body. seen_spec.HasOrigin name.now body) }
 {
-    Ok(Body {
-        bytes: Arc::new(alloc, List::new(alloc))?,
-        read: Err(NO_ROOT),
-    })
+    read_body(alloc, name, List::new(alloc)).map_err(|_| AllocError)
 }
 
 fn put(alloc: Global, name: &Name) -> Result<Request, AllocError>
     ensures { IfOk result (λ request. seen_spec.HasOwnOrigin request) }
 {
     Ok(Request::Put(name.clone()?, element(alloc, name)?))
+}
+
+fn put_if(alloc: Global, version: u64, name: &Name) -> Result<Request, AllocError>
+    ensures { IfOk result (λ request. seen_spec.HasOwnOrigin request) }
+{
+    let body = element(alloc, name)?;
+    Ok(Request::PutIf(version, name.clone()?, body))
 }
 
 fn ask(store: &mut Store, alloc: Global, request: Request) -> Result<Reply, AllocError>
@@ -69,34 +54,55 @@ fn ask(store: &mut Store, alloc: Global, request: Request) -> Result<Reply, Allo
     }
 }
 
+// A store of one document, in version 1.
+fn stored(alloc: Global, name: &Name) -> Result<Store, AllocError> {
+    let mut store = Store::new(alloc).map_err(|_| AllocError)?;
+    match ask(&mut store, alloc, put(alloc, name)?)? {
+        Reply::Stored(1) => Ok(store),
+        _ => Err(AllocError),
+    }
+}
+
 #[test]
-fn each_request_has_its_reply(rt: HostRuntime) -> Result<(), Fail> {
+fn a_put_under_a_version_is_judged(rt: HostRuntime) -> Result<(), Fail> {
     let alloc = rt.alloc();
     let a = name(alloc, "a")?;
-    let mut store = Store::new(alloc).map_err(|_| AllocError)?;
-    let reply = ask(&mut store, alloc, put(alloc, &a)?)?;
-    assert!(rt; matches!(reply, Reply::Stored(1)));
+    let mut store = stored(alloc, &a)?;
+    // A text that is no document is refused before its version is looked at.
     let request = Request::PutIf(9, a.clone()?, nothing(alloc, &a)?);
-    let reply = ask(&mut store, alloc, request)?;
-    assert!(rt; matches!(reply, Reply::Refused(NO_ROOT)));
-    let request = Request::PutIf(9, a.clone()?, element(alloc, &a)?);
-    let reply = ask(&mut store, alloc, request)?;
-    assert!(rt; matches!(reply, Reply::Conflict(1)));
-    let request = Request::PutIf(1, a.clone()?, element(alloc, &a)?);
-    let reply = ask(&mut store, alloc, request)?;
-    assert!(rt; matches!(reply, Reply::Stored(4)));
+    assert!(rt; matches!(ask(&mut store, alloc, request)?, Reply::Refused(NO_ROOT)));
+    let request = put_if(alloc, 9, &a)?;
+    assert!(rt; matches!(ask(&mut store, alloc, request)?, Reply::Conflict(1)));
+    let request = put_if(alloc, 1, &a)?;
+    assert!(rt; matches!(ask(&mut store, alloc, request)?, Reply::Stored(4)));
+    assert_eq!(rt; store.entries(), 4);
+    assert!(rt; matches!(store.entry(2).reply, Reply::Conflict(1)));
+    Ok(())
+}
+
+#[test]
+fn what_is_stored_is_given(rt: HostRuntime) -> Result<(), Fail> {
+    let alloc = rt.alloc();
+    let a = name(alloc, "a")?;
+    let mut store = stored(alloc, &a)?;
     let reply = ask(&mut store, alloc, Request::Get(a.clone()?))?;
     assert!(rt; matches!(&reply, Reply::Bytes(bytes) if bytes.as_slice() == TEXT));
     let reply = ask(&mut store, alloc, Request::Names)?;
     assert!(rt; matches!(&reply, Reply::NameList(names) if names.len() == 1));
-    let reply = ask(&mut store, alloc, Request::Build(a.clone()?, None))?;
+    let reply = ask(&mut store, alloc, Request::Build(a, None))?;
     assert!(rt; matches!(reply, Reply::Begun));
+    Ok(())
+}
+
+#[test]
+fn what_is_removed_is_gone(rt: HostRuntime) -> Result<(), Fail> {
+    let alloc = rt.alloc();
+    let a = name(alloc, "a")?;
+    let mut store = stored(alloc, &a)?;
     let reply = ask(&mut store, alloc, Request::Remove(a.clone()?))?;
-    assert!(rt; matches!(reply, Reply::Removed(4)));
+    assert!(rt; matches!(reply, Reply::Removed(1)));
     let reply = ask(&mut store, alloc, Request::Get(a))?;
     assert!(rt; matches!(reply, Reply::Absent));
-    assert_eq!(rt; store.entries(), 9);
-    assert!(rt; matches!(store.entry(2).reply, Reply::Conflict(1)));
     Ok(())
 }
 
@@ -129,8 +135,7 @@ fn a_snapshot_stays_what_it_is(rt: HostRuntime) -> Result<(), Fail> {
     let alloc = rt.alloc();
     let a = name(alloc, "a")?;
     let b = name(alloc, "b")?;
-    let mut store = Store::new(alloc).map_err(|_| AllocError)?;
-    ask(&mut store, alloc, put(alloc, &b)?)?;
+    let mut store = stored(alloc, &b)?;
     let before = Arc::try_clone(store.sources())?;
     ask(&mut store, alloc, put(alloc, &a)?)?;
     ask(&mut store, alloc, Request::Remove(b.clone()?))?;

@@ -1,21 +1,20 @@
 //! A small page, byte for byte.
 
-use crate::page_html;
-use dita_doc::{Html, LinkKind, List, Name, NotName, PageLink, Stop, Text};
+use crate::given::{name, text};
+use dita_doc::{Html, LinkKind, List, NoMemory, PageLink};
+use html_page::page_html;
 use std::alloc::{AllocError, Global};
 use std::test::Fail;
 
 fn link(alloc: Global, kind: LinkKind, href: &str, label: &str) -> Result<PageLink, AllocError> {
     Ok(PageLink {
         kind,
-        href: Text::from_str(alloc, href)?,
-        label: Text::from_str(alloc, label)?,
+        href: text(alloc, href)?,
+        label: text(alloc, label)?,
     })
 }
 
-fn page(alloc: Global) -> Result<Html, Stop<NotName>> {
-    let name = Name::parse(alloc, "a/t.dita")?;
-    let title = Text::from_str(alloc, "Salt & \"sugar\"")?;
+fn page(alloc: Global) -> Result<Html, NoMemory> {
     let body = Html {
         bytes: List::from_slice(alloc, b"<p>\xFF</p>")?,
         faults: List::new(alloc),
@@ -23,7 +22,8 @@ fn page(alloc: Global) -> Result<Html, Stop<NotName>> {
     let mut links = List::new(alloc);
     links.push(link(alloc, LinkKind::Previous, "b&\".html", "B < \"C\"")?)?;
     links.push(link(alloc, LinkKind::Related, "../d.html", "D")?)?;
-    Ok(page_html(alloc, &name, 1, &title, &body, &links)?)
+    let title = text(alloc, "Salt & \"sugar\"")?;
+    page_html(alloc, &name(alloc, "a/t.dita")?, 1, &title, &body, &links)
 }
 
 #[test]

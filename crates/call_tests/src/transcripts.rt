@@ -4,24 +4,18 @@ ghost use Rattle.std.specs.Prelude.{◌≡◌, true, is_some};
 ghost use Rattle.dita_doc.specs.Seen as seen_spec;
 ghost use Rattle.transcript_text.specs.Written as written_spec;
 
-use crate::{
-    BadTranscript, BuiltText, PageMark, Transcript, read_transcript, write_end, write_entry,
-    write_head,
-};
+use crate::given::{name, text};
 use dita_doc::{
-    Entry, Fault, FaultCode, List, Name, Part, PlanStop, PyxCode, PyxFault, Read, Reply, Request,
-    Stop, Text, is_utf8,
+    Entry, Fault, FaultCode, List, Part, PlanStop, PyxCode, PyxFault, Read, Reply, Request, Stop,
+    is_utf8,
 };
 use std::alloc::{AllocError, Global};
 use std::sync::Arc;
 use std::test::Fail;
-
-fn name(alloc: Global, text: &str) -> Result<Name, AllocError> {
-    match Name::parse(alloc, text) {
-        Ok(name) => Ok(name),
-        Err(_) => Err(AllocError),
-    }
-}
+use transcript_text::{
+    BadTranscript, BuiltText, PageMark, Transcript, read_transcript, write_end, write_entry,
+    write_head,
+};
 
 fn is_text(reply: &Reply) -> bool
     ensures { result ≡ true → written_spec.IsText (seen_spec.reply_seen reply.now) }
@@ -42,6 +36,18 @@ fn is_given(reply: &Reply, built: Option<&BuiltText>) -> bool
     }
 }
 
+// What is written of an entry at the eighth place.
+fn written(
+    alloc: Global,
+    entry: &Entry,
+    built: Option<&BuiltText>,
+) -> Result<List<u8>, AllocError> {
+    if !is_text(&entry.reply) || !is_given(&entry.reply, built) {
+        return Err(AllocError);
+    }
+    write_entry(alloc, 7, entry, built).map_err(|_| AllocError)
+}
+
 // Whether the entry at the eighth place, whose request is the third one of its session, has this
 // text behind its numbers.
 fn writes(
@@ -56,15 +62,8 @@ fn writes(
         request: Request::Names,
         reply,
     };
-    if !is_text(&entry.reply) || !is_given(&entry.reply, built) {
-        return Err(AllocError);
-    }
-    let mut text = List::from_slice(alloc, b"entry 7 2 3 ")?;
-    text.append(expected.as_bytes())?;
-    match write_entry(alloc, 7, &entry, built) {
-        Ok(written) => Ok(written.as_slice() == text.as_slice()),
-        Err(_) => Err(AllocError),
-    }
+    let text = format!(in alloc; "entry 7 2 3 {expected}")?;
+    Ok(written(alloc, &entry, built)?.as_slice() == text.as_bytes())
 }
 
 #[test]
@@ -74,26 +73,23 @@ fn replies_are_written(rt: HostRuntime) -> Result<(), Fail> {
         code: PyxCode::TextOutside,
         line: 12,
     };
+    let rows = [
+        (Reply::Stored(8), "stored 8\n"),
+        (Reply::Absent, "absent\n"),
+        (Reply::TooManyNames(10000), "toomanynames 10000\n"),
+        (Reply::Refused(fault), "refused TextOutside 12\n"),
+    ];
+    for (reply, expected) in rows {
+        assert!(rt; writes(alloc, reply, None, expected)?);
+    }
+    Ok(())
+}
+
+#[test]
+fn bytes_are_written_as_text(rt: HostRuntime) -> Result<(), Fail> {
+    let alloc = rt.alloc();
     let text = List::from_slice(alloc, b"(p\n\n)p\r\n-\xc3\xa9")?;
     let bytes = Reply::Bytes(Arc::new(alloc, text)?);
-    assert!(rt; writes(alloc, Reply::Stored(8), None, "stored 8\n")?);
-    assert!(rt; writes(alloc, Reply::Absent, None, "absent\n")?);
-    assert!(rt;
-        writes(
-            alloc,
-            Reply::TooManyNames(10000),
-            None,
-            "toomanynames 10000\n"
-        )?
-    );
-    assert!(rt;
-        writes(
-            alloc,
-            Reply::Refused(fault),
-            None,
-            "refused TextOutside 12\n"
-        )?
-    );
     assert!(rt; writes(alloc, bytes, None, "text 4\n|(p\n|\n|)p\r\n|-é\n")?);
     Ok(())
 }
@@ -118,12 +114,16 @@ fn fault_of(alloc: Global, line: u32, code: FaultCode, detail: &str) -> Result<F
         name: name(alloc, "t.dita")?,
         line,
         code,
-        detail: Text::from_str(alloc, detail)?,
+        detail: text(alloc, detail)?,
     })
 }
 
+fn writes_build(alloc: Global, built: BuiltText, expected: &str) -> Result<bool, AllocError> {
+    writes(alloc, Reply::Begun, Some(&built), expected)
+}
+
 #[test]
-fn builds_are_written(rt: HostRuntime) -> Result<(), Fail> {
+fn pages_and_faults_are_written(rt: HostRuntime) -> Result<(), Fail> {
     let alloc = rt.alloc();
     let mut pages = List::new(alloc);
     pages.push((name(alloc, "t.html")?, PageMark::Bytes(181)))?;
@@ -131,19 +131,19 @@ fn builds_are_written(rt: HostRuntime) -> Result<(), Fail> {
     let mut faults = List::new(alloc);
     faults.push(fault_of(alloc, 4, FaultCode::KeyUndefined, "a\tb\\c d\n")?)?;
     faults.push(fault_of(alloc, 9, FaultCode::NoClass, "")?)?;
-    let rows = [
-        (
-            BuiltText::Pages(pages, faults),
-            "built 2 2\n|page t.html bytes 181\n|page index.html row 3\n\
-             |t.dita:4 KeyUndefined a\\tb\\\\c d\\n\n|t.dita:9 NoClass\n",
-        ),
-        (BuiltText::Stopped(PlanStop::NoDitaval), "noditaval\n"),
-        (BuiltText::TooLarge(70_000_000), "toolarge 70000000\n"),
-    ];
-    for (built, expected) in &rows {
-        let is_written = writes(alloc, Reply::Begun, Some(built), expected)?;
-        assert_eq!(rt; (*expected, is_written), (*expected, true));
-    }
+    let expected = "built 2 2\n|page t.html bytes 181\n|page index.html row 3\n\
+        |t.dita:4 KeyUndefined a\\tb\\\\c d\\n\n|t.dita:9 NoClass\n";
+    assert!(rt; writes_build(alloc, BuiltText::Pages(pages, faults), expected)?);
+    Ok(())
+}
+
+#[test]
+fn builds_without_pages_are_written(rt: HostRuntime) -> Result<(), Fail> {
+    let alloc = rt.alloc();
+    let stopped = BuiltText::Stopped(PlanStop::NoDitaval);
+    assert!(rt; writes_build(alloc, stopped, "noditaval\n")?);
+    let large = BuiltText::TooLarge(70_000_000);
+    assert!(rt; writes_build(alloc, large, "toolarge 70000000\n")?);
     Ok(())
 }
 
@@ -153,8 +153,8 @@ fn the_ends_are_written(rt: HostRuntime) -> Result<(), Fail> {
     let (Ok(head), Ok(end)) = (write_head(alloc), write_end(alloc, 3, 20, 100)) else {
         return Err(AllocError.into());
     };
-    assert_eq!(rt; head.as_slice(), b"dita transcript 1\n".as_slice());
-    assert_eq!(rt; end.as_slice(), b"end 3 20 100\n".as_slice());
+    assert!(rt; head.as_slice() == b"dita transcript 1\n".as_slice());
+    assert!(rt; end.as_slice() == b"end 3 20 100\n".as_slice());
     Ok(())
 }
 
@@ -167,44 +167,55 @@ fn read(alloc: Global, text: &str) -> Result<Transcript, AllocError> {
 
 #[test]
 fn entries_tell_their_parts(rt: HostRuntime) -> Result<(), Fail> {
-    let alloc = rt.alloc();
     let text = "dita transcript 1\n\
         entry 6 4294967295 0 built 1 1\n|page p.html row 2\n|a:b:1 CopyTo x y\n\
         entry 18446744073709551615 0 7 absent\nend 0 9 18446744073709551615\n";
-    let transcript = read(alloc, text)?;
+    let transcript = read(rt.alloc(), text)?;
     assert_eq!(rt; transcript.total, (0, 9, 18_446_744_073_709_551_615));
-    let entries = transcript.entries.as_slice();
-    assert_eq!(rt; entries.len(), 2);
-    assert_eq!(rt;
-        (entries[0].place, entries[0].session, entries[0].number),
-        (6, 4_294_967_295, 0)
-    );
-    assert_eq!(rt; entries[0].reply.as_str(), "built 1 1");
-    let lines = entries[0].lines.as_slice();
-    assert_eq!(rt; lines.len(), 2);
-    assert_eq!(rt; lines[0].as_str(), "page p.html row 2");
-    assert_eq!(rt; lines[1].as_str(), "a:b:1 CopyTo x y");
-    assert_eq!(rt; entries[1].reply.as_str(), "absent");
-    assert!(rt; entries[1].lines.is_empty());
+    let rows = [
+        ((6, 4_294_967_295, 0), "built 1 1", 2),
+        ((18_446_744_073_709_551_615, 0, 7), "absent", 0),
+    ];
+    assert_eq!(rt; transcript.entries.len(), rows.len());
+    for (entry, (numbers, reply, lines)) in transcript.entries.as_slice().iter().zip(rows) {
+        assert_eq!(rt; (entry.place, entry.session, entry.number), numbers);
+        assert!(rt; entry.reply.as_str() == reply);
+        assert_eq!(rt; entry.lines.len(), lines);
+    }
+    Ok(())
+}
+
+#[test]
+fn the_lines_of_an_entry_are_told(rt: HostRuntime) -> Result<(), Fail> {
+    let text = "dita transcript 1\n\
+        entry 6 1 0 built 1 1\n|page p.html row 2\n|a:b:1 CopyTo x y\nend 0 9 0\n";
+    let transcript = read(rt.alloc(), text)?;
+    let entry = transcript.entries.as_slice().first().ok_or("no entry")?;
+    let rows = ["page p.html row 2", "a:b:1 CopyTo x y"];
+    assert_eq!(rt; entry.lines.len(), rows.len());
+    for (line, expected) in entry.lines.as_slice().iter().zip(rows) {
+        assert!(rt; line.as_str() == expected);
+    }
     Ok(())
 }
 
 #[test]
 fn rows_tell_their_keys(rt: HostRuntime) -> Result<(), Fail> {
-    let alloc = rt.alloc();
     let text = "dita transcript 1\nrow 2 page m.ditamap - 4 2\n|<p>\n||\n\
         row 2 contents m.ditamap d.ditaval 0 0\nend 0 2 0\n";
-    let transcript = read(alloc, text)?;
+    let transcript = read(rt.alloc(), text)?;
     assert!(rt; transcript.entries.is_empty());
-    let rows = transcript.rows.as_slice();
-    assert_eq!(rt; rows.len(), 2);
-    assert_eq!(rt; (rows[0].serial, rows[1].serial), (2, 2));
-    assert_eq!(rt; rows[0].key.map.as_str(), "m.ditamap");
-    assert!(rt; rows[0].key.val.is_none());
-    assert_eq!(rt; rows[0].key.part, Part::Page(4));
-    assert_eq!(rt; rows[0].bytes.as_slice(), b"<p>\n|\n".as_slice());
-    assert!(rt; rows[1].key.val.is_some());
-    assert_eq!(rt; rows[1].key.part, Part::Contents);
+    let rows = [
+        (false, Part::Page(4), b"<p>\n|\n".as_slice()),
+        (true, Part::Contents, b"".as_slice()),
+    ];
+    assert_eq!(rt; transcript.rows.len(), rows.len());
+    for (row, (has_val, part, bytes)) in transcript.rows.as_slice().iter().zip(rows) {
+        assert_eq!(rt; row.serial, 2);
+        assert!(rt; row.key.map.as_str() == "m.ditamap");
+        assert_eq!(rt; (row.key.val.is_some(), row.key.part), (has_val, part));
+        assert!(rt; row.bytes.as_slice() == bytes);
+    }
     Ok(())
 }
 
@@ -231,7 +242,7 @@ fn the_frame_of_a_transcript_is_whole(rt: HostRuntime) -> Result<(), Fail> {
     ];
     for (text, line) in rows {
         let found = fault(alloc, text.as_bytes())?;
-        assert_eq!(rt; (text, found), (text, Some(BadTranscript { line })));
+        assert_eq!(rt; found, Some(BadTranscript { line }), "{text:?}");
     }
     Ok(())
 }
@@ -267,7 +278,7 @@ fn a_fault_has_its_line(rt: HostRuntime) -> Result<(), Fail> {
         let mut text = List::from_slice(alloc, b"dita transcript 1\n")?;
         text.append(rest)?;
         let found = fault(alloc, text.as_slice())?;
-        assert_eq!(rt; (rest, found), (rest, Some(BadTranscript { line })));
+        assert_eq!(rt; found, Some(BadTranscript { line }), "{rest:?}");
     }
     Ok(())
 }

@@ -1,0 +1,125 @@
+//! Rules of a DITAVAL, and what they exclude.
+
+use crate::given::{document, name};
+use dita_doc::{Action, FaultCode, List, Rule, Stop};
+use ditaval_rules::{NotDitaval, RuleTable, RulesRead, read_rules, verdict};
+use std::alloc::{AllocError, Global};
+use std::test::Fail;
+
+fn read(alloc: Global, lines: &str) -> Result<RulesRead, Stop<NotDitaval>> {
+    read_rules(alloc, &name(alloc, "a.ditaval")?, &document(alloc, lines)?)
+}
+
+// The rules of a DITAVAL that can be read.
+fn rules(alloc: Global, lines: &str) -> Result<List<Rule>, AllocError> {
+    match read(alloc, lines) {
+        Ok(read) => Ok(read.rules),
+        Err(_) => Err(AllocError),
+    }
+}
+
+// Whether an element with these lines of attributes goes, by the rules and by their table.
+fn goes(alloc: Global, rules: &List<Rule>, lines: &str) -> Result<(bool, bool), AllocError> {
+    let lines = format!(in alloc; "(p\n{lines}\n)p\n")?;
+    let doc = document(alloc, lines.as_str())?;
+    let table = RuleTable::new(alloc, rules).map_err(|_| AllocError)?;
+    let nodes = doc.nodes.as_slice();
+    Ok((
+        nodes.iter().any(|node| verdict(rules, &node.attributes)),
+        nodes.iter().any(|node| table.verdict(&node.attributes)),
+    ))
+}
+
+#[test]
+fn an_element_goes_if_each_token_of_an_attribute_is_excluded(rt: HostRuntime) -> Result<(), Fail> {
+    let alloc = rt.alloc();
+    let rules = rules(
+        alloc,
+        "(val\n(prop\nAatt audience\nAval x\nAaction exclude\n)prop\n)val\n",
+    )?;
+    let rows = [
+        ("Aaudience x y", false),
+        ("Aplatform linux\nAaudience  x ", true),
+        ("Aaudience x(x)\nAid x\nAprops ", false),
+    ];
+    for (lines, excluded) in rows {
+        let found = goes(alloc, &rules, lines)?;
+        assert_eq!(rt; found, (excluded, excluded), "{lines}");
+    }
+    Ok(())
+}
+
+#[test]
+fn a_tokens_rule_wins_and_then_an_attributes(rt: HostRuntime) -> Result<(), Fail> {
+    let alloc = rt.alloc();
+    let rules = rules(
+        alloc,
+        "(val\n(prop\nAaction exclude\n)prop\n\
+         (prop\nAatt platform\nAaction passthrough\n)prop\n\
+         (prop\nAatt platform\nAval x\nAaction exclude\n)prop\n)val\n",
+    )?;
+    let rows = [
+        ("Aprops a", true),
+        ("Aplatform a", false),
+        ("Aplatform x", true),
+    ];
+    for (lines, excluded) in rows {
+        let found = goes(alloc, &rules, lines)?;
+        assert_eq!(rt; found, (excluded, excluded), "{lines}");
+    }
+    Ok(())
+}
+
+// Six `prop`s, of which two are rules.
+const FAULTY: &str = "(val\n\
+    (prop\nAatt audience\nAval x\nAaction exclude\n)prop\n\
+    (prop\nAatt audience\nAval y\nAaction hide\n)prop\n\
+    (prop\nAatt audience\nAval x\nAaction include\n)prop\n\
+    (prop\nAval x\nAaction flag\n)prop\n\
+    (prop\nAval y\nAaction passthrough\n)prop\n\
+    (prop\nAatt platform\nAval x\n)prop\n\
+    )val\n";
+
+fn faulty(alloc: Global) -> Result<RulesRead, AllocError> {
+    read(alloc, FAULTY).map_err(|_| AllocError)
+}
+
+#[test]
+fn the_first_of_two_rules_counts(rt: HostRuntime) -> Result<(), Fail> {
+    let read = faulty(rt.alloc())?;
+    let rows = [
+        (Some("audience"), Some("x"), Action::Exclude),
+        (None, None, Action::Flag),
+    ];
+    assert_eq!(rt; read.rules.len(), rows.len());
+    for (rule, (att, val, action)) in read.rules.as_slice().iter().zip(rows) {
+        assert!(rt; rule.att.as_ref().map(|att| att.as_str()) == att);
+        assert!(rt; rule.val.as_ref().map(|val| val.as_str()) == val);
+        assert_eq!(rt; rule.action, action);
+    }
+    Ok(())
+}
+
+#[test]
+fn a_ditaval_is_read_with_its_faults(rt: HostRuntime) -> Result<(), Fail> {
+    let read = faulty(rt.alloc())?;
+    let rows = [
+        (7, FaultCode::BadAction, "hide"),
+        (12, FaultCode::DitavalTwice, "audience"),
+        (21, FaultCode::DitavalTwice, ""),
+        (25, FaultCode::BadAction, ""),
+    ];
+    assert_eq!(rt; read.faults.len(), rows.len());
+    for (fault, (line, code, detail)) in read.faults.as_slice().iter().zip(rows) {
+        assert_eq!(rt; (fault.line, fault.code), (line, code));
+        assert!(rt; fault.detail.as_str() == detail);
+    }
+    Ok(())
+}
+
+#[test]
+fn another_root_is_no_ditaval(rt: HostRuntime) -> Result<(), Fail> {
+    let read = read(rt.alloc(), "(vals\n)vals\n");
+    assert!(rt; matches!(read, Err(Stop::Fault(NotDitaval))));
+    Ok(())
+}
