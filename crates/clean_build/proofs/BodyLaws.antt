@@ -76,10 +76,10 @@ module _ (here : Here) (made : Made) (resolved : Resolved) (added : AnchorsMade)
   pub body_links : added.links ≡ element_links here made.nodes
   body_links = links.links ∙ ap (element_links here) nodes_are
 
-  pub body_is : (html body : Html) (behind : List Fault) → html ≡ body_html added.anchors (written_of resolved)
-      → body ≡ with_faults html resolved.faults added.faults behind → body ≡ body_of here behind made
-  body_is html body behind shown with_all = with_all
-      ∙ ap (λ (h : Html). with_faults h resolved.faults added.faults behind) shown
+  pub body_is : (body : Html) (behind : List Fault)
+      → body ≡ with_faults (body_html added.anchors (written_of resolved)) resolved.faults added.faults behind
+      → body ≡ body_of here behind made
+  body_is body behind with_all = with_all
       ∙ ap (λ a. with_faults (body_html a (written_of resolved)) resolved.faults added.faults behind) links.anchors
       ∙ ap (λ f. with_faults (body_html (anchors here (written_of resolved)) (written_of resolved)) resolved.faults f behind)
       links.faults

@@ -6,7 +6,6 @@ use Rattle.std.proofs.Common.{subst, sym}
 use Rattle.std.proofs.Math.Logic.{⊎_elim}
 use Rattle.std.proofs.lemmas.Bool.{or_cases, or_left, or_right}
 use Rattle.conref_pull.specs.Rules.{ditavals}
-use Rattle.dita_doc.specs.declared.plan.Context.{Context}
 use Rattle.dita_doc.specs.declared.plan.PagePlan.{PagePlan}
 use Rattle.dita_doc.specs.declared.plan.Plan.{Plan}
 use Rattle.map_spec.specs.Pages.{local_name}
@@ -17,7 +16,6 @@ use Rattle.readers.proofs.AmongLaws.{among_back, among_either, among_front}
 use Rattle.readers.proofs.FoundedLaws.{among_first, stays_after, stays_among, stays_one}
 use Rattle.readers.proofs.GrowthLaws.{grows_trans}
 use Rattle.toc_page.specs.Made.{contents_names}
-use Rattle.clean_build.specs.Ground.{context_for}
 use Rattle.clean_build.specs.Names.{about_page, names_of, names_of_page, names_of_plan}
 use Rattle.clean_build.specs.declared.ground.Ground.{Ground}
 use Rattle.clean_build.specs.declared.works.PageWork.{PageWork}
@@ -152,23 +150,22 @@ module _ (front : List (List ℕ)) (old new : List Told) where
         (among_front work.page.now.id.filters (names_of work.ground) m filters)) behind)
         (or_cases (bytes_eq work.page.now.id.doc m) _ among)
 
-    pub stays_content : (context : Context) → context ≡ context_for work.ground work.page.now
-        → StaysFounded (front ++ context.page.doc ∷ ditavals context.val context.page.filters) old new
+    pub stays_content : StaysFounded
+        (front ++ work.page.now.id.doc ∷ ditavals (option_copied work.ground.val) work.page.now.id.filters) old new
         → StaysFounded all old new
-    stays_content context is stays = stays_among
+    stays_content = stays_among
         (front ++ work.page.now.id.doc ∷ ditavals (option_copied work.ground.val) work.page.now.id.filters) all old new
         (λ m. among_after front _ (about_page work) m (content_among m))
-        (subst (λ (c : Context). StaysFounded (front ++ c.page.doc ∷ ditavals c.val c.page.filters) old new) is stays)
 
 -- What is asked about for a page: its content, then its links by nodes, then its title
 
-module _ (front : List (List ℕ)) (work : PageWork) (context : Context) (a b c : List Told)
-    (is : context ≡ context_for work.ground work.page.now) (grows : Grows a b)
-    (content : StaysFounded (front ++ context.page.doc ∷ ditavals context.val context.page.filters) a b)
+module _ (front : List (List ℕ)) (work : PageWork) (a b c : List Told) (grows : Grows a b)
+    (content : StaysFounded
+    (front ++ work.page.now.id.doc ∷ ditavals (option_copied work.ground.val) work.page.now.id.filters) a b)
     (links : StaysFounded (names_of_links work.ground.plan.now) b c) where
   pub stays_linked : StaysFounded (front ++ about_page work) a c
   stays_linked = stays_after (front ++ about_page work) a b c grows
-      (stays_content front a b work context is content) (stays_shown front b c work links)
+      (stays_content front a b work content) (stays_shown front b c work links)
 
   pub stays_titled : (d : List Told) → Grows b c → StaysFounded (work.page.now.id.doc ∷ []) c d
       → StaysFounded (front ++ about_page work) a d

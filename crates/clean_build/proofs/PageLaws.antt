@@ -94,21 +94,19 @@ page_nowhere world plan val index there = ap (λ (found : Option PagePlan). opti
 
 -- The page, from its body, its links and its title
 pub page_shown : (world : World) (plan : Plan) (index : ℕ) (page : PagePlan) (behind : List Fault) (line : ℕ)
-    (context : Context) (made : BodyMade) (of_nodes joined hrefs : List PageLink) (title topic : List ℕ) (html : Html)
+    (context : Context) (made : BodyMade) (of_nodes hrefs : List PageLink) (html : Html)
     → IsBodyMade world plan context page index behind made → of_nodes ≡ node_links world plan index
-    → joined ≡ of_nodes ++ made.links → hrefs ≡ hrefs_once joined → title_in world page.id.doc topic ≡ title
-    → topic ≡ [] → html ≡ page_html page.id.doc line title made.body hrefs
+    → hrefs ≡ hrefs_once (of_nodes ++ made.links)
+    → html ≡ page_html page.id.doc line (title_in world page.id.doc []) made.body hrefs
     → html ≡ page_at rooms world plan index page behind page.id.doc line (content_of world plan context)
-page_shown world plan index page behind line context made of_nodes joined hrefs title topic html is nodes both once
-    titled none shown =
+page_shown world plan index page behind line context made of_nodes hrefs html is nodes once shown =
     let here = here_of world plan page index in
     let content = content_of world plan context in
     let name = page.id.doc in
-    let first = title_in world name [] in
-    let links = once ∙ ap hrefs_once (both ∙ ap (λ all. all ++ made.links) nodes
+    let title = title_in world name [] in
+    let links = once ∙ ap hrefs_once (ap (λ all. all ++ made.links) nodes
     ∙ ap (λ all. node_links world plan index ++ all) is.links)
     ∙ links_once world plan index (element_links here content.nodes) in
     shown
-    ∙ ap (λ t. page_html name line t made.body hrefs) (sym titled ∙ ap (title_in world name) none)
-    ∙ ap (λ (body : Html). page_html name line first body hrefs) is.body
-    ∙ ap (λ (all : List PageLink). page_html name line first (body_of here behind content) all) links
+    ∙ ap (λ (body : Html). page_html name line title body hrefs) is.body
+    ∙ ap (λ (all : List PageLink). page_html name line title (body_of here behind content) all) links

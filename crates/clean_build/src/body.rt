@@ -6,15 +6,17 @@ ghost use Rattle.clean_build.specs.Bodies.{AreKnown, IsBodyMade};
 ghost use Rattle.clean_build.specs.Tables.{made_for};
 ghost use Rattle.conref_pull.specs.Rules.{ditavals};
 ghost use Rattle.dita_doc.specs.declared.plan.PagePlan.{PagePlan};
+ghost use Rattle.page_spec.specs.Blocks as blocks_spec;
 ghost use Rattle.part_spec.specs.Parts as parts_spec;
 ghost use Rattle.reader_spec.specs.World.{World};
 ghost use Rattle.readers.specs.Founded as founded_spec;
 ghost use Rattle.readers.specs.Founded.{Grows, StaysFounded};
 ghost use Rattle.readers.specs.Told.{Agrees};
+ghost use Rattle.xref_links.specs.Body.{written_of};
 ghost use Rattle.xref_links.specs.Here.{IsPageOf};
 
 use conref_pull::{Tables, resolve_page_with};
-use dita_doc::{Context, Fault, Html, List, NoMemory, PageLink, Plan, Resolved};
+use dita_doc::{Anchor, Context, Fault, Html, List, NoMemory, PageLink, Plan, Resolved};
 use doc_elements::append_faults;
 use html_blocks::body_html;
 use readers::Asker;
@@ -51,20 +53,33 @@ pub(crate) fn page_body<A: Asker>(
 {
     let mut content = content;
     let resolved = resolve_page_with(alloc, asker, &mut content, context)?;
-    let made = anchors(alloc, asker, plan, context, &resolved)?;
-    let html = body_html(alloc, &resolved, &made.anchors)?;
-    let Resolved { faults, .. } = resolved;
     let AnchorsMade {
+        anchors,
         links,
-        faults: of_links,
-        ..
-    } = made;
-    let body = with_faults(html, faults, of_links, behind)?;
+        faults,
+    } = anchors(alloc, asker, plan, context, &resolved)?;
+    let body = shown(alloc, resolved, &anchors, faults, behind)?;
     Ok(BodyMade {
         body,
         links,
         content,
     })
+}
+
+// The HTML of what was resolved, with these anchors. Its faults are those of what was resolved, of
+// its links and its own, and behind them these.
+fn shown(
+    alloc: Global,
+    resolved: Resolved,
+    anchors: &List<Anchor>,
+    of_links: List<Fault>,
+    behind: List<Fault>,
+) -> Result<Html, NoMemory>
+    ensures { IfOk result (λ html. html ≡ bodies_spec.with_faults
+        (blocks_spec.body_html anchors.now (written_of resolved)) resolved.faults of_links behind) }
+{
+    let html = body_html(alloc, &resolved, anchors)?;
+    with_faults(html, resolved.faults, of_links, behind)
 }
 
 // The same HTML with other faults around its own.

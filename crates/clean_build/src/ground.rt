@@ -24,17 +24,23 @@ impl<'p> Ground<'p> {
             Some(val) => Some(val.clone()?),
             None => None,
         };
-        let id = &page.id;
         Ok(Context {
             map: self.map.clone()?,
             val,
-            page: PageId {
-                doc: id.doc.clone()?,
-                scope: id.scope,
-                filters: copy_names(alloc, id.filters.as_slice())?,
-                affixes: copy_affixes(alloc, id.affixes.as_slice())?,
-            },
+            page: copy_id(alloc, &page.id)?,
             name: page.name.clone()?,
         })
     }
+}
+
+// A copy, which shares the names.
+fn copy_id(alloc: Global, id: &PageId) -> Result<PageId, NoMemory>
+    ensures { IfOk result (λ copy. copy ≡ id.now) }
+{
+    Ok(PageId {
+        doc: id.doc.clone()?,
+        scope: id.scope,
+        filters: copy_names(alloc, id.filters.as_slice())?,
+        affixes: copy_affixes(alloc, id.affixes.as_slice())?,
+    })
 }

@@ -6,11 +6,14 @@ ghost use Rattle.clean_build.specs.Clean as clean_spec;
 ghost use Rattle.clean_build.specs.Gathering as gathering_spec;
 ghost use Rattle.clean_build.specs.Gathering.{HasGathered};
 ghost use Rattle.clean_build.specs.Tables.{AreTables, GoesOn};
+ghost use Rattle.key_layer.specs.Ready.{AreReady};
+ghost use Rattle.key_scopes.specs.Made.{IsTableOf};
 ghost use Rattle.map_spec.specs.PlanOf as plan_spec;
 ghost use Rattle.node_links.specs.NodeTable.{AreNodeLinks};
 ghost use Rattle.part_spec.specs.Parts as parts_spec;
 ghost use Rattle.reader_spec.specs.World.{World, world_of};
-ghost use Rattle.readers.specs.Told.{Agrees};
+ghost use Rattle.readers.specs.Noted.{told_alone};
+ghost use Rattle.readers.specs.Told.{Agrees, Knows};
 
 use crate::build_tables::BuildTables;
 use crate::built::Clean;
@@ -43,11 +46,31 @@ pub fn clean(
     ensures names { IfOk result clean_spec.HasPageNames }
 {
     let mut reader = SourceReader::new(alloc, KnownTitles::new(alloc, sources));
-    let Planned { plan, homes, table } = match planned(alloc, &mut reader, map, val) {
-        Ok(planned) => planned,
-        Err(Stop::Fault(stop)) => return Ok(Clean::Stopped(stop)),
-        Err(Stop::NoMemory) => return Err(NoMemory),
-    };
+    match planned(alloc, &mut reader, map, val) {
+        Ok(found) => build_of_plan(alloc, reader, found, map, val),
+        Err(Stop::Fault(stop)) => Ok(Clean::Stopped(stop)),
+        Err(Stop::NoMemory) => Err(NoMemory),
+    }
+}
+
+// The build of a map whose plan was found, by the reader that found it.
+fn build_of_plan(
+    alloc: Global,
+    reader: SourceReader<'_>,
+    found: Planned,
+    map: &Name,
+    val: Option<&Name>,
+) -> Result<Clean, NoMemory>
+    requires ready { AreReady (told_alone reader.asked) found.plan.nodes found.homes }
+    requires scoped { Knows (told_alone reader.asked)
+        (λ world. ∥ IsTableOf world found.plan.nodes found.table ∥₁) }
+    requires plan { plan_spec.plan_of plan_spec.limits (world_of reader.known.sources.now) map.now
+        (option_copied val) ≡ Ok found.plan }
+    ensures { IfOk result (gathering_spec.IsBuilt found.plan (parts_spec.parts_of parts_spec.rooms
+        (world_of reader.entry.known.sources.now) found.plan (option_copied val.entry))) }
+{
+    let mut reader = reader;
+    let Planned { plan, homes, table } = found;
     let tables = BuildTables::of(alloc, &mut reader, &plan, homes, table)?;
     let ground = Ground {
         map,

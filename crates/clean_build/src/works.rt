@@ -1,11 +1,16 @@
 //! What is made of a plan over a reader that knows it: its links, a page and the contents page.
 
-ghost use Rattle.std.specs.Prelude.{◌≡◌, ◌++◌, ℕ, List, Some, IfOk, slice_get};
+ghost use Rattle.std.specs.Prelude.{◌≡◌, ◌++◌, ◌∷◌, ℕ, List, [], Some, IfOk, slice_get};
+ghost use Rattle.std.specs.Option.{option_copied};
 ghost use Rattle.clean_build.specs.Made as made_spec;
 ghost use Rattle.clean_build.specs.Names as names_spec;
-ghost use Rattle.clean_build.specs.Ground.{IsReady};
+ghost use Rattle.clean_build.specs.Bodies.{AreKnown, IsBodyMade};
+ghost use Rattle.clean_build.specs.Ground.{IsReady, context_for};
+ghost use Rattle.conref_pull.specs.Rules.{ditavals};
+ghost use Rattle.map_spec.specs.Titles.{title_in};
 ghost use Rattle.node_links.specs.NodeTable.{AreNodeLinks};
-ghost use Rattle.clean_build.specs.Bodies.{AreKnown};
+ghost use Rattle.page_spec.specs.PageHtml as page_html_spec;
+ghost use Rattle.part_spec.specs.Parts as parts_spec;
 ghost use Rattle.reader_spec.specs.World.{World};
 ghost use Rattle.readers.specs.Founded as founded_spec;
 ghost use Rattle.readers.specs.Founded.{Grows, StaysFounded};
@@ -17,7 +22,7 @@ use crate::hrefs::hrefs_once;
 use crate::over_plan::PlanWork;
 use crate::root::root_of;
 use conref_pull::Tables;
-use dita_doc::{Fault, Html, List, NoMemory, PageLink, PagePlan, Text};
+use dita_doc::{Fault, Html, List, Name, NoMemory, PageLink, PagePlan, Text};
 use html_page::page_html;
 use node_links::NodeLinks;
 use readers::Asker;
@@ -134,27 +139,72 @@ fn rooted<A: Asker>(
     ensures stand { A.stand asker.new ≡ A.stand asker.old }
     ensures grows { Grows (A.told asker.old) (A.told asker.new) }
 {
-    let PageWork {
-        ground,
-        page,
-        index,
-        links,
-        content,
-        behind,
-    } = work;
-    let plan = ground.plan;
-    let name = &page.id.doc;
-    let context = ground.context_of(alloc, page)?;
+    let ground = work.ground;
     let BodyMade {
         body,
         links: own,
         content,
-    } = page_body(alloc, asker, content, plan, &context, behind)?;
-    let of_nodes = links.of_page(alloc, asker, plan, index)?;
-    let hrefs = hrefs_once(alloc, joined(of_nodes, own)?)?;
-    let title = asker.title(alloc, name, &Text::new(alloc))?;
-    let html = page_html(alloc, name, line, &title, &body, &hrefs)?;
+    } = body_on_ground(alloc, asker, ground, work.page, work.content, work.behind)?;
+    let of_nodes = work.links.of_page(alloc, asker, ground.plan, work.index)?;
+    let hrefs = joined_once(alloc, of_nodes, own)?;
+    let html = titled(alloc, asker, &work.page.id.doc, line, &body, &hrefs)?;
     Ok(PageMade { html, content })
+}
+
+// The body of a page of this ground's plan, made for the page's own context.
+fn body_on_ground<A: Asker>(
+    alloc: Global,
+    asker: &mut A,
+    ground: Ground<'_>,
+    page: &PagePlan,
+    content: Tables,
+    behind: List<Fault>,
+) -> Result<BodyMade, NoMemory>
+    ensures known { (world : World) (index : ℕ) → Agrees world (A.told asker.new)
+        → IsReady world ground.entry (A.stand asker.old).setting
+        → slice_get ground.entry.plan.now.pages index ≡ Some page.now
+        → AreKnown world ground.entry.plan.now content
+        → IfOk result (IsBodyMade world ground.entry.plan.now
+        (context_for ground.entry page.now) page.now index behind) }
+    ensures founded { StaysFounded (founded_spec.homes (A.stand asker.old).setting.nodes
+        ++ page.now.id.doc ∷ ditavals (option_copied ground.entry.val) page.now.id.filters)
+        (A.told asker.old) (A.told asker.new) }
+    ensures stand { A.stand asker.new ≡ A.stand asker.old }
+    ensures grows { Grows (A.told asker.old) (A.told asker.new) }
+{
+    let context = ground.context_of(alloc, page)?;
+    page_body(alloc, asker, content, ground.plan, &context, behind)
+}
+
+// The page of this body with these links, under the title of its document.
+fn titled<A: Asker>(
+    alloc: Global,
+    asker: &mut A,
+    name: &Name,
+    line: u32,
+    body: &Html,
+    hrefs: &List<PageLink>,
+) -> Result<Html, NoMemory>
+    ensures known { (world : World) → Agrees world (A.told asker.new)
+        → IfOk result (λ html. html ≡ page_html_spec.page_html name.now line
+        (title_in world name.now []) body.now hrefs.now) }
+    ensures founded { StaysFounded (name.now ∷ []) (A.told asker.old) (A.told asker.new) }
+    ensures stand { A.stand asker.new ≡ A.stand asker.old }
+    ensures grows { Grows (A.told asker.old) (A.told asker.new) }
+{
+    let title = asker.title(alloc, name, &Text::new(alloc))?;
+    page_html(alloc, name, line, &title, body, hrefs)
+}
+
+// The first links, and behind them the others, without those whose href an earlier one has.
+fn joined_once(
+    alloc: Global,
+    first: List<PageLink>,
+    others: List<PageLink>,
+) -> Result<List<PageLink>, AllocError>
+    ensures { IfOk result (λ once. once ≡ parts_spec.hrefs_once (first ++ others)) }
+{
+    hrefs_once(alloc, joined(first, others)?)
 }
 
 // The first links, and behind them the others.

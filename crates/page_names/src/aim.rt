@@ -174,6 +174,27 @@ fn target_by_key(
     if definition.is_some() {
         return Ok(target);
     }
+    target_undefined(alloc, node, key, href, faults)
+}
+
+// What a reference leads to whose key has no definition.
+fn target_undefined(
+    alloc: Global,
+    node: &PlanNode,
+    key: &Text,
+    href: Option<&str>,
+    faults: &mut List<Fault>,
+) -> Result<Target, NoMemory>
+    ensures aim { (world : World) (around : List plan_node_spec.PlanNode)
+        → node.now.cascaded ≡ cascade_spec.cascaded_on world around
+        → IfOk result (λ target. spec.IsAim (pages_spec.with_more
+        (pages_spec.undefined_key node.now key.now (option_copied href.entry))
+        (pages_spec.aim_by_href world node.now around (option_copied href.entry)))
+        target faults.old faults.new) }
+    ensures given { (told : spec.Asked)
+        → spec.IsGiven told node.now.doc (option_copied href.entry)
+        → IfOk result (λ target. spec.MayName told target) }
+{
     append_undefined(alloc, node, key, href, faults)?;
     target_by_href(alloc, node, href, faults)
 }

@@ -55,6 +55,23 @@ impl PageNames {
         }
     }
 
+    // Takes the first name that is free for the page at this place, whose base gives the name that
+    // is wanted.
+    fn take_good(
+        &mut self,
+        alloc: Global,
+        place: usize,
+        base: Text,
+        wanted: &str,
+    ) -> Result<Name, NoMemory>
+        ensures { (taken : spec.Texts) → spec.AreTaken taken self.old
+            → wanted.now ≡ pages_spec.html base → IfOk result (λ name. spec.IsFound taken
+            (pages_spec.free_name taken (pages_spec.good_base place base)) name self.new) }
+    {
+        let good = good_base(alloc, place, base, wanted)?;
+        self.take_first(alloc, good)
+    }
+
     // Takes the first name that is free: the base's, or that with the number 2, 3 and so on.
     fn take_first(&mut self, alloc: Global, base: Text) -> Result<Name, NoMemory>
         ensures { (taken : spec.Texts) → spec.AreTaken taken self.old
@@ -131,13 +148,31 @@ fn name_page(
     ensures faults { IfOk result (λ made.
         faults.new ≡ faults.old ++ pages_spec.name_fault nodes.now made) }
 {
-    let base = base_of(alloc, &page.id)?;
-    let wanted = html_of(alloc, base.as_str())?;
-    let good = good_base(alloc, index, base, wanted.as_str())?;
-    let name = names.take_first(alloc, good)?;
-    append_changed(alloc, nodes, page.node, &name, wanted.as_str(), faults)?;
+    let name = name_use(alloc, nodes, names, index, &page, faults)?;
     let Use { id, node } = page;
     Ok(PagePlan { id, node, name })
+}
+
+// The name of the page of a use. It is taken then.
+fn name_use(
+    alloc: Global,
+    nodes: &[PlanNode],
+    names: &mut PageNames,
+    index: usize,
+    page: &Use,
+    faults: &mut List<Fault>,
+) -> Result<Name, NoMemory>
+    ensures named { (taken : spec.Texts) → spec.AreTaken taken names.old
+        → IfOk result (λ name. spec.IsFound taken
+        (spec.name_for index taken (shown_spec.use_shown page.now)) name names.new) }
+    ensures faults { IfOk result (λ name. faults.new ≡ faults.old ++ shown_spec.changed_fault
+        nodes.now page.now.node name (pages_spec.html (pages_spec.base_of page.now.id))) }
+{
+    let base = base_of(alloc, &page.id)?;
+    let wanted = html_of(alloc, base.as_str())?;
+    let name = names.take_good(alloc, index, base, wanted.as_str())?;
+    append_changed(alloc, nodes, page.node, &name, wanted.as_str(), faults)?;
+    Ok(name)
 }
 
 // The base, or that of the page's place if no page can have the name that the base gives.

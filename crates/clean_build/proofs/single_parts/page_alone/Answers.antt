@@ -5,7 +5,7 @@ use Rattle.dita_doc.specs.declared.fault.Fault.{Fault}
 use Rattle.page_spec.specs.Pushes.{pushed}
 use Rattle.part_spec.specs.Parts.{rooms}
 use Rattle.readers.proofs.FoundedLaws.{stays_after, stays_same}
-use Rattle.readers.proofs.GrowthLaws.{agrees_before}
+use Rattle.readers.proofs.GrowthLaws.{agrees_before, grows_trans}
 use Rattle.readers.specs.Setting.{Stand}
 use Rattle.clean_build.specs.Ground.{IsReady}
 use Rattle.clean_build.specs.Made.{page_behind}
@@ -69,3 +69,9 @@ returns-clause-founded g c =
     stays_after _ _ _ _ c.of.ensures.grows before
     (stays_with _ _ (names_of c.args.ground) _ _ c.in_ok-links.ensures.stand
     (stays_page _ _ _ c.args.ground page c.args.index there c.run.ensures.founded))
+
+pub returns-in_err-html-clause-grows : goal.returns-in_err-html-clause-grows
+returns-in_err-html-clause-grows g c = grows_trans _ _ _ c.of.ensures.grows c.run.ensures.grows
+
+pub returns-clause-grows : goal.returns-clause-grows
+returns-clause-grows g c = grows_trans _ _ _ c.of.ensures.grows c.run.ensures.grows

@@ -1,5 +1,5 @@
 use Rattle.std.specs.Option.{option_copied}
-use Rattle.readers.proofs.GrowthLaws.{agrees_before, are_allowed_before}
+use Rattle.readers.proofs.GrowthLaws.{agrees_before, are_allowed_before, grows_trans}
 use Rattle.clean_build.proofs.FoundLaws.{documents_may, parts_may, plan_may}
 use Rattle.clean_build.proofs.SingleLaws.{part_shown}
 use Rattle.clean_build.proofs.single_parts.single.Goals as goal
@@ -45,3 +45,10 @@ returns-clause-founded g c = record {
       c.over_titles.ensures.founded.by roots (are_allowed_before roots _ _ _ c.of.ensures.grows about)
       (c.of.ensures.founded.by roots documents at_plan));
 }
+
+pub returns-in_err-tables-clause-grows : goal.returns-in_err-tables-clause-grows
+returns-in_err-tables-clause-grows g c = grows_trans _ _ _ c.planned.ensures.grows c.of.ensures.grows
+
+pub returns-clause-grows : goal.returns-clause-grows
+returns-clause-grows g c = grows_trans _ _ _ c.planned.ensures.grows
+    (grows_trans _ _ _ c.of.ensures.grows c.over_titles.ensures.grows)

@@ -13,39 +13,29 @@ use Rattle.clean_build.specs.Gathering.{IsBuilt}
 use Rattle.clean_build.proofs.PartLaws.{built_of_plan, plan_named, stop_given, stopped}
 use Rattle.clean_build.proofs.whole_build.clean.Goals as goal
 
-pub parts_since-requires-clause-plan : goal.parts_since-requires-clause-plan
-parts_since-requires-clause-plan c =
-    ap (λ world. plan_of limits world c.args.map.now (option_copied c.args.val))
-    (ap world_of c.into_asked-asked.ensures.sources ∙ ap (λ (s : Stand). s.world) c.in_ok-tables.ensures.stand)
-    ∙ c.in-Ok.ensures.known _ c.planned.new.asker.agrees
-
-pub returns-clause-built : goal.returns-clause-built
-returns-clause-built c =
+pub returns-in-Ok-clause-built : goal.returns-in-Ok-clause-built
+returns-in-Ok-clause-built c =
     let map = c.args.map.now in
     let val = option_copied c.args.val in
-    let plan = c.in-Ok.planned.plan in
-    let at_plan = ap world_of c.into_asked-asked.ensures.sources
-    ∙ ap (λ (s : Stand). s.world) c.in_ok-tables.ensures.stand in
+    let plan = c.in-Ok.found.plan in
     let at_start = ap (λ (s : Stand). s.world) c.in-Ok.ensures.stand ∙ ap world_of c.new-reader.ensures.sources
     ∙ ap world_of c.new.ensures in
-    let world = world_of c.into_asked-asked.result.1.sources.now in
-    let is = ap (λ w. plan_of limits w map val) at_plan ∙ c.in-Ok.ensures.known _ c.planned.new.asker.agrees in
-    subst (λ w. IfOk c.parts_since.result (λ (gave : Clean). clean_seen gave ≡ clean_build w map val)) (at_plan ∙ at_start)
-    (IfOk-weaker c.parts_since.result (IsBuilt plan (parts_of rooms world plan val))
+    let world = world_of c.planned.new.asker.known.sources.now in
+    let is = c.in-Ok.ensures.known world c.planned.new.asker.agrees in
+    subst (λ w. IfOk c.build_of_plan.result (λ (gave : Clean). clean_seen gave ≡ clean_build w map val)) at_start
+    (IfOk-weaker c.build_of_plan.result (IsBuilt plan (parts_of rooms world plan val))
     (λ gave. clean_seen gave ≡ clean_build world map val)
-    (λ gave built. built_of_plan world map val plan gave is built) c.parts_since.ensures)
+    (λ gave built. built_of_plan world map val plan gave is built) c.build_of_plan.ensures)
 
-pub returns-clause-names : goal.returns-clause-names
-returns-clause-names c =
+pub returns-in-Ok-clause-names : goal.returns-in-Ok-clause-names
+returns-in-Ok-clause-names c =
     let map = c.args.map.now in
     let val = option_copied c.args.val in
-    let plan = c.in-Ok.planned.plan in
-    let at_plan = ap world_of c.into_asked-asked.ensures.sources
-    ∙ ap (λ (s : Stand). s.world) c.in_ok-tables.ensures.stand in
-    let world = world_of c.into_asked-asked.result.1.sources.now in
-    let is = ap (λ w. plan_of limits w map val) at_plan ∙ c.in-Ok.ensures.known _ c.planned.new.asker.agrees in
-    IfOk-weaker c.parts_since.result (IsBuilt plan (parts_of rooms world plan val)) HasPageNames
-    (λ gave built. built.names (plan_named world map val plan is)) c.parts_since.ensures
+    let plan = c.in-Ok.found.plan in
+    let world = world_of c.planned.new.asker.known.sources.now in
+    let is = c.in-Ok.ensures.known world c.planned.new.asker.agrees in
+    IfOk-weaker c.build_of_plan.result (IsBuilt plan (parts_of rooms world plan val)) HasPageNames
+    (λ gave built. built.names (plan_named world map val plan is)) c.build_of_plan.ensures
 
 pub returns-in-Err-Fault-clause-built : goal.returns-in-Err-Fault-clause-built
 returns-in-Err-Fault-clause-built c =
@@ -57,6 +47,3 @@ returns-in-Err-Fault-clause-built c =
     (c.in-Err-Fault.ensures.known _ c.planned.new.asker.agrees) in
     stopped (world_of c.args.sources.now) map val _
     (ap (λ w. plan_of limits w map val) (sym at_start) ∙ is ∙ ap (λ stop. Err stop) (sym c.in-Err-Fault.stop-is))
-
-pub returns-in-Err-Fault-clause-names : goal.returns-in-Err-Fault-clause-names
-returns-in-Err-Fault-clause-names c = tt

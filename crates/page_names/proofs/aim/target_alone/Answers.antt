@@ -1,6 +1,7 @@
 use Rattle.std.proofs.Common.{◌∙◌, ap}
 use Rattle.std.specs.Prelude.{codes, slice_get}
-use Rattle.readers.proofs.GrowthLaws.{agrees_before}
+use Rattle.readers.proofs.DocumentLaws.{asks_after, asks_none}
+use Rattle.readers.proofs.GrowthLaws.{agrees_before, grows_trans}
 use Rattle.readers.specs.Setting.{Stand}
 use Rattle.page_names.proofs.GivenUseLaws.{alone_founded, known_founded}
 use Rattle.page_names.proofs.AimLaws.{attributes_aim, leads_alone, value_there}
@@ -29,3 +30,21 @@ returns-clause-founded g c = λ nodes at keys there alone.
     c.in_ok-homes.ensures.grows
     (alone_founded nodes c.args.alone.now at c.args.node.now _ _ there alone c.in_ok-homes.ensures.founded)
     c.target_of.ensures.founded
+
+pub returns-in_err-homes-clause-stand : goal.returns-in_err-homes-clause-stand
+returns-in_err-homes-clause-stand g c = c.of.ensures.stand
+
+pub returns-in_err-homes-clause-asks : goal.returns-in_err-homes-clause-asks
+returns-in_err-homes-clause-asks g c = c.of.ensures.asks
+
+pub returns-in_err-homes-clause-grows : goal.returns-in_err-homes-clause-grows
+returns-in_err-homes-clause-grows g c = c.of.ensures.grows
+
+pub returns-clause-stand : goal.returns-clause-stand
+returns-clause-stand g c = c.target_of.ensures.stand ∙ c.of.ensures.stand
+
+pub returns-clause-asks : goal.returns-clause-asks
+returns-clause-asks g c = asks_after _ _ _ _ _ c.of.ensures.grows c.of.ensures.asks (asks_none _ _ _ _ c.target_of.ensures.asks)
+
+pub returns-clause-grows : goal.returns-clause-grows
+returns-clause-grows g c = grows_trans _ _ _ c.of.ensures.grows c.target_of.ensures.grows

@@ -1,6 +1,9 @@
 use Rattle.std.proofs.Common.{◌∙◌, refl, subst, sym}
 use Rattle.std.specs.Prelude.{codes}
 use Rattle.map_spec.specs.Pages.{aim_of, ignored_at, no_aim}
+use Rattle.readers.proofs.DocumentLaws.{asks_same}
+use Rattle.readers.proofs.FoundedLaws.{stays_same}
+use Rattle.readers.proofs.GrowthLaws.{grows_same}
 use Rattle.page_names.specs.Aims.{IsGiven}
 use Rattle.page_names.proofs.GivenUseLaws.{nothing_named}
 use Rattle.page_names.proofs.AimLaws.{attributes_aim, ignored_met, met_before, met_first, nothing_more, aim_is, other_aim, reference_aim, value_there}
@@ -43,3 +46,51 @@ pub returns-clause-given : goal.returns-clause-given
 returns-clause-given g c = λ given.
     c.target_of.ensures.given (subst (IsGiven (g.K.Reader.told c.args.asker.now) c.args.node.now.doc)
     (sym (c.value_in-href.ensures c.args.homes.now c.args.at c.element-element.ensures)) given)
+
+pub returns-in_err-append_value-clause-stand : goal.returns-in_err-append_value-clause-stand
+returns-in_err-append_value-clause-stand g c = refl
+
+pub returns-in_err-append_value-clause-founded : goal.returns-in_err-append_value-clause-founded
+returns-in_err-append_value-clause-founded g c = stays_same _ _ _ refl
+
+pub returns-in_err-append_value-clause-asks : goal.returns-in_err-append_value-clause-asks
+returns-in_err-append_value-clause-asks g c = asks_same _ _ _ _ refl
+
+pub returns-in_err-append_value-clause-grows : goal.returns-in_err-append_value-clause-grows
+returns-in_err-append_value-clause-grows g c = grows_same _
+
+pub returns-in_err-append_value-2-clause-stand : goal.returns-in_err-append_value-2-clause-stand
+returns-in_err-append_value-2-clause-stand g c = refl
+
+pub returns-in_err-append_value-2-clause-founded : goal.returns-in_err-append_value-2-clause-founded
+returns-in_err-append_value-2-clause-founded g c = stays_same _ _ _ refl
+
+pub returns-in_err-append_value-2-clause-asks : goal.returns-in_err-append_value-2-clause-asks
+returns-in_err-append_value-2-clause-asks g c = asks_same _ _ _ _ refl
+
+pub returns-in_err-append_value-2-clause-grows : goal.returns-in_err-append_value-2-clause-grows
+returns-in_err-append_value-2-clause-grows g c = grows_same _
+
+pub returns-then-not-is_reference-clause-stand : goal.returns-then-not-is_reference-clause-stand
+returns-then-not-is_reference-clause-stand g c = refl
+
+pub returns-then-not-is_reference-clause-founded : goal.returns-then-not-is_reference-clause-founded
+returns-then-not-is_reference-clause-founded g c = stays_same _ _ _ refl
+
+pub returns-then-not-is_reference-clause-asks : goal.returns-then-not-is_reference-clause-asks
+returns-then-not-is_reference-clause-asks g c = asks_same _ _ _ _ refl
+
+pub returns-then-not-is_reference-clause-grows : goal.returns-then-not-is_reference-clause-grows
+returns-then-not-is_reference-clause-grows g c = grows_same _
+
+pub returns-clause-stand : goal.returns-clause-stand
+returns-clause-stand g c = c.target_of.ensures.stand
+
+pub returns-clause-founded : goal.returns-clause-founded
+returns-clause-founded g c = c.target_of.ensures.founded
+
+pub returns-clause-asks : goal.returns-clause-asks
+returns-clause-asks g c = c.target_of.ensures.asks
+
+pub returns-clause-grows : goal.returns-clause-grows
+returns-clause-grows g c = c.target_of.ensures.grows

@@ -6,7 +6,7 @@ use Rattle.dita_doc.specs.Tree.{tree_of}
 use Rattle.dita_doc.specs.declared.doc.Doc.{Doc}
 use Rattle.map_spec.specs.Written.{written_in}
 use Rattle.readers.proofs.FoundedLaws.{stays_after}
-use Rattle.readers.proofs.GrowthLaws.{agrees_before, told_answer}
+use Rattle.readers.proofs.GrowthLaws.{agrees_before, grows_trans, told_answer}
 use Rattle.readers.specs.Setting.{Stand}
 use Rattle.readers.specs.Told.{tree_found}
 use Rattle.clean_build.specs.Ground.{IsReady}
@@ -53,3 +53,6 @@ pub returns-clause-founded : goal.returns-clause-founded
 returns-clause-founded g c = stays_after _ _ _ _ c.doc.ensures.grows
     (stays_doc _ _ _ c.args.self c.doc.ensures.founded)
     (stays_with _ _ (about_page c.args.self) _ _ c.in_ok-doc.ensures.stand c.rooted.ensures.founded)
+
+pub returns-clause-grows : goal.returns-clause-grows
+returns-clause-grows g c = grows_trans _ _ _ c.doc.ensures.grows c.rooted.ensures.grows

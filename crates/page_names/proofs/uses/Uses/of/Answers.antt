@@ -1,11 +1,11 @@
-use Rattle.std.proofs.Common.{◌≡◌, ◌∙◌, ap, arith, length, rules, subst, sym}
-use Rattle.readers.proofs.GrowthLaws.{agrees_before, grows_same}
+use Rattle.std.proofs.Common.{◌≡◌, ◌∙◌, ap, arith, length, subst, sym}
+use Rattle.readers.proofs.DocumentLaws.{asks_after, asks_none}
+use Rattle.readers.proofs.GrowthLaws.{agrees_before, grows_same, grows_trans}
 use Rattle.readers.specs.Setting.{Stand}
 use Rattle.plan_nodes.proofs.GivenLaws.{told_later}
 use Rattle.page_names.specs.Uses.{AreReady, AreUses}
 use Rattle.page_names.proofs.GivenUseLaws.{given_home, known_founded}
 use Rattle.page_names.proofs.UseLaws.{node_there, told_there}
-use Rattle.page_names.proofs.Walking.{walking}
 use Rattle.page_names.proofs.uses.Uses.of.Goals as goal
 
 pub loop-at-init : goal.loop-at-init
@@ -41,9 +41,9 @@ loop-at-preserved g c = record {
       (c.in_ok-add_node.ensures.founded
       (given_home _ c.in_ok-homes.homes c.loop-at.at _ c.args.nodes.now c.index-nodes-at.result
       (told_later _ _ _ c.loop-at.invariant.later c.in_ok-homes.ensures.given) c.in_ok-homes.ensures.value there)));
-  asks = search (rules, walking);
-  grows = search (rules, walking);
-  later = search (rules, walking);
+  asks = asks_after _ _ _ _ _ c.loop-at.invariant.grows c.loop-at.invariant.asks (asks_none _ _ _ _ c.in_ok-add_node.ensures.asks);
+  grows = grows_trans _ _ _ c.loop-at.invariant.grows c.in_ok-add_node.ensures.grows;
+  later = grows_trans _ _ _ c.loop-at.invariant.later c.in_ok-add_node.ensures.grows;
 }
 
 pub returns-clause-known : goal.returns-clause-known
@@ -62,3 +62,49 @@ returns-in_err-add_node-clause-founded g c = λ same.
     (c.in_err-add_node.ensures.founded
     (given_home _ c.in_ok-homes.homes c.loop-at.at _ c.args.nodes.now c.index-nodes-at.result
     (told_later _ _ _ c.loop-at.invariant.later c.in_ok-homes.ensures.given) c.in_ok-homes.ensures.value there))
+
+pub returns-in_err-homes-clause-stand : goal.returns-in_err-homes-clause-stand
+returns-in_err-homes-clause-stand g c = c.in_err-homes.ensures.stand
+
+pub returns-in_err-homes-clause-asks : goal.returns-in_err-homes-clause-asks
+returns-in_err-homes-clause-asks g c = c.in_err-homes.ensures.asks
+
+pub returns-in_err-homes-clause-grows : goal.returns-in_err-homes-clause-grows
+returns-in_err-homes-clause-grows g c = c.in_err-homes.ensures.grows
+
+pub returns-in_err-homes-clause-founded : goal.returns-in_err-homes-clause-founded
+returns-in_err-homes-clause-founded g c = λ same. c.in_err-homes.ensures.founded
+
+pub returns-in_err-inside-clause-stand : goal.returns-in_err-inside-clause-stand
+returns-in_err-inside-clause-stand g c = c.in_ok-homes.ensures.stand
+
+pub returns-in_err-inside-clause-asks : goal.returns-in_err-inside-clause-asks
+returns-in_err-inside-clause-asks g c = c.in_ok-homes.ensures.asks
+
+pub returns-in_err-inside-clause-grows : goal.returns-in_err-inside-clause-grows
+returns-in_err-inside-clause-grows g c = c.in_ok-homes.ensures.grows
+
+pub returns-in_err-inside-clause-founded : goal.returns-in_err-inside-clause-founded
+returns-in_err-inside-clause-founded g c = λ same. c.in_ok-homes.ensures.founded
+
+pub returns-in_err-add_node-clause-stand : goal.returns-in_err-add_node-clause-stand
+returns-in_err-add_node-clause-stand g c = c.in_err-add_node.ensures.stand ∙ c.loop-at.invariant.stand
+
+pub returns-in_err-add_node-clause-asks : goal.returns-in_err-add_node-clause-asks
+returns-in_err-add_node-clause-asks g c =
+    asks_after _ _ _ _ _ c.loop-at.invariant.grows c.loop-at.invariant.asks (asks_none _ _ _ _ c.in_err-add_node.ensures.asks)
+
+pub returns-in_err-add_node-clause-grows : goal.returns-in_err-add_node-clause-grows
+returns-in_err-add_node-clause-grows g c = grows_trans _ _ _ c.loop-at.invariant.grows c.in_err-add_node.ensures.grows
+
+pub returns-clause-stand : goal.returns-clause-stand
+returns-clause-stand g c = c.loop-at.invariant.stand
+
+pub returns-clause-founded : goal.returns-clause-founded
+returns-clause-founded g c = c.loop-at.invariant.founded
+
+pub returns-clause-asks : goal.returns-clause-asks
+returns-clause-asks g c = c.loop-at.invariant.asks
+
+pub returns-clause-grows : goal.returns-clause-grows
+returns-clause-grows g c = c.loop-at.invariant.grows

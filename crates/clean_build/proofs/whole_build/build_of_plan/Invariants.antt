@@ -2,7 +2,7 @@ use Rattle.std.specs.Prelude.{[]}
 use Rattle.reader_spec.specs.World.{world_of}
 use Rattle.readers.specs.Noted.{told_alone}
 use Rattle.readers.specs.Setting.{no_setting}
-use Rattle.clean_build.proofs.whole_build.clean.Given as goal
+use Rattle.clean_build.proofs.whole_build.build_of_plan.Given as goal
 
 abbrev pub ghosts-parts_since : goal.ghosts-parts_since
 ghosts-parts_since a = record {
