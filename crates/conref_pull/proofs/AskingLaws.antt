@@ -257,7 +257,7 @@ module _ (nodes : List PlanNode) where
       }))
 
 -- what closes most claims on what is asked about
-pub ruleset following = (growing, about_same, about_after, about_doc, about_pushed)
+pub ruleset following = (growing, about_same, about_doc, about_pushed)
 
 -- Links
 

@@ -1,6 +1,9 @@
-use Rattle.std.proofs.Common.{◌≡◌, ◌∙◌, arith, length, refl, rules, vec_len}
-use Rattle.readers.proofs.GrowthLaws.{agrees_before}
-use Rattle.branch_copies.proofs.DitavalrefLaws.{ditavals}
+use Rattle.std.proofs.Common.{◌≡◌, ◌∙◌, [], arith, length, refl, rules, vec_len}
+use Rattle.readers.proofs.DocumentLaws.{asks_after, asks_same}
+use Rattle.readers.proofs.FoundedLaws.{stays_after, stays_same}
+use Rattle.readers.proofs.GrowthLaws.{agrees_before, grows_same, grows_trans}
+use Rattle.branch_copies.specs.Ditavalrefs.{ditaval_targets}
+use Rattle.branch_copies.proofs.DitavalrefLaws.{given_later}
 use Rattle.branch_copies.proofs.ReadingLaws.{reading_begins, reading_ends, reading_next}
 use Rattle.branch_copies.proofs.branches.read_branches.Goals as goal
 
@@ -9,10 +12,10 @@ loop-at-init g c = record {
   read = λ world tree agrees are stands long known.
       reading_begins world c.args.nodes.now tree c.args.ditavals.now.read.items c.args.ditavals.now.known.entries
       c.new-read.result known c.new-read.ensures.branches c.new-read.ensures.spans c.new-read.ensures.faults stands long;
-  stand = search (rules, ditavals);
-  grows = search (rules, ditavals);
-  founded = search (rules, ditavals);
-  asks = search (rules, ditavals);
+  stand = refl;
+  grows = grows_same _;
+  founded = stays_same [] _ _ refl;
+  asks = λ refs. asks_same ditaval_targets [] _ _ refl;
 }
 
 pub loop-at-preserved : goal.loop-at-preserved
@@ -31,13 +34,54 @@ loop-at-preserved g c = record {
       (λ knowing less. c.in_ok-next.ensures.passed world knowing less)
       (λ parent head below more standing knowing past.
       c.in_ok-next.ensures.known world parent head below more agrees are standing knowing past));
-  stand = search (rules, ditavals);
-  grows = search (rules, ditavals);
-  founded = search (rules, ditavals);
-  asks = search (rules, ditavals);
+  stand = c.in_ok-next.ensures.stand ∙ c.loop-at.invariant.stand;
+  grows = grows_trans _ _ _ c.loop-at.invariant.grows c.in_ok-next.ensures.grows;
+  founded = stays_after [] _ _ _ c.loop-at.invariant.grows c.loop-at.invariant.founded c.in_ok-next.ensures.founded;
+  asks = λ refs. asks_after ditaval_targets [] _ _ _ c.loop-at.invariant.grows (c.loop-at.invariant.asks refs) (c.in_ok-next.ensures.asks refs);
 }
 
 pub returns-clause-known : goal.returns-clause-known
 returns-clause-known g c = λ world tree agrees are stands long known.
     reading_ends world c.args.nodes.now tree c.loop-at.ditavals.read.items c.loop-at.ditavals.known.entries c.loop-at.read
     c.loop-at.at c.loop-at.next c.loop-at-test.false (c.loop-at.invariant.read world tree agrees are stands long known)
+
+pub read_from-requires : goal.read_from-requires
+read_from-requires g c = record { given = given_later _ _ _ _ c.loop-at.invariant.grows c.requires.given }
+
+pub returns-in_err-next-clause-stand : goal.returns-in_err-next-clause-stand
+returns-in_err-next-clause-stand g c = c.read_from.ensures.stand ∙ c.loop-at.invariant.stand
+
+pub returns-in_err-next-clause-grows : goal.returns-in_err-next-clause-grows
+returns-in_err-next-clause-grows g c = grows_trans _ _ _ c.loop-at.invariant.grows c.read_from.ensures.grows
+
+pub returns-in_err-next-clause-founded : goal.returns-in_err-next-clause-founded
+returns-in_err-next-clause-founded g c = stays_after [] _ _ _ c.loop-at.invariant.grows c.loop-at.invariant.founded c.read_from.ensures.founded
+
+pub returns-in_err-next-clause-asks : goal.returns-in_err-next-clause-asks
+returns-in_err-next-clause-asks g c = λ refs.
+    asks_after ditaval_targets [] _ _ _ c.loop-at.invariant.grows (c.loop-at.invariant.asks refs) (c.read_from.ensures.asks refs)
+
+pub returns-in_err-push-clause-stand : goal.returns-in_err-push-clause-stand
+returns-in_err-push-clause-stand g c = c.read_from.ensures.stand ∙ c.loop-at.invariant.stand
+
+pub returns-in_err-push-clause-grows : goal.returns-in_err-push-clause-grows
+returns-in_err-push-clause-grows g c = grows_trans _ _ _ c.loop-at.invariant.grows c.read_from.ensures.grows
+
+pub returns-in_err-push-clause-founded : goal.returns-in_err-push-clause-founded
+returns-in_err-push-clause-founded g c = stays_after [] _ _ _ c.loop-at.invariant.grows c.loop-at.invariant.founded c.read_from.ensures.founded
+
+pub returns-in_err-push-clause-asks : goal.returns-in_err-push-clause-asks
+returns-in_err-push-clause-asks g c = λ refs.
+    asks_after ditaval_targets [] _ _ _ c.loop-at.invariant.grows (c.loop-at.invariant.asks refs) (c.read_from.ensures.asks refs)
+
+pub returns-clause-stand : goal.returns-clause-stand
+returns-clause-stand g c = c.loop-at.invariant.stand
+
+pub returns-clause-grows : goal.returns-clause-grows
+returns-clause-grows g c = c.loop-at.invariant.grows
+
+pub returns-clause-founded : goal.returns-clause-founded
+returns-clause-founded g c = c.loop-at.invariant.founded
+
+pub returns-clause-asks : goal.returns-clause-asks
+returns-clause-asks g c = c.loop-at.invariant.asks

@@ -1,12 +1,19 @@
-use Rattle.std.specs.Prelude.{Result, Ok, Err, IfOk, map}
+use Rattle.std.specs.Prelude.{List, Option, Result, Ok, Err, IfOk, map}
 use Rattle.std.proofs.Common.{◌≡◌, ap, subst, sym, ◌∙◌}
+use Rattle.dita_doc.specs.declared.plan.PlanNode.{PlanNode}
 use Rattle.map_spec.specs.Cascade.{whole_at}
 use Rattle.map_spec.specs.MapTree.{MapNode, MapTree, NoNodes, plan_nodes}
+use Rattle.map_spec.specs.Written.{Whole}
 use Rattle.plan_nodes.specs.Given.{AreTold}
 use Rattle.plan_nodes.proofs.GivenLaws.{told_later}
-use Rattle.readers.specs.Told.{Agrees}
-use Rattle.readers.proofs.GrowthLaws.{agrees_before}
+use Rattle.readers.specs.Documents.{AsksOnly, Follows}
+use Rattle.readers.specs.Founded.{StaysFounded, homes}
+use Rattle.readers.specs.Told.{Agrees, Told}
+use Rattle.readers.proofs.GrowthLaws.{agrees_before, grows_trans}
+use Rattle.reader_spec.specs.World.{World}
+use Rattle.branch_copies.specs.Ditavalrefs.{AreDitavalrefs, ditaval_targets}
 use Rattle.branch_copies.specs.Ditavals.{AreKnown}
+use Rattle.branch_copies.proofs.DitavalrefLaws.{asks_both, asks_first, given_of, stays_both}
 use Rattle.branch_copies.proofs.StandLaws.{count_all, stands_all}
 use Rattle.branch_copies.proofs.copies.copy_branches.Goals as goal
 
@@ -36,3 +43,59 @@ returns-clause-told g c = whichever c.copy_read.result
     (told_later _ _ _ c.in_ok-read.ensures.grows (subst (AreTold (g.R.Reader.told c.of.new.reader))
     (c.in_ok-homes.ensures.value ∙ ap (map (whole_at (g.R.Reader.stand c.args.reader.now).world)) c.as_slice-nodes.ensures)
     c.in_ok-homes.ensures.given))
+
+-- the slice has the nodes of the list
+
+module _ (slice nodes : List PlanNode) (same : slice ≡ nodes) where
+  stays_there : (old new : List Told) → StaysFounded (homes slice) old new → StaysFounded (homes nodes) old new
+  stays_there old new = subst (λ ns. StaysFounded (homes ns) old new) same
+
+  asks_there : (rule : Follows) (old new : List Told) → AsksOnly rule (homes slice) old new
+      → AsksOnly rule (homes nodes) old new
+  asks_there rule old new = subst (λ ns. AsksOnly rule (homes ns) old new) same
+
+  refs_there : (world : World) (found : List (Option Whole)) → found ≡ map (whole_at world) slice
+      → AreDitavalrefs (map (whole_at world) nodes) nodes → AreDitavalrefs found slice
+  refs_there world found is refs = subst (λ hs. AreDitavalrefs hs slice) (sym is)
+      (subst (λ ns. AreDitavalrefs (map (whole_at world) ns) ns) (sym same) refs)
+
+pub read_branches-requires : goal.read_branches-requires
+read_branches-requires g c =
+    record { given = given_of _ _ _ _ c.in_ok-homes.ensures.value c.in_ok-homes.ensures.given }
+
+pub returns-in_err-homes-clause-founded : goal.returns-in_err-homes-clause-founded
+returns-in_err-homes-clause-founded g c = stays_there _ _ c.as_slice-nodes.ensures _ _ c.of.ensures.founded
+
+pub returns-in_err-homes-clause-asks : goal.returns-in_err-homes-clause-asks
+returns-in_err-homes-clause-asks g c = λ refs.
+    asks_there _ _ c.as_slice-nodes.ensures ditaval_targets _ _ (asks_first _ _ _ c.of.ensures.asks)
+
+pub returns-in_err-read-clause-stand : goal.returns-in_err-read-clause-stand
+returns-in_err-read-clause-stand g c = c.read_branches.ensures.stand ∙ c.of.ensures.stand
+
+pub returns-in_err-read-clause-grows : goal.returns-in_err-read-clause-grows
+returns-in_err-read-clause-grows g c = grows_trans _ _ _ c.of.ensures.grows c.read_branches.ensures.grows
+
+pub returns-in_err-read-clause-founded : goal.returns-in_err-read-clause-founded
+returns-in_err-read-clause-founded g c = stays_there _ _ c.as_slice-nodes.ensures _ _
+    (stays_both _ _ _ _ c.of.ensures.founded c.read_branches.ensures.founded)
+
+pub returns-in_err-read-clause-asks : goal.returns-in_err-read-clause-asks
+returns-in_err-read-clause-asks g c = λ refs.
+    asks_there _ _ c.as_slice-nodes.ensures ditaval_targets _ _ (asks_both _ _ _ _ c.of.ensures.asks
+    (c.read_branches.ensures.asks (refs_there _ _ c.as_slice-nodes.ensures _ _ c.in_ok-homes.ensures.value refs)))
+
+pub returns-clause-stand : goal.returns-clause-stand
+returns-clause-stand g c = c.read_branches.ensures.stand ∙ c.of.ensures.stand
+
+pub returns-clause-grows : goal.returns-clause-grows
+returns-clause-grows g c = grows_trans _ _ _ c.of.ensures.grows c.read_branches.ensures.grows
+
+pub returns-clause-founded : goal.returns-clause-founded
+returns-clause-founded g c = stays_there _ _ c.as_slice-nodes.ensures _ _
+    (stays_both _ _ _ _ c.of.ensures.founded c.read_branches.ensures.founded)
+
+pub returns-clause-asks : goal.returns-clause-asks
+returns-clause-asks g c = λ refs.
+    asks_there _ _ c.as_slice-nodes.ensures ditaval_targets _ _ (asks_both _ _ _ _ c.of.ensures.asks
+    (c.read_branches.ensures.asks (refs_there _ _ c.as_slice-nodes.ensures _ _ c.in_ok-homes.ensures.value refs)))

@@ -1,4 +1,4 @@
-use Rattle.std.proofs.Common.{Result, OnOk, sym, subst}
+use Rattle.std.proofs.Common.{Result, OnOk, refl, sym, subst}
 use Rattle.std.proofs.lemmas.Result.{on_ok_weaker}
 use Rattle.dita_doc.specs.declared.stop.Stop.{Stop}
 use Rattle.map_spec.specs.Written.{End}
@@ -6,6 +6,7 @@ use Rattle.conref_pull.specs.Hrefs.{HaveNamed, PutNamed}
 use Rattle.conref_pull.specs.Putting.{built}
 use Rattle.conref_pull.specs.Resolved.{HasMemory, IsDone}
 use Rattle.conref_pull.specs.declared.resolver.TooMany.{TooMany}
+use Rattle.conref_pull.proofs.AskingLaws.{about_same}
 use Rattle.conref_pull.proofs.HrefLaws.{filled_named}
 use Rattle.conref_pull.proofs.calls.finish.Goals as goal
 
@@ -23,3 +24,9 @@ returns-in-Ok-clause-hrefs g c = λ told done.
     subst (HaveNamed told) (sym c.finish.ensures.content)
     (filled_named told (built c.args.resolver) End
     (subst (λ (d : Result (Unit {0}) (Stop TooMany)). OnOk d (PutNamed told c.args.resolver)) c.in-Ok.is done) tt)
+
+pub returns-in-Err-clause-asks : goal.returns-in-Err-clause-asks
+returns-in-Err-clause-asks g c = c.stopped.ensures.asks
+
+pub returns-in-Ok-clause-asks : goal.returns-in-Ok-clause-asks
+returns-in-Ok-clause-asks g c = λ nodes. about_same nodes _ _ _ refl

@@ -185,3 +185,24 @@ returns-clause-given g c =
     (on_ok_weaker c.siblings-done.result
     (λ put. building_later walked last c.finish.ensures.grows (built c.siblings-done.new.self) put)
     (c.siblings-done.ensures.hrefs all none)))
+
+pub returns-in_err-read-clause-grows : goal.returns-in_err-read-clause-grows
+returns-in_err-read-clause-grows g c = grows_trans _ _ _ c.pushed.ensures.grows c.read.ensures.grows
+
+pub returns-in_err-read-clause-stand : goal.returns-in_err-read-clause-stand
+returns-in_err-read-clause-stand g c = c.read.ensures.stand ∙ c.pushed.ensures.stand
+
+pub returns-in_err-rules-clause-grows : goal.returns-in_err-rules-clause-grows
+returns-in_err-rules-clause-grows g c = grows_trans _ _ _ c.pushed.ensures.grows c.read.ensures.grows
+
+pub returns-in_err-rules-clause-stand : goal.returns-in_err-rules-clause-stand
+returns-in_err-rules-clause-stand g c = c.read.ensures.stand ∙ c.pushed.ensures.stand
+
+pub returns-clause-grows : goal.returns-clause-grows
+returns-clause-grows g c =
+    grows_trans _ _ _ (grows_trans _ _ _ c.pushed.ensures.grows c.read.ensures.grows)
+    (grows_trans _ _ _ c.siblings-done.ensures.grows c.finish.ensures.grows)
+
+pub returns-clause-stand : goal.returns-clause-stand
+returns-clause-stand g c =
+    c.finish.ensures.stand ∙ c.siblings-done.ensures.stand ∙ c.read.ensures.stand ∙ c.pushed.ensures.stand

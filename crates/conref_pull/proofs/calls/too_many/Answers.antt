@@ -8,6 +8,7 @@ use Rattle.map_spec.specs.Written.{written_in}
 use Rattle.readers.specs.Told.{Agrees, Told, tree_found}
 use Rattle.conref_pull.specs.Hrefs.{HaveNamed}
 use Rattle.conref_pull.specs.Resolved.{root_element}
+use Rattle.conref_pull.proofs.AskingLaws.{about_doc}
 use Rattle.conref_pull.proofs.RootLaws.{faults_none, faults_rootless, faults_some}
 use Rattle.conref_pull.proofs.calls.too_many.Goals as goal
 use Rattle.conref_pull.proofs.calls.too_many.Goals.{in-Some, in-Some-root_of+in_ok-fault_at+in_ok-push, in_default-root_of, in_default}
@@ -43,3 +44,19 @@ returns-clause-known g c = λ world agrees.
 pub returns-clause-hrefs : goal.returns-clause-hrefs
 returns-clause-hrefs g c = λ told.
     subst (HaveNamed told) (sym (c.finish_resolved.ensures.content ∙ ap whole c.new.ensures)) tt
+
+pub returns-in_err-doc-clause-asks : goal.returns-in_err-doc-clause-asks
+returns-in_err-doc-clause-asks g c = λ nodes.
+    about_doc nodes c.args.context.now.page.doc _ _ c.doc.ensures.founded c.doc.ensures.asks
+
+pub returns-in_err-fault_at-clause-asks : goal.returns-in_err-fault_at-clause-asks
+returns-in_err-fault_at-clause-asks g c = λ nodes.
+    about_doc nodes c.args.context.now.page.doc _ _ c.doc.ensures.founded c.doc.ensures.asks
+
+pub returns-in_err-push-clause-asks : goal.returns-in_err-push-clause-asks
+returns-in_err-push-clause-asks g c = λ nodes.
+    about_doc nodes c.args.context.now.page.doc _ _ c.doc.ensures.founded c.doc.ensures.asks
+
+pub returns-clause-asks : goal.returns-clause-asks
+returns-clause-asks g c = λ nodes.
+    about_doc nodes c.args.context.now.page.doc _ _ c.doc.ensures.founded c.doc.ensures.asks

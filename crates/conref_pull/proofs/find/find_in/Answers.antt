@@ -5,6 +5,7 @@ use Rattle.dita_doc.specs.declared.doc.Doc.{Doc}
 use Rattle.readers.specs.Documents.{IsGiven}
 use Rattle.readers.specs.Named.{named_found}
 use Rattle.conref_pull.specs.Setting.{setting_of}
+use Rattle.conref_pull.proofs.AskingLaws.{about_pushed}
 use Rattle.conref_pull.proofs.FindLaws.{given_found, not_stored}
 use Rattle.conref_pull.proofs.find.find_in.Goals as goal
 
@@ -24,3 +25,15 @@ returns-clause-given g c =
     given_found (g.A.Reader.told c.pushed.new.self) c.in-Some.doc c.found_in.result c.found_in.ensures.doc
     (subst (λ (found : Option (Arc Doc Global)). IsGiven (g.A.Reader.told c.pushed.new.self) (named_found found))
     c.in-Some.is c.in_ok-stored.ensures.given)
+
+pub returns-in_err-stored-clause-asks : goal.returns-in_err-stored-clause-asks
+returns-in_err-stored-clause-asks g c = λ nodes same.
+    about_pushed nodes c.args.name _ _ c.pushed.ensures.founded c.pushed.ensures.asks
+
+pub returns-in-None-clause-asks : goal.returns-in-None-clause-asks
+returns-in-None-clause-asks g c = λ nodes same.
+    about_pushed nodes c.args.name _ _ c.pushed.ensures.founded c.pushed.ensures.asks
+
+pub returns-clause-asks : goal.returns-clause-asks
+returns-clause-asks g c = λ nodes same.
+    about_pushed nodes c.args.name _ _ c.pushed.ensures.founded c.pushed.ensures.asks

@@ -5,7 +5,7 @@ use Rattle.map_spec.specs.Pages.{local_name}
 use Rattle.page_spec.specs.Content.{found_in, key_named}
 use Rattle.conref_pull.specs.Asking.{AreGiven}
 use Rattle.conref_pull.specs.Setting.{setting_of}
-use Rattle.conref_pull.proofs.AskingLaws.{about_given}
+use Rattle.conref_pull.proofs.AskingLaws.{about_given, about_same}
 use Rattle.conref_pull.proofs.FindLaws.{search_as}
 use Rattle.conref_pull.proofs.find.find_target.Goals as goal
 
@@ -26,3 +26,9 @@ returns-in-Local-clause-asks g c = λ nodes same given.
     about_given nodes [] (c.in-Local.name ∷ []) _ _
     (subst (λ (t : Target). AreGiven (g.A.Reader.told c.args.asker.now) (option_to_list (local_name t))) c.in-Local.is
     given) (c.find_in.ensures.asks nodes same)
+
+pub returns-in_err-element-in-Local-clause-asks : goal.returns-in_err-element-in-Local-clause-asks
+returns-in_err-element-in-Local-clause-asks g c = λ nodes same given. about_same nodes _ _ _ refl
+
+pub returns-clause-asks : goal.returns-clause-asks
+returns-clause-asks g c = λ nodes same given. about_same nodes _ _ _ refl

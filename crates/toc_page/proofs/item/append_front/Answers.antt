@@ -5,9 +5,53 @@ use Rattle.dita_doc.specs.HtmlEscapes.{escaped}
 use Rattle.page_spec.specs.Blocks.{start_tag}
 use Rattle.page_spec.specs.Contents.{data_text, href_by, label_of, linked}
 use Rattle.page_spec.specs.Links.{target_of}
-use Rattle.readers.proofs.GrowthLaws.{agrees_before}
+use Rattle.readers.proofs.DocumentLaws.{asks_after}
+use Rattle.readers.proofs.FoundedLaws.{stays_after}
+use Rattle.readers.proofs.GrowthLaws.{agrees_before, grows_trans}
 use Rattle.readers.specs.Setting.{Stand}
 use Rattle.toc_page.proofs.item.append_front.Goals as goal
+
+pub returns-in_err-href-clause-stand : goal.returns-in_err-href-clause-stand
+returns-in_err-href-clause-stand g c = c.href_of.ensures.stand ∙ c.label_of.ensures.stand
+
+pub returns-in_err-href-clause-founded : goal.returns-in_err-href-clause-founded
+returns-in_err-href-clause-founded g c =
+    stays_after _ _ _ _ c.label_of.ensures.grows c.label_of.ensures.founded c.href_of.ensures.founded
+
+pub returns-in_err-href-clause-asks : goal.returns-in_err-href-clause-asks
+returns-in_err-href-clause-asks g c =
+    asks_after _ _ _ _ _ c.label_of.ensures.grows c.label_of.ensures.asks c.href_of.ensures.asks
+
+pub returns-in_err-href-clause-grows : goal.returns-in_err-href-clause-grows
+returns-in_err-href-clause-grows g c = grows_trans _ _ _ c.label_of.ensures.grows c.href_of.ensures.grows
+
+pub returns-in_err-append_linked-clause-stand : goal.returns-in_err-append_linked-clause-stand
+returns-in_err-append_linked-clause-stand g c = c.href_of.ensures.stand ∙ c.label_of.ensures.stand
+
+pub returns-in_err-append_linked-clause-founded : goal.returns-in_err-append_linked-clause-founded
+returns-in_err-append_linked-clause-founded g c =
+    stays_after _ _ _ _ c.label_of.ensures.grows c.label_of.ensures.founded c.href_of.ensures.founded
+
+pub returns-in_err-append_linked-clause-asks : goal.returns-in_err-append_linked-clause-asks
+returns-in_err-append_linked-clause-asks g c =
+    asks_after _ _ _ _ _ c.label_of.ensures.grows c.label_of.ensures.asks c.href_of.ensures.asks
+
+pub returns-in_err-append_linked-clause-grows : goal.returns-in_err-append_linked-clause-grows
+returns-in_err-append_linked-clause-grows g c = grows_trans _ _ _ c.label_of.ensures.grows c.href_of.ensures.grows
+
+pub returns-clause-stand : goal.returns-clause-stand
+returns-clause-stand g c = c.href_of.ensures.stand ∙ c.label_of.ensures.stand
+
+pub returns-clause-founded : goal.returns-clause-founded
+returns-clause-founded g c =
+    stays_after _ _ _ _ c.label_of.ensures.grows c.label_of.ensures.founded c.href_of.ensures.founded
+
+pub returns-clause-asks : goal.returns-clause-asks
+returns-clause-asks g c =
+    asks_after _ _ _ _ _ c.label_of.ensures.grows c.label_of.ensures.asks c.href_of.ensures.asks
+
+pub returns-clause-grows : goal.returns-clause-grows
+returns-clause-grows g c = grows_trans _ _ _ c.label_of.ensures.grows c.href_of.ensures.grows
 
 pub returns-clause-known : goal.returns-clause-known
 returns-clause-known g c = λ world agrees is pages there title.

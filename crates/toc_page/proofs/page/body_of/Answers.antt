@@ -4,8 +4,9 @@ use Rattle.dita_doc.specs.HtmlEscapes.{escaped}
 use Rattle.key_scopes.proofs.TreeLaws.{tree_parents}
 use Rattle.page_spec.specs.Contents.{items, list_text}
 use Rattle.plan_nodes.specs.Preorder.{HasParentsBefore, tables_around}
+use Rattle.readers.proofs.DocumentLaws.{asks_after, asks_none}
 use Rattle.readers.proofs.FoundedLaws.{stays_after}
-use Rattle.readers.proofs.GrowthLaws.{agrees_before}
+use Rattle.readers.proofs.GrowthLaws.{agrees_before, grows_trans}
 use Rattle.readers.specs.Setting.{Stand}
 use Rattle.toc_page.proofs.NameLaws.{homes_stay}
 use Rattle.toc_page.proofs.page.body_of.Goals as goal
@@ -36,6 +37,39 @@ pub returns-clause-founded : goal.returns-clause-founded
 returns-clause-founded g c = stays_after _ _ _ _ c.key_table.ensures.grows
     (homes_stay c.args.plan.now c.args.plan.now.nodes _ _ refl c.key_table.ensures.founded)
     c.append_items.ensures.founded
+
+pub returns-in_err-append_items-clause-stand : goal.returns-in_err-append_items-clause-stand
+returns-in_err-append_items-clause-stand g c = c.append_items.ensures.stand ∙ c.key_table.ensures.stand
+
+pub returns-in_err-append_items-clause-asks : goal.returns-in_err-append_items-clause-asks
+returns-in_err-append_items-clause-asks g c = asks_after _ _ _ _ _ c.key_table.ensures.grows
+    c.key_table.ensures.asks (asks_none _ _ _ _ c.append_items.ensures.asks)
+
+pub returns-in_err-append_items-clause-grows : goal.returns-in_err-append_items-clause-grows
+returns-in_err-append_items-clause-grows g c = grows_trans _ _ _ c.key_table.ensures.grows
+    c.append_items.ensures.grows
+
+pub returns-in_err-append-clause-stand : goal.returns-in_err-append-clause-stand
+returns-in_err-append-clause-stand g c = c.append_items.ensures.stand ∙ c.key_table.ensures.stand
+
+pub returns-in_err-append-clause-asks : goal.returns-in_err-append-clause-asks
+returns-in_err-append-clause-asks g c = asks_after _ _ _ _ _ c.key_table.ensures.grows
+    c.key_table.ensures.asks (asks_none _ _ _ _ c.append_items.ensures.asks)
+
+pub returns-in_err-append-clause-grows : goal.returns-in_err-append-clause-grows
+returns-in_err-append-clause-grows g c = grows_trans _ _ _ c.key_table.ensures.grows
+    c.append_items.ensures.grows
+
+pub returns-clause-stand : goal.returns-clause-stand
+returns-clause-stand g c = c.append_items.ensures.stand ∙ c.key_table.ensures.stand
+
+pub returns-clause-asks : goal.returns-clause-asks
+returns-clause-asks g c = asks_after _ _ _ _ _ c.key_table.ensures.grows
+    c.key_table.ensures.asks (asks_none _ _ _ _ c.append_items.ensures.asks)
+
+pub returns-clause-grows : goal.returns-clause-grows
+returns-clause-grows g c = grows_trans _ _ _ c.key_table.ensures.grows
+    c.append_items.ensures.grows
 
 pub returns-clause-known : goal.returns-clause-known
 returns-clause-known g c = λ world agrees tree pages same title.

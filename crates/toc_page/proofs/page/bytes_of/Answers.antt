@@ -3,7 +3,7 @@ use Rattle.map_spec.specs.Cascade.{whole_at}
 use Rattle.page_spec.specs.Contents.{contents, contents_body}
 use Rattle.page_spec.specs.PageHtml as page_html
 use Rattle.readers.proofs.FoundedLaws.{stays_after}
-use Rattle.readers.proofs.GrowthLaws.{agrees_before}
+use Rattle.readers.proofs.GrowthLaws.{agrees_before, grows_trans}
 use Rattle.readers.specs.Setting.{Stand}
 use Rattle.toc_page.proofs.NameLaws.{homes_stay}
 use Rattle.toc_page.proofs.TextLaws.{title_known}
@@ -31,6 +31,24 @@ pub returns-clause-founded : goal.returns-clause-founded
 returns-clause-founded g c = stays_after _ _ _ _ c.of.ensures.grows
     (homes_stay c.args.plan.now c.as_slice.result.now _ _ c.as_slice.ensures c.of.ensures.founded)
     c.body_of.ensures.founded
+
+pub returns-in_err-body-clause-stand : goal.returns-in_err-body-clause-stand
+returns-in_err-body-clause-stand g c = c.body_of.ensures.stand ∙ c.of.ensures.stand
+
+pub returns-in_err-body-clause-grows : goal.returns-in_err-body-clause-grows
+returns-in_err-body-clause-grows g c = grows_trans _ _ _ c.of.ensures.grows c.body_of.ensures.grows
+
+pub returns-in_err-page_text-clause-stand : goal.returns-in_err-page_text-clause-stand
+returns-in_err-page_text-clause-stand g c = c.body_of.ensures.stand ∙ c.of.ensures.stand
+
+pub returns-in_err-page_text-clause-grows : goal.returns-in_err-page_text-clause-grows
+returns-in_err-page_text-clause-grows g c = grows_trans _ _ _ c.of.ensures.grows c.body_of.ensures.grows
+
+pub returns-clause-stand : goal.returns-clause-stand
+returns-clause-stand g c = c.body_of.ensures.stand ∙ c.of.ensures.stand
+
+pub returns-clause-grows : goal.returns-clause-grows
+returns-clause-grows g c = grows_trans _ _ _ c.of.ensures.grows c.body_of.ensures.grows
 
 pub returns-clause-known : goal.returns-clause-known
 unfolding contents

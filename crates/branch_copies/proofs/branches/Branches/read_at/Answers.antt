@@ -1,7 +1,10 @@
-use Rattle.std.proofs.Common.{◌≡◌, ◌+◌, ◌∙◌, arith, rules}
+use Rattle.std.proofs.Common.{◌≡◌, ◌+◌, ◌∙◌, [], arith, refl}
 use Rattle.map_spec.specs.MapTree.{count}
-use Rattle.readers.proofs.GrowthLaws.{agrees_before}
-use Rattle.branch_copies.proofs.DitavalrefLaws.{ditavals}
+use Rattle.readers.proofs.DocumentLaws.{asks_after, asks_same}
+use Rattle.readers.proofs.FoundedLaws.{stays_after, stays_same}
+use Rattle.readers.proofs.GrowthLaws.{agrees_before, grows_same, grows_trans}
+use Rattle.branch_copies.specs.Ditavalrefs.{ditaval_targets}
+use Rattle.branch_copies.proofs.DitavalrefLaws.{given_later}
 use Rattle.branch_copies.proofs.RefLaws.{refs_begin, refs_end_read, refs_next}
 use Rattle.branch_copies.proofs.StandLaws.{end_stands}
 use Rattle.branch_copies.proofs.branches.Branches.read_at.Goals as goal
@@ -18,10 +21,10 @@ loop-child-init g c = record {
       refs_begin world c.args.nodes.now c.args.ditavals.now.read.items c.args.self.now at end below parent
       c.saturating_add-child.result head more c.args.ditavals.now.known.entries first c.end_of-end.ensures.is stands
       known);
-  stand = search (rules, ditavals);
-  grows = search (rules, ditavals);
-  founded = search (rules, ditavals);
-  asks = search (rules, ditavals);
+  stand = refl;
+  grows = grows_same _;
+  founded = stays_same [] _ _ refl;
+  asks = λ refs. asks_same ditaval_targets [] _ _ refl;
 }
 
 pub loop-child-preserved : goal.loop-child-preserved
@@ -35,10 +38,10 @@ loop-child-preserved g c = record {
       (agrees_before world _ _ c.in_ok-read_child.ensures.grows agrees) are stands known)
       (λ child inside rest standing knowing.
       c.in_ok-read_child.ensures.known world c.args.at child inside rest agrees are standing knowing);
-  stand = search (rules, ditavals);
-  grows = search (rules, ditavals);
-  founded = search (rules, ditavals);
-  asks = search (rules, ditavals);
+  stand = c.in_ok-read_child.ensures.stand ∙ c.loop-child.invariant.stand;
+  grows = grows_trans _ _ _ c.loop-child.invariant.grows c.in_ok-read_child.ensures.grows;
+  founded = stays_after [] _ _ _ c.loop-child.invariant.grows c.loop-child.invariant.founded c.in_ok-read_child.ensures.founded;
+  asks = λ refs. asks_after ditaval_targets [] _ _ _ c.loop-child.invariant.grows (c.loop-child.invariant.asks refs) (c.in_ok-read_child.ensures.asks refs);
 }
 
 pub returns-clause-known : goal.returns-clause-known
@@ -46,3 +49,31 @@ returns-clause-known g c = λ world parent head below more agrees are stands kno
     refs_end_read world c.args.nodes.now c.args.ditavals.now.read.items c.args.self.now c.args.at c.end_of-end.result
     below c.loop-child.ditavals.read.items c.loop-child.ditavals.known.entries c.loop-child.self c.loop-child.child
     c.loop-child-test.false (c.loop-child.invariant.read world parent head below more agrees are stands known)
+
+pub read_child-requires : goal.read_child-requires
+read_child-requires g c = record { given = given_later _ _ _ _ c.loop-child.invariant.grows c.requires.given }
+
+pub returns-in_err-read_child-clause-stand : goal.returns-in_err-read_child-clause-stand
+returns-in_err-read_child-clause-stand g c = c.read_child.ensures.stand ∙ c.loop-child.invariant.stand
+
+pub returns-in_err-read_child-clause-grows : goal.returns-in_err-read_child-clause-grows
+returns-in_err-read_child-clause-grows g c = grows_trans _ _ _ c.loop-child.invariant.grows c.read_child.ensures.grows
+
+pub returns-in_err-read_child-clause-founded : goal.returns-in_err-read_child-clause-founded
+returns-in_err-read_child-clause-founded g c = stays_after [] _ _ _ c.loop-child.invariant.grows c.loop-child.invariant.founded c.read_child.ensures.founded
+
+pub returns-in_err-read_child-clause-asks : goal.returns-in_err-read_child-clause-asks
+returns-in_err-read_child-clause-asks g c = λ refs.
+    asks_after ditaval_targets [] _ _ _ c.loop-child.invariant.grows (c.loop-child.invariant.asks refs) (c.read_child.ensures.asks refs)
+
+pub returns-clause-stand : goal.returns-clause-stand
+returns-clause-stand g c = c.loop-child.invariant.stand
+
+pub returns-clause-grows : goal.returns-clause-grows
+returns-clause-grows g c = c.loop-child.invariant.grows
+
+pub returns-clause-founded : goal.returns-clause-founded
+returns-clause-founded g c = c.loop-child.invariant.founded
+
+pub returns-clause-asks : goal.returns-clause-asks
+returns-clause-asks g c = c.loop-child.invariant.asks

@@ -6,7 +6,7 @@ use Rattle.doc_elements.specs.Walk.{element_of}
 use Rattle.readers.specs.Setting.{Stand}
 use Rattle.conref_pull.specs.Asking.{AreGivenTo, IsGivenIf}
 use Rattle.readers.proofs.GivenLaws.{given_later}
-use Rattle.readers.proofs.GrowthLaws.{agrees_before}
+use Rattle.readers.proofs.GrowthLaws.{agrees_before, grows_trans}
 use Rattle.conref_pull.specs.Linked.{IsStep}
 use Rattle.conref_pull.specs.Origin.{whole_of}
 use Rattle.conref_pull.specs.Setting.{path_within, setting_of}
@@ -112,3 +112,21 @@ returns-clause-known g t c = λ world at steps inside agrees are deep some far r
     (step_room setting c.args.topic.now at links element inside old mid c.take.new.places room c.in-Some.link taken))
     taken.tables)
     c.in_ok-push.ensures.items)
+
+pub returns-in_err-link-clause-asks : goal.returns-in_err-link-clause-asks
+returns-in_err-link-clause-asks g t c = c.take.ensures.asks
+
+pub returns-in_default-clause-asks : goal.returns-in_default-clause-asks
+returns-in_default-clause-asks g t c = c.take.ensures.asks
+
+pub returns-in_default-whole-clause-asks : goal.returns-in_default-whole-clause-asks
+returns-in_default-whole-clause-asks g t c = c.take.ensures.asks
+
+pub returns-in_err-end-clause-grows : goal.returns-in_err-end-clause-grows
+returns-in_err-end-clause-grows g t c = grows_trans _ _ _ c.take.ensures.grows c.follow.ensures.grows
+
+pub returns-in_err-push-clause-grows : goal.returns-in_err-push-clause-grows
+returns-in_err-push-clause-grows g t c = grows_trans _ _ _ c.take.ensures.grows c.follow.ensures.grows
+
+pub returns-clause-grows : goal.returns-clause-grows
+returns-clause-grows g t c = grows_trans _ _ _ c.take.ensures.grows c.follow.ensures.grows

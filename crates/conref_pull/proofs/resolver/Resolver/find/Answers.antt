@@ -2,7 +2,7 @@ use Rattle.std.proofs.Common.{[], sym, ap, refl, ◌∙◌}
 use Rattle.std.specs.Option.{option_copied}
 use Rattle.doc_elements.specs.Walk.{element_of}
 use Rattle.readers.specs.Setting.{Stand}
-use Rattle.readers.proofs.GrowthLaws.{agrees_before}
+use Rattle.readers.proofs.GrowthLaws.{agrees_before, grows_trans}
 use Rattle.conref_pull.specs.Setting.{setting_of}
 use Rattle.conref_pull.specs.Sought.{sought_shown}
 use Rattle.conref_pull.proofs.AskingLaws.{about_after, about_among, none_among}
@@ -92,3 +92,27 @@ returns-in_err-push_missing-clause-asks g c = λ nodes same.
     (about_among nodes [] _ _ _ (none_among _) (c.in_ok-keyed.ensures.asks nodes same))
     (c.find_by_value.ensures.asks nodes
     (ap (λ (stand : Stand). stand.setting.nodes) c.in_ok-keyed.ensures.stand ∙ same))
+
+pub returns-in_err-found-clause-grows : goal.returns-in_err-found-clause-grows
+returns-in_err-found-clause-grows g c = grows_trans _ _ _ c.find_by_key.ensures.grows c.find_by_value.ensures.grows
+
+pub returns-in_err-found-clause-stand : goal.returns-in_err-found-clause-stand
+returns-in_err-found-clause-stand g c = c.find_by_value.ensures.stand ∙ c.find_by_key.ensures.stand
+
+pub returns-then-is_some-2-clause-grows : goal.returns-then-is_some-2-clause-grows
+returns-then-is_some-2-clause-grows g c = grows_trans _ _ _ c.find_by_key.ensures.grows c.find_by_value.ensures.grows
+
+pub returns-then-is_some-2-clause-stand : goal.returns-then-is_some-2-clause-stand
+returns-then-is_some-2-clause-stand g c = c.find_by_value.ensures.stand ∙ c.find_by_key.ensures.stand
+
+pub returns-in_err-push_missing-clause-grows : goal.returns-in_err-push_missing-clause-grows
+returns-in_err-push_missing-clause-grows g c = grows_trans _ _ _ c.find_by_key.ensures.grows c.find_by_value.ensures.grows
+
+pub returns-in_err-push_missing-clause-stand : goal.returns-in_err-push_missing-clause-stand
+returns-in_err-push_missing-clause-stand g c = c.find_by_value.ensures.stand ∙ c.find_by_key.ensures.stand
+
+pub returns-clause-grows : goal.returns-clause-grows
+returns-clause-grows g c = grows_trans _ _ _ c.find_by_key.ensures.grows c.find_by_value.ensures.grows
+
+pub returns-clause-stand : goal.returns-clause-stand
+returns-clause-stand g c = c.find_by_value.ensures.stand ∙ c.find_by_key.ensures.stand

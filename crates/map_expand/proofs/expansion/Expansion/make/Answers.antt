@@ -1,4 +1,4 @@
-use Rattle.std.proofs.Common.{◌≡◌, ◌∷◌, ◌++◌, [], arith, length, subst, ap, ◌∙◌, None, Some}
+use Rattle.std.proofs.Common.{◌≡◌, ◌∷◌, ◌++◌, [], arith, length, refl, subst, ap, ◌∙◌, None, Some}
 use Rattle.std.proofs.lemmas.List.{length_push}
 use Rattle.dita_doc.specs.declared.plan.PlanKind.TheVariants as kinds
 use Rattle.doc_elements.specs.Walk.{element_of}
@@ -16,6 +16,9 @@ use Rattle.map_expand.proofs.AskedForLaws.{asked_node}
 use Rattle.map_expand.proofs.GoingLaws.{full_over}
 use Rattle.map_expand.proofs.MakeLaws.{ready_pushed}
 use Rattle.map_expand.proofs.TellingLaws.{asked_first}
+use Rattle.readers.proofs.DocumentLaws.{asks_same}
+use Rattle.readers.proofs.FoundedLaws.{stays_same}
+use Rattle.readers.proofs.GrowthLaws.{grows_same}
 use Rattle.map_expand.proofs.expansion.Expansion.make.Goals as goal
 
 pub returns-in-Err-clause-made : goal.returns-in-Err-clause-made
@@ -150,3 +153,81 @@ returns-in-None-clause-made g c = λ world agrees node here.
     let faults = c.in-Ok.ensures.faults ∙ ap (λ e. old.faults ++ ignored_references e) element_is in
     made_without world homes old.left.items c.push.new.self.items walk end place element old.nodes c.put.new.self.nodes old.faults
     c.put.new.self.faults c.in-Ok.ensures.place faults kind nodes left asks
+
+pub returns-in-Some-asked-clause-few : goal.returns-in-Some-asked-clause-few
+returns-in-Some-asked-clause-few g c = c.include.ensures.few
+
+pub returns-in-Some-asked-clause-ready : goal.returns-in-Some-asked-clause-ready
+returns-in-Some-asked-clause-ready g c = c.include.ensures.ready
+
+pub returns-in-Some-asked-clause-stand : goal.returns-in-Some-asked-clause-stand
+returns-in-Some-asked-clause-stand g c = c.include.ensures.stand
+
+pub returns-in-Some-asked-clause-grows : goal.returns-in-Some-asked-clause-grows
+returns-in-Some-asked-clause-grows g c = c.include.ensures.grows
+
+pub returns-in-Some-asked-clause-founded : goal.returns-in-Some-asked-clause-founded
+returns-in-Some-asked-clause-founded g c = c.include.ensures.founded
+
+pub returns-in-Some-asked-clause-asks : goal.returns-in-Some-asked-clause-asks
+returns-in-Some-asked-clause-asks g c = c.include.ensures.asks
+
+pub returns-in_default-clause-stand : goal.returns-in_default-clause-stand
+returns-in_default-clause-stand g c = refl
+
+pub returns-in_default-clause-grows : goal.returns-in_default-clause-grows
+returns-in_default-clause-grows g c = grows_same _
+
+pub returns-in_default-clause-founded : goal.returns-in_default-clause-founded
+returns-in_default-clause-founded g c = stays_same _ _ _ refl
+
+pub returns-in_default-clause-asks : goal.returns-in_default-clause-asks
+returns-in_default-clause-asks g c = asks_same _ _ _ _ refl
+
+pub returns-in_err-asked-clause-stand : goal.returns-in_err-asked-clause-stand
+returns-in_err-asked-clause-stand g c = refl
+
+pub returns-in_err-asked-clause-grows : goal.returns-in_err-asked-clause-grows
+returns-in_err-asked-clause-grows g c = grows_same _
+
+pub returns-in_err-asked-clause-founded : goal.returns-in_err-asked-clause-founded
+returns-in_err-asked-clause-founded g c = stays_same _ _ _ refl
+
+pub returns-in_err-asked-clause-asks : goal.returns-in_err-asked-clause-asks
+returns-in_err-asked-clause-asks g c = asks_same _ _ _ _ refl
+
+pub returns-in-Err-clause-stand : goal.returns-in-Err-clause-stand
+returns-in-Err-clause-stand g c = refl
+
+pub returns-in-Err-clause-grows : goal.returns-in-Err-clause-grows
+returns-in-Err-clause-grows g c = grows_same _
+
+pub returns-in-Err-clause-founded : goal.returns-in-Err-clause-founded
+returns-in-Err-clause-founded g c = stays_same _ _ _ refl
+
+pub returns-in-Err-clause-asks : goal.returns-in-Err-clause-asks
+returns-in-Err-clause-asks g c = asks_same _ _ _ _ refl
+
+pub returns-in_err-push-clause-stand : goal.returns-in_err-push-clause-stand
+returns-in_err-push-clause-stand g c = refl
+
+pub returns-in_err-push-clause-grows : goal.returns-in_err-push-clause-grows
+returns-in_err-push-clause-grows g c = grows_same _
+
+pub returns-in_err-push-clause-founded : goal.returns-in_err-push-clause-founded
+returns-in_err-push-clause-founded g c = stays_same _ _ _ refl
+
+pub returns-in_err-push-clause-asks : goal.returns-in_err-push-clause-asks
+returns-in_err-push-clause-asks g c = asks_same _ _ _ _ refl
+
+pub returns-in-None-clause-stand : goal.returns-in-None-clause-stand
+returns-in-None-clause-stand g c = refl
+
+pub returns-in-None-clause-grows : goal.returns-in-None-clause-grows
+returns-in-None-clause-grows g c = grows_same _
+
+pub returns-in-None-clause-founded : goal.returns-in-None-clause-founded
+returns-in-None-clause-founded g c = stays_same _ _ _ refl
+
+pub returns-in-None-clause-asks : goal.returns-in-None-clause-asks
+returns-in-None-clause-asks g c = asks_same _ _ _ _ refl
