@@ -133,18 +133,7 @@ fn append_copies(out: &mut List<Fault>, faults: &[Fault]) -> Result<(), NoMemory
     ensures { OnOk result (out.new ≡ out.old ++ faults.now) }
 {
     for fault in faults {
-        out.push(copy_fault(fault)?)?;
+        out.push(fault.clone()?)?;
     }
     Ok(())
-}
-
-fn copy_fault(fault: &Fault) -> Result<Fault, NoMemory>
-    ensures { IfOk result (λ copy. copy ≡ fault.now) }
-{
-    Ok(Fault {
-        name: fault.name.clone()?,
-        line: fault.line,
-        code: fault.code,
-        detail: fault.detail.clone()?,
-    })
 }

@@ -1,11 +1,11 @@
 //! Conditional attributes whose values are groups.
 
 ghost use Rattle.std.specs.Prelude.{◌≡◌, ◌++◌, OnOk};
-ghost use Rattle.ditaval_rules.specs.Verdict as verdict_spec;
 ghost use Rattle.doc_elements.specs.Walk as walk_spec;
 ghost use Rattle.map_spec.specs.Judged as judged_spec;
 
 use dita_doc::{Attribute, Fault, FaultCode, List, Name, NoMemory, Node};
+use ditaval_rules::is_conditional;
 use doc_elements::fault_at;
 use std::alloc::Global;
 
@@ -33,13 +33,4 @@ fn is_group(attribute: &Attribute) -> bool
     ensures { result ≡ judged_spec.is_group attribute.now }
 {
     is_conditional(attribute.name.as_str()) && attribute.value.as_bytes().contains(&b'(')
-}
-
-fn is_conditional(name: &str) -> bool
-    ensures { result ≡ verdict_spec.is_conditional name.now }
-{
-    matches!(
-        name,
-        "audience" | "platform" | "product" | "otherprops" | "props" | "deliveryTarget"
-    )
 }

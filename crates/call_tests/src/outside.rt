@@ -15,15 +15,19 @@ fn calls(alloc: Global, numbers: &[u32]) -> Result<List<u32>, AllocError> {
     Ok(List::from_vec(Vec::from_slice(alloc, numbers)?))
 }
 
+fn source(alloc: Global, bytes: &[u8], failing: &[u32]) -> Result<MemSource, AllocError> {
+    let bytes = List::from_slice(alloc, bytes)?;
+    Ok(MemSource::new(bytes, calls(alloc, failing)?))
+}
+
 #[test]
 fn a_source_fails_at_its_second_call(rt: HostRuntime) -> Result<(), Fail> {
-    let alloc = rt.alloc();
-    let mut source = MemSource::new(List::from_slice(alloc, b"abc")?, calls(alloc, &[2])?);
+    let mut source = source(rt.alloc(), b"abc", &[2])?;
     let mut buffer = [0u8; 2];
-    assert_eq!(rt; source.read(&mut buffer), Ok(2));
-    assert_eq!(rt; source.read(&mut buffer), Err(Failed));
-    assert_eq!(rt; source.read(&mut buffer), Ok(1));
-    assert_eq!(rt; buffer[0], b'c');
+    assert!(rt; source.read(&mut buffer) == Ok(2));
+    assert!(rt; source.read(&mut buffer) == Err(Failed));
+    assert!(rt; source.read(&mut buffer) == Ok(1));
+    assert!(rt; buffer[0] == b'c');
     Ok(())
 }
 
@@ -37,19 +41,35 @@ fn a_sink_takes_what_it_has_room_for(rt: HostRuntime) -> Result<(), Fail> {
     Ok(())
 }
 
+// Whether an outlet takes a page, and does not fail at it.
+fn takes<O: Outlet>(
+    outlet: &mut O,
+    alloc: Global,
+    page: &str,
+    bytes: &[u8],
+) -> Result<bool, AllocError> {
+    match outlet.put_page(alloc, &name(alloc, page)?, bytes) {
+        Ok(()) => Ok(true),
+        Err(Stop::Fault(Failed)) => Ok(false),
+        Err(Stop::NoMemory) => Err(AllocError),
+    }
+}
+
+// Whether an outlet took one page, with these bytes.
+fn has_one(outlet: &MemOutlet, bytes: &[u8]) -> bool {
+    match outlet.pages().as_slice() {
+        [page] => page.1.as_slice() == bytes,
+        _ => false,
+    }
+}
+
 #[test]
 fn an_outlet_does_not_take_the_page_that_failed(rt: HostRuntime) -> Result<(), Fail> {
     let alloc = rt.alloc();
     let mut outlet = MemOutlet::new(alloc, calls(alloc, &[1])?);
-    let page = name(alloc, "b1/t.html")?;
-    assert_eq!(rt;
-        outlet.put_page(alloc, &page, b"x"),
-        Err(Stop::Fault(Failed))
-    );
-    assert_eq!(rt; outlet.put_page(alloc, &page, b"y"), Ok(()));
-    let pages = outlet.pages().as_slice();
-    assert_eq!(rt; pages.len(), 1);
-    assert!(rt; pages[0].1.as_slice() == b"y".as_slice());
+    assert!(rt; !takes(&mut outlet, alloc, "b1/t.html", b"x")?);
+    assert!(rt; takes(&mut outlet, alloc, "b1/t.html", b"y")?);
+    assert!(rt; has_one(&outlet, b"y"));
     Ok(())
 }
 
@@ -70,35 +90,115 @@ fn standard_output_is_written(rt: HostRuntime) -> Result<(), Fail> {
     Ok(())
 }
 
-#[test]
-fn a_folder_keeps_the_file_of_an_unchanged_page(rt: HostRuntime) -> Result<(), Fail> {
-    let alloc = rt.alloc();
-    let folder = env::temp_dir(&rt)?;
+// A folder for this process alone, among the temporary files.
+fn own_folder(rt: &HostRuntime) -> Result<String, Fail> {
+    let folder = env::temp_dir(rt)?;
     let folder = folder.as_path().to_str().ok_or("no text")?;
     let id = std::process::id(rt.process());
-    let folder = format!(in alloc; "{folder}/dita-outlet-{id}")?;
-    let file = format!(in alloc; "{folder}/b1/a/t.html")?;
-    let mut outlet = FolderOutlet::new(rt.clone()?, Text::from_str(alloc, folder.as_str())?);
-    let page = name(alloc, "b1/a/t.html")?;
-    assert_eq!(rt; outlet.put_page(alloc, &page, b"one"), Ok(()));
-    let first = fs::metadata(&rt, file.as_str())?.ino();
-    assert_eq!(rt; outlet.put_page(alloc, &page, b"one"), Ok(()));
-    assert_eq!(rt; fs::metadata(&rt, file.as_str())?.ino(), first);
-    assert_eq!(rt; outlet.put_page(alloc, &page, b"two"), Ok(()));
-    assert_ne!(rt; fs::metadata(&rt, file.as_str())?.ino(), first);
-    assert!(rt; fs::read(&rt, file.as_str())?.as_slice() == b"two".as_slice());
-    // A page where a folder stands is not put, and leaves nothing beside it.
-    let taken = name(alloc, "b1/a")?;
-    let beside = format!(in alloc; "{folder}/b1/a new")?;
-    assert_eq!(rt;
-        outlet.put_page(alloc, &taken, b"x"),
-        Err(Stop::Fault(Failed))
-    );
-    assert!(rt; fs::metadata(&rt, beside.as_str()).is_err());
-    let told = outlet.last_error().ok_or("no error")?;
-    let path = format!(in alloc; "{folder}/b1/a")?;
-    assert!(rt; told.path.as_str() == path.as_str());
-    assert_eq!(rt; told.error.kind(), ErrorKind::IsADirectory);
-    fs::remove_dir_all(&rt, folder.as_str())?;
+    Ok(format!(in rt.alloc(); "{folder}/dita-outlet-{id}")?)
+}
+
+// The path of a page's file in a folder.
+fn path_of(alloc: Global, folder: &str, page: &str) -> Result<String, AllocError> {
+    format!(in alloc; "{folder}/{page}")
+}
+
+// The number of a page's file, if it is there.
+fn number_of(rt: &HostRuntime, folder: &str, page: &str) -> Result<Option<u64>, AllocError> {
+    let path = path_of(rt.alloc(), folder, page)?;
+    Ok(match fs::metadata(rt, path.as_str()) {
+        Ok(told) => Some(told.ino()),
+        Err(_) => None,
+    })
+}
+
+// Whether a page's file is there, with these bytes.
+fn holds(rt: &HostRuntime, folder: &str, page: &str, bytes: &[u8]) -> Result<bool, AllocError> {
+    let path = path_of(rt.alloc(), folder, page)?;
+    Ok(match fs::read(rt, path.as_str()) {
+        Ok(read) => read.as_slice() == bytes,
+        Err(_) => false,
+    })
+}
+
+// The number of the file of a page that was put.
+fn put(
+    rt: &HostRuntime,
+    outlet: &mut FolderOutlet<HostRuntime>,
+    folder: &str,
+    bytes: &[u8],
+) -> Result<Option<u64>, AllocError> {
+    if takes(outlet, rt.alloc(), "b1/a/t.html", bytes)? {
+        number_of(rt, folder, "b1/a/t.html")
+    } else {
+        Ok(None)
+    }
+}
+
+// Whether the last failure is that of this page, where a folder stands.
+fn failed_at(
+    outlet: &FolderOutlet<HostRuntime>,
+    alloc: Global,
+    folder: &str,
+    page: &str,
+) -> Result<bool, AllocError> {
+    let path = path_of(alloc, folder, page)?;
+    Ok(match outlet.last_error() {
+        Some(told) => {
+            told.path.as_str() == path.as_str() && told.error.kind() == ErrorKind::IsADirectory
+        }
+        None => false,
+    })
+}
+
+// Whether a page is put, its file is left as it is while the page stays the same, another page has
+// another file, and that file holds it.
+fn puts(
+    rt: &HostRuntime,
+    outlet: &mut FolderOutlet<HostRuntime>,
+    folder: &str,
+) -> Result<(bool, bool, bool, bool), AllocError> {
+    let first = put(rt, outlet, folder, b"one")?;
+    let same = put(rt, outlet, folder, b"one")?;
+    let other = put(rt, outlet, folder, b"two")?;
+    let held = holds(rt, folder, "b1/a/t.html", b"two")?;
+    let new = other.is_some() && other != first;
+    Ok((first.is_some(), same == first, new, held))
+}
+
+// Whether a page where a folder stands is not put, leaves nothing beside it, and is told of.
+fn refuses(
+    rt: &HostRuntime,
+    outlet: &mut FolderOutlet<HostRuntime>,
+    folder: &str,
+) -> Result<(bool, bool, bool), AllocError> {
+    let alloc = rt.alloc();
+    let taken = takes(outlet, alloc, "b1/a", b"x")?;
+    let beside = number_of(rt, folder, "b1/a new")?;
+    let told = failed_at(outlet, alloc, folder, "b1/a")?;
+    Ok((!taken, beside.is_none(), told))
+}
+
+// What an outlet puts into a folder, and what it refuses there. The folder goes again.
+fn tried(rt: &HostRuntime) -> Result<((bool, bool, bool, bool), (bool, bool, bool)), Fail> {
+    let folder = own_folder(rt)?;
+    let folder = folder.as_str();
+    let mut outlet = FolderOutlet::new(rt.clone()?, Text::from_str(rt.alloc(), folder)?);
+    let put = puts(rt, &mut outlet, folder)?;
+    let refused = refuses(rt, &mut outlet, folder)?;
+    fs::remove_dir_all(rt, folder)?;
+    Ok((put, refused))
+}
+
+#[test]
+fn a_folder_keeps_the_file_of_an_unchanged_page(rt: HostRuntime) -> Result<(), Fail> {
+    let ((first, same, new, held), (refused, nothing, told)) = tried(&rt)?;
+    assert!(rt; first);
+    assert!(rt; same);
+    assert!(rt; new);
+    assert!(rt; held);
+    assert!(rt; refused);
+    assert!(rt; nothing);
+    assert!(rt; told);
     Ok(())
 }

@@ -7,7 +7,7 @@ use Rattle.std.proofs.lemmas.List.{flat_map_more, length-map, take_all, take_mor
 use Rattle.std.proofs.lemmas.Option.{get_or_from_slice_get, slice_get-map, slice_get_within}
 use Rattle.build_spec.specs.Built.{Stopped}
 use Rattle.clean_build.specs.Clean.{clean_seen}
-use Rattle.clean_build.specs.PageNames.{IsPageName}
+use Rattle.language_laws.specs.PageNames.{IsPageName}
 use Rattle.clean_build.specs.declared.built.Clean.{Clean}
 use Rattle.dita_doc.specs.Gives.{GivesSeen}
 use Rattle.dita_doc.specs.declared.fact.Html.{Html}
@@ -201,13 +201,12 @@ pages_named : (world : World) (name : List ℕ) (val : Option (List ℕ)) (plan 
     → ((at : ℕ) (page : PagePlan) → slice_get pages at ≡ Some page → slice_get plan.pages (before + at) ≡ Some page)
     → AllByRecursion IsPageName (map (λ (page : PagePlan). page.name) pages ++ contents_name ∷ [])
 pages_named world name val plan is [] before there = (record { named = refl; within = omega arith }, tt)
-pages_named world name val plan is (page ∷ pages) before there =
-    let short = plan_short world name val plan (before + 0) page is (there 0 page refl) in (
-      record { named = short.named; within = short.short },
-      pages_named world name val plan is pages (before + 1) (λ at other found.
-          let same : before + 1 + at ≡ before + suc at = omega arith in
-          ap (slice_get plan.pages) same ∙ there (suc at) other found),
-    )
+pages_named world name val plan is (page ∷ pages) before there = (
+  plan_short world name val plan (before + 0) page is (there 0 page refl),
+  pages_named world name val plan is pages (before + 1) (λ at other found.
+      let same : before + 1 + at ≡ before + suc at = omega arith in
+      ap (slice_get plan.pages) same ∙ there (suc at) other found),
+)
 
 pub plan_named : (world : World) (name : List ℕ) (val : Option (List ℕ)) (plan : Plan)
     → plan_of limits world name val ≡ Ok plan → AllByRecursion IsPageName (names_of plan)

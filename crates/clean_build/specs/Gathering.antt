@@ -3,7 +3,7 @@
 use Rattle.std.specs.Prelude.{◌≡◌, ◌++◌, ℕ, true, List, [], ◌∷◌, Option, length, map, nat_le, take}
 use Rattle.std.specs.List.{AllByRecursion, flat_map}
 use Rattle.clean_build.specs.Clean.{HasPageNames, clean_seen, page_seen}
-use Rattle.clean_build.specs.PageNames.{IsPageName}
+use Rattle.language_laws.specs.PageNames.{IsPageName}
 use Rattle.clean_build.specs.declared.built.Clean.{Clean}
 use Rattle.dita_doc.specs.declared.fact.Html.{Html}
 use Rattle.dita_doc.specs.declared.fault.Fault.{Fault}

@@ -4,7 +4,5 @@ pub mod Gathering
 pub mod Ground
 pub mod Made
 pub mod Names
-pub mod PageNames
-pub mod Root
 pub mod Single
 pub mod Tables

@@ -8,14 +8,12 @@
 mod body;
 mod build_tables;
 mod built;
-mod faults;
 mod gathered;
 mod ground;
 mod hrefs;
 mod over_plan;
 mod over_sources;
 mod over_titles;
-mod root;
 mod single_parts;
 mod whole_build;
 mod works;

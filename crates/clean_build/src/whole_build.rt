@@ -17,14 +17,13 @@ ghost use Rattle.readers.specs.Told.{Agrees, Knows};
 
 use crate::build_tables::BuildTables;
 use crate::built::Clean;
-use crate::faults::copy_faults;
 use crate::gathered::Gathered;
 use crate::ground::Ground;
 use crate::over_sources::{Lasting, over_sources};
 use crate::works::{ContentsWork, LinksWork, PageMade, PageWork};
 use build_plan::{Planned, planned};
 use conref_pull::Tables;
-use dita_doc::{List, Name, NoMemory, Plan, Sources, Stop, Text};
+use dita_doc::{List, Name, NoMemory, Plan, Sources, Stop, Text, copy_faults};
 use node_links::NodeLinks;
 use plan_layer::PushedDocs;
 use plan_nodes::place_of;

@@ -15,7 +15,8 @@ use Rattle.clap.specs.declared.builder.value_parser.ValueParser.TheVariants as v
 use Rattle.clap.specs.declared.parser.matches.ArgMatches.{ArgMatches}
 use Rattle.clap.proofs.FaultLemmas.{leaf_fault}
 use Rattle.clap.proofs.WalkLemmas.{first_value-rows}
-use Rattle.command_line.proofs.AddressLaws.{same_faults, same_rows}
+use Rattle.command_line.proofs.AddressFaultLaws.{same_faults}
+use Rattle.command_line.proofs.AddressLaws.{same_rows}
 use Rattle.command_line.proofs.FaultLaws.{is_clear, takes_agrees}
 use Rattle.command_line.specs.Command.{IsCommand, command, command_of, default_folder, is_read, one_of_these, out_folder}
 

@@ -1,3 +1,4 @@
+pub mod AddressFaultLaws
 pub mod AddressLaws
 pub mod CommandLaws
 pub mod FaultLaws

@@ -15,12 +15,11 @@ use Rattle.dita_doc.specs.declared.doc.Node.{Node}
 use Rattle.dita_doc.specs.declared.fault.Fault.{Fault}
 use Rattle.dita_doc.specs.declared.fault.FaultCode.{FaultCode}
 use Rattle.dita_doc.specs.declared.fault.FaultCode.TheVariants as faults
-use Rattle.map_spec.specs.Elements.{attribute, fault_at}
+use Rattle.map_spec.specs.Elements.{attribute, fault_at, is_special}
 use Rattle.map_spec.specs.Written as written
 use Rattle.map_spec.specs.Written.{Element, Written, End, size}
 use Rattle.page_spec.specs.Content as content
 use Rattle.page_spec.specs.Content.{depth_limit, is_place, path_limit, range_by, refused_by}
-use Rattle.page_spec.specs.Pushes.{is_special}
 use Rattle.conref_pull.specs.Accepting.{IsRangeEnd, IsUpTo, is_too_deep, link_of, refusal_by}
 use Rattle.conref_pull.specs.Found.{IsFound}
 use Rattle.conref_pull.specs.Linked.{IsLink, IsStep}

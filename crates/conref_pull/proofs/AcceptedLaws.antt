@@ -10,11 +10,10 @@ use Rattle.dita_doc.specs.declared.fault.FaultCode.{FaultCode}
 use Rattle.dita_doc.specs.declared.fault.FaultCode.TheVariants as faults
 use Rattle.doc_maker.specs.Building.{depth}
 use Rattle.doc_maker.specs.Made.{building}
-use Rattle.map_spec.specs.Elements.{attribute, fault_at}
+use Rattle.map_spec.specs.Elements.{attribute, fault_at, is_special}
 use Rattle.map_spec.specs.Written.{Element}
 use Rattle.page_spec.specs.Content as content
 use Rattle.page_spec.specs.Content.{is_place, range_by, refused_by}
-use Rattle.page_spec.specs.Pushes.{is_special}
 use Rattle.conref_pull.specs.Accepting.{GoesOn, IsRangeEnd, IsUpTo, is_too_deep, link_of, place_of, refusal_by}
 use Rattle.conref_pull.specs.Found.{IsFound}
 use Rattle.conref_pull.specs.Linked.{IsLink, IsStep}

@@ -5,6 +5,7 @@ pub mod AskingLaws
 pub mod CallLaws
 pub mod ChainLaws
 pub mod ElementLaws
+pub mod ElementWalkLaws
 pub mod EndLaws
 pub mod FileLaws
 pub mod FindLaws
@@ -19,6 +20,7 @@ pub mod KnownLaws
 pub mod LabelLaws
 pub mod LinkLaws
 pub mod MergeLaws
+pub mod OpenedLaws
 pub mod TakingLaws
 pub mod NameLaws
 pub mod NodeLaws
@@ -42,6 +44,9 @@ pub mod TableLaws
 pub mod TakeLaws
 pub mod Telling
 pub mod TopicLaws
-pub mod TypeLaws
 pub mod UpToLaws
+pub mod WalkAskLaws
+pub mod WalkHrefLaws
 pub mod WalkLaws
+pub mod WalkLoopLaws
+pub mod WalkNodeLaws

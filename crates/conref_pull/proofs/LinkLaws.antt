@@ -5,6 +5,8 @@ use Rattle.std.proofs.Common.{refl, sym, ap, subst, ◌∙◌, arith}
 use Rattle.dita_doc.specs.Tree.{Content, Element, tree_of}
 use Rattle.dita_doc.specs.declared.doc.Doc.{Doc}
 use Rattle.page_spec.specs.Content.{Place}
+use Rattle.readers.specs.Told.{Told}
+use Rattle.conref_pull.specs.Asking.{AreGivenTo}
 use Rattle.conref_pull.specs.Linked.{AreLinks, IsLink}
 use Rattle.conref_pull.specs.Origin.{begins_element, first_whole, whole_shown}
 use Rattle.conref_pull.specs.Parts.{IsPart}
@@ -29,3 +31,12 @@ pub no_links : (path : List Place) (end : ℕ) (one : Taken) (nearer : List Take
     → length items ≡ 0 → AreLinks path end (one ∷ nearer) items → ⊥
 no_links path end one nearer [] none linked = linked
 no_links path end one nearer (link ∷ items) none linked = omega arith
+
+-- what holds of links holds of those that are the same
+pub links_are : {some links : List Link} (path : List Place) (end : ℕ) (taken : List Taken) → some ≡ links
+    → AreLinks path end taken links → AreLinks path end taken some
+links_are path end taken same linked = subst (λ (all : List Link). AreLinks path end taken all) (sym same) linked
+
+pub given_links : {some links : List Link} (told : List Told) → some ≡ links → AreGivenTo told links
+    → AreGivenTo told some
+given_links told same given = subst (λ (all : List Link). AreGivenTo told all) (sym same) given

@@ -1,34 +1,18 @@
--- The root of a document: the first element of its nodes.
-use Rattle.std.specs.Prelude.{◌≡◌, ◌+◌, ℕ, Bool, List, [], ◌∷◌, Option, Some, None, find, option_map}
+-- The fault of too much content stands at the root of its document.
+use Rattle.std.specs.Prelude.{◌≡◌, ℕ, List, [], ◌∷◌, Option, Some, None, option_map}
 use Rattle.std.specs.Option.{option_and_then}
 use Rattle.std.proofs.Common.{refl, sym, ap, ◌∙◌}
-use Rattle.dita_doc.specs.Tree.{Content, End, Chars, Element, is_element, nodes_of, tree_of}
-use Rattle.dita_doc.specs.declared.doc.Doc.{Doc}
+use Rattle.dita_doc.specs.Tree.{Content}
 use Rattle.dita_doc.specs.declared.doc.Node.{Node}
 use Rattle.dita_doc.specs.declared.fault.Fault.{Fault}
 use Rattle.dita_doc.specs.declared.fault.FaultCode.TheVariants as codes
+use Rattle.doc_elements.specs.Root.{root_element, root_named}
 use Rattle.doc_elements.specs.Walk.{element_of}
 use Rattle.map_spec.specs.Elements.{fault_at}
 use Rattle.map_spec.specs.Written as written
-use Rattle.map_spec.specs.Written.{Whole, Written, document, first_sibling, written_in}
+use Rattle.map_spec.specs.Written.{Whole, document, first_sibling, written_in}
 use Rattle.reader_spec.specs.World.{World}
-use Rattle.conref_pull.specs.Resolved.{root_element, root_faults, root_named, too_many_faults}
-
-abbrev pub is_element_node : Node → Bool
-is_element_node node = is_element node.kind
-
-first_by : (name : List ℕ) (content : Content) (place : ℕ)
-    → root_named name (find is_element_node (nodes_of content place)) ≡ root_element (written_in name content)
-first_by name End place = refl
-first_by name (Chars text origin line rest) place = first_by name rest (place + 1)
-first_by name (Element label attributes origin line inside rest) place = refl
-
-pub root_first : (name : List ℕ) (doc : Doc) (found : Option Node) → found ≡ find is_element_node doc.nodes
-    → root_named name found ≡ root_element (written_in name (tree_of doc.nodes))
-root_first name doc found is =
-    ap (root_named name) (is ∙ ap (find is_element_node) doc.tree) ∙ first_by name (tree_of doc.nodes) 0
-
--- The fault of too much content
+use Rattle.conref_pull.specs.Resolved.{root_faults, too_many_faults}
 
 by_root : (name : List ℕ) (faults : List Fault) (root : Node) (first : Option Whole)
     → root_named name (Some root) ≡ option_map (λ (one : Whole). one.0) first

@@ -20,3 +20,12 @@ around links = (33 - links) * 68719476736
 -- more than what is left of any nodes within so many targets
 abbrev pub behind : ℕ → ℕ
 behind links = around links + 68719476735
+
+-- an element and what it holds are less than that, and so are siblings
+pub element_smaller : (siblings : Siblings) (links : ℕ) → around links + 8 * size_of
+    (content siblings) + 4 < behind links
+element_smaller siblings links = let bound = size_bound siblings in omega arith
+
+pub siblings_smaller : (siblings : Siblings) (links : ℕ) → around links + 8 * size_of
+    (content siblings) + 1 < behind links
+siblings_smaller siblings links = let bound = size_bound siblings in omega arith

@@ -1,8 +1,7 @@
 -- Content that was resolved, as it is handed out, and the fault of too much of it (own).
-use Rattle.std.specs.Prelude.{◌≡◌, ◌+◌, ◌<◌, ◌≤◌, ℕ, List, [], ◌∷◌, Option, Some, None, Result, Ok, Err, option_map}
+use Rattle.std.specs.Prelude.{◌≡◌, ◌+◌, ◌<◌, ◌≤◌, ℕ, List, [], ◌∷◌, Option, Some, None, Result, Ok, Err}
 use Rattle.std.specs.Option.{option_and_then}
 use Rattle.dita_doc.specs.declared.content.Resolved.{Resolved}
-use Rattle.dita_doc.specs.declared.doc.Node as doc
 use Rattle.dita_doc.specs.declared.fault.Fault.{Fault}
 use Rattle.dita_doc.specs.declared.fault.FaultCode.TheVariants as faults
 use Rattle.dita_doc.specs.declared.plan.PageId.{PageId}
@@ -10,9 +9,8 @@ use Rattle.dita_doc.specs.declared.stop.Stop.{Stop}
 use Rattle.dita_doc.specs.declared.stop.Stop.TheVariants as stops
 use Rattle.doc_maker.specs.Building.{whole}
 use Rattle.doc_maker.specs.Made.{resolved_tree}
-use Rattle.doc_elements.specs.Walk.{element_of}
 use Rattle.map_spec.specs.Elements.{fault_at}
-use Rattle.map_spec.specs.Written.{Element, Whole, Written, End, document, first_sibling}
+use Rattle.map_spec.specs.Written.{Whole, End, document, first_sibling}
 use Rattle.page_spec.specs.Content.{Made, count_limit, page_root, resolved_in, resolved_page, within}
 use Rattle.reader_spec.specs.World.{World}
 use Rattle.readers.specs.Setting as made
@@ -78,10 +76,3 @@ node_made world setting val page place =
     let around = around_at nothing_around (page_root there) place in
     within count_limit (too_many_faults world page.doc)
     (resolved_in there around.topic (around.depth + 1) (alone_at (page_root there) place))
-
--- the first element among siblings, without what it holds; and that of a node
-abbrev pub root_element : Written → Option Element
-root_element nodes = option_map (λ (root : Whole). root.0) (first_sibling nodes)
-
-abbrev pub root_named : List ℕ → Option doc.Node → Option Element
-root_named name node = option_map (element_of name) node

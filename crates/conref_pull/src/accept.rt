@@ -18,8 +18,8 @@ use crate::ranges::end_of_range;
 use crate::reference::reference_in;
 use crate::resolver::Resolver;
 use crate::tables::PlaceTables;
-use crate::types::is_special;
 use dita_doc::{FaultCode, Name, NoMemory, Node, Text};
+use doc_elements::is_special;
 use std::alloc::Global;
 
 // How many targets may be resolved within one another.

@@ -1,11 +1,8 @@
 //! The calls that resolve content.
 
 ghost use Rattle.std.specs.Prelude.{◌≡◌, ◌+◌, ◌++◌, [], ◌∷◌, ℕ, List, IfOk, OnOk};
-ghost use Rattle.std.specs.Option.{option_copied};
-ghost use Rattle.dita_doc.specs.Tree.{tree_of};
 ghost use Rattle.dita_doc.specs.declared.plan.PlanNode.{PlanNode};
 ghost use Rattle.doc_maker.specs.Made as made_spec;
-ghost use Rattle.map_spec.specs.Written as written_spec;
 ghost use Rattle.page_spec.specs.Content as content_spec;
 ghost use Rattle.page_spec.specs.Content.{Made, count_limit, within};
 ghost use Rattle.reader_spec.specs.World.{World};
@@ -27,10 +24,8 @@ use crate::resolver::{At, Resolver, TOO_MANY, TooMany};
 use crate::rules::PageRules;
 use crate::standing::Standing;
 use crate::tables::Tables;
-use dita_doc::{
-    Context, Doc, Fault, FaultCode, List, NoMemory, Node, NodeKind, Resolved, Siblings, Stop,
-};
-use doc_elements::fault_at;
+use dita_doc::{Context, Fault, FaultCode, List, NoMemory, Resolved, Siblings, Stop};
+use doc_elements::{fault_at, root_of};
 use doc_maker::DocMaker;
 use readers::Asker;
 use std::alloc::Global;
@@ -263,15 +258,4 @@ fn too_many<A: Asker>(alloc: Global, asker: &mut A, context: &Context) -> Result
         }
     }
     Ok(DocMaker::new(alloc).finish_resolved(TOO_MANY, faults))
-}
-
-// The root of a document that is stored.
-fn root_of(doc: &Doc) -> Option<&Node>
-    ensures { (name : List ℕ) → resolved_spec.root_named name (option_copied result)
-        ≡ resolved_spec.root_element (written_spec.written_in name (tree_of doc.now.nodes)) }
-{
-    doc.nodes
-        .as_slice()
-        .iter()
-        .find(|node| node.kind == NodeKind::Element)
 }

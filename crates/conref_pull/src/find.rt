@@ -20,7 +20,7 @@ ghost use Rattle.conref_pull.specs.Found as found_spec;
 ghost use Rattle.conref_pull.specs.Setting as setting_spec;
 ghost use Rattle.conref_pull.specs.Tables.{AreTables};
 
-use crate::reference::{Sought, if_read, is_same_topic, reference_in};
+use crate::reference::{Sought, reference_in};
 use crate::resolver::Resolver;
 use crate::tables::PlaceTables;
 use dita_doc::{
@@ -31,7 +31,7 @@ use href_text::join_name;
 use readers::Asker;
 use std::alloc::Global;
 use std::sync::Arc;
-use targets::split_key;
+use targets::{if_read, is_same_topic, split_key};
 
 // A target: an element of a document with its pushes, and the value that names it.
 #[derive(Drop)]

@@ -8,20 +8,10 @@ ghost use Rattle.map_spec.specs.Judged as judged_spec;
 ghost use Rattle.conref_pull.specs.Judging as judging_spec;
 
 use crate::resolver::Resolver;
-use crate::text::is_same;
 use dita_doc::{Attribute, Fault, FaultCode, List, Name, NoMemory, Node};
+use ditaval_rules::is_conditional;
 use doc_elements::fault_at;
 use std::alloc::Global;
-
-// The names of the conditional attributes.
-const CONDITIONAL: [&str; 6] = [
-    "audience",
-    "platform",
-    "product",
-    "otherprops",
-    "props",
-    "deliveryTarget",
-];
 
 impl<'a> Resolver<'a> {
     ghost use Rattle.std.specs.Prelude.{◌≡◌, ◌++◌, IfOk, OnOk};
@@ -106,10 +96,4 @@ fn is_grouped(attribute: &Attribute) -> bool
     ensures { result ≡ verdict_spec.is_grouped attribute.now.value }
 {
     attribute.value.as_bytes().contains(&b'(')
-}
-
-fn is_conditional(name: &str) -> bool
-    ensures { result ≡ verdict_spec.is_conditional name.now }
-{
-    CONDITIONAL.iter().any(|known| is_same(name, known))
 }

@@ -20,8 +20,6 @@ mod resolver;
 mod rules;
 mod standing;
 mod tables;
-mod text;
-mod types;
 mod walk;
 
 pub use calls::{resolve, resolve_page, resolve_page_with, resolve_with};

@@ -15,8 +15,7 @@ ghost use Rattle.conref_pull.specs.Step as step_spec;
 ghost use Rattle.conref_pull.specs.Step.{Taken};
 
 use crate::chain::Link;
-use crate::text::is_same;
-use dita_doc::{Attribute, List, Name, NoMemory, Node};
+use dita_doc::{Attribute, List, Name, NoMemory, Node, is_same};
 use std::alloc::Global;
 
 // The value that an element leaves to its target.
@@ -292,7 +291,7 @@ fn has_name(attributes: &List<Attribute>, name: &str) -> bool
     ensures { result ≡ is_some (class_value_spec.value_of name.now attributes.now) }
 {
     for own in attributes.as_slice() {
-        if is_same(own.name.as_str(), name) {
+        if is_same(own.name.as_bytes(), name.as_bytes()) {
             return true;
         }
     }
@@ -322,12 +321,14 @@ fn is_own_id(attribute: &Attribute) -> bool
 fn is_specified(attribute: &Attribute) -> bool
     ensures { result ≡ merging_spec.is_specified attribute.now }
 {
-    !is_same(attribute.value.as_str(), USE_TARGET)
+    !is_same(attribute.value.as_bytes(), USE_TARGET.as_bytes())
 }
 
 // Whether an attribute of this name is taken from a target.
 fn is_taken(name: &str) -> bool
     ensures { result ≡ merging_spec.is_taken name.now }
 {
-    !NOT_TAKEN.iter().any(|kept| is_same(name, kept))
+    !NOT_TAKEN
+        .iter()
+        .any(|kept| is_same(name.as_bytes(), kept.as_bytes()))
 }

@@ -1,7 +1,6 @@
 pub mod Telling
 pub mod ActLaws
 pub mod SightLaws
-pub mod SpecialLaws
 pub mod AttributeLaws
 pub mod PlaceLaws
 pub mod DocLaws

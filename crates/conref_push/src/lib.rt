@@ -11,11 +11,9 @@ mod entries;
 mod pushed_doc;
 mod pushing;
 mod sources;
-mod special;
 mod table;
 mod target_docs;
 
 pub use acts::acts_in;
 pub use pushed_doc::{ask_pushed, pushed};
-pub use special::is_special;
 pub use table::{PushTable, pushes_into};

@@ -20,7 +20,7 @@ use crate::acts::acts_in;
 use crate::entries::Entries;
 use crate::pushing::{Pushing, pushing_in};
 use crate::target_docs::{PushTarget, Targets};
-use dita_doc::{Doc, Fault, FaultCode, List, Name, NoMemory, Push, PushList};
+use dita_doc::{Doc, Fault, FaultCode, List, Name, NoMemory, Push, PushList, copy_faults};
 use doc_elements::fault_at;
 use readers::Reader;
 use std::alloc::Global;
@@ -254,7 +254,7 @@ impl PushTable {
     {
         let detail = pushing.conref.unwrap_or("");
         let fault = fault_at(alloc, name, pushing.element, code, detail)?;
-        self.entries.add_fault(alloc, name, copy_fault(&fault)?)?;
+        self.entries.add_fault(alloc, name, fault.clone()?)?;
         self.faults.push(fault)?;
         Ok(())
     }
@@ -320,26 +320,5 @@ pub(crate) fn copy_push(push: &Push) -> Result<Push, NoMemory>
         at: push.at,
         from: push.from.clone()?,
         place: push.place,
-    })
-}
-
-fn copy_faults(alloc: Global, faults: &[Fault]) -> Result<List<Fault>, NoMemory>
-    ensures { IfOk result (λ copies. copies ≡ faults.now) }
-{
-    let mut copies = List::new(alloc);
-    for fault in faults {
-        copies.push(copy_fault(fault)?)?;
-    }
-    Ok(copies)
-}
-
-fn copy_fault(fault: &Fault) -> Result<Fault, NoMemory>
-    ensures { IfOk result (λ copy. copy ≡ fault.now) }
-{
-    Ok(Fault {
-        name: fault.name.clone()?,
-        line: fault.line,
-        code: fault.code,
-        detail: fault.detail.clone()?,
     })
 }

@@ -19,13 +19,14 @@ ghost use Rattle.readers.specs.Told.{Agrees};
 ghost use Rattle.topic_find.specs.Table as table_spec;
 
 use crate::pushing::Pushing;
-use crate::special::is_special;
 use dita_doc::{Doc, Name, NoMemory, PushKind, Reference, Siblings, Stop, Text};
+use doc_elements::is_special;
 use href_text::{join_name, read_reference};
 use readers::Reader;
 use std::alloc::{AllocError, Global};
 use std::collections::{BTreeMap, BTreeSet};
 use std::sync::Arc;
+use targets::is_same_topic;
 use topic_find::TargetTable;
 
 // A document into which is pushed, and the places of its elements that fragments name.
@@ -274,11 +275,4 @@ fn topic_named(alloc: Global, reference: &Reference, around: &str) -> Result<Tex
         return Text::from_str(alloc, around);
     }
     Text::from_str(alloc, reference.topic.as_str())
-}
-
-// Whether the reference is `#./element`, which names the topic around the pushing element.
-fn is_same_topic(reference: &Reference) -> bool
-    ensures { result ≡ pushes_spec.is_same_topic reference.now }
-{
-    reference.file.is_empty() && reference.topic.as_str() == "." && !reference.element.is_empty()
 }

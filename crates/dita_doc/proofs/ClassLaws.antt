@@ -150,8 +150,8 @@ value_found name (attribute ∷ attributes) =
     value_from name attribute attributes (bytes_eq attribute.name name) (value_found name attributes)
 
 -- the value of an attribute is that of what `find` tells
-pub value_told : (name : List ℕ) (attributes list : List Attribute) (found : Option (Bor Attribute))
-    → list ≡ attributes → option_map (λ (a : Bor Attribute). a.now) found ≡ first_named name list
+pub value_told : (name : List ℕ) (attributes : List Attribute) (found : Option (Bor Attribute))
+    → option_map (λ (a : Bor Attribute). a.now) found ≡ first_named name attributes
     → option_map (λ (a : Bor Attribute). a.now.value) found ≡ value_of name attributes
-value_told name attributes list None same e = rw (value_found name attributes, ← same, ← e) refl
-value_told name attributes list (Some a) same e = rw (value_found name attributes, ← same, ← e) refl
+value_told name attributes None e = rw (value_found name attributes, ← e) refl
+value_told name attributes (Some a) e = rw (value_found name attributes, ← e) refl

@@ -1,6 +1,6 @@
 //! Tests of bytes, and bytes and texts cut at a byte.
 
-ghost use Rattle.std.specs.Prelude.{◌≡◌, ◌<◌, MatchOption};
+ghost use Rattle.std.specs.Prelude.{◌≡◌, ◌<◌, MatchOption, bytes_eq};
 ghost use Rattle.std.specs.Str.{is_utf8 as is_utf8_of};
 ghost use Rattle.dita_doc.specs.Cut as cut_spec;
 ghost use Rattle.dita_doc.specs.PlainText as plain_text_spec;
@@ -24,6 +24,17 @@ pub fn is_blank(text: &[u8]) -> bool
     ensures { result ≡ plain_text_spec.is_blank text.now }
 {
     text.iter().all(|byte| is_blank_byte(*byte))
+}
+
+/// Whether two texts are one. Their lengths are compared first: names that are compared often, as
+/// those of attributes and types, mostly differ in them.
+pub fn is_same(one: &[u8], other: &[u8]) -> bool
+    ensures { result ≡ bytes_eq one.now other.now }
+{
+    if one.len() != other.len() {
+        return false;
+    }
+    one == other
 }
 
 /// What stands before and behind the first such byte, if there is one.

@@ -1,8 +1,11 @@
 //! Documents as trees: the nodes in preorder.
 
-ghost use Rattle.std.specs.Prelude.{◌<◌, ◌^◌, length, IsTrue};
+ghost use Rattle.std.specs.Prelude.{◌≡◌, ◌<◌, length, IsTrue};
+ghost use Rattle.std.specs.Option.{option_copied};
+ghost use Rattle.dita_doc.specs.ClassValue as class_value_spec;
 ghost use Rattle.dita_doc.specs.Tree as tree_spec;
 
+use crate::bytes::is_same;
 use crate::class::class_has;
 use crate::list::List;
 use crate::name::Name;
@@ -27,6 +30,17 @@ impl Clone for Attribute {
             value: self.value.clone()?,
         })
     }
+}
+
+// The value of the attribute of this name, if there is one.
+pub(crate) fn value_among<'a>(attributes: &'a [Attribute], name: &str) -> Option<&'a str>
+    ensures { option_copied result ≡ class_value_spec.value_of name.now attributes.now }
+{
+    let sought = name.as_bytes();
+    let attribute = attributes
+        .iter()
+        .find(|attribute| is_same(attribute.name.as_bytes(), sought))?;
+    Some(attribute.value.as_str())
 }
 
 /// What a node is.
@@ -68,12 +82,7 @@ impl Node {
     pub fn value_of(&self, name: &str) -> Option<&str>
         ensures { option_copied result ≡ class_value_spec.value_of name.now self.now.attributes }
     {
-        let attribute = self
-            .attributes
-            .as_slice()
-            .iter()
-            .find(|attribute| attribute.name.as_str() == name)?;
-        Some(attribute.value.as_str())
+        value_among(self.attributes.as_slice(), name)
     }
 }
 

@@ -1,7 +1,11 @@
 //! Faults of texts, of scripts and of builds.
 
+ghost use Rattle.std.specs.Prelude.{◌≡◌, IfOk};
+
+use crate::list::List;
 use crate::name::Name;
 use crate::text::Text;
+use std::alloc::{AllocError, Global};
 
 /// Why a text is no PYX text. The numbers are those of `docs/RULES.md`.
 #[derive(Clone, Copy, Debug, PartialEq, Eq)]
@@ -140,4 +144,30 @@ pub struct Fault {
     pub line: u32,
     pub code: FaultCode,
     pub detail: Text,
+}
+
+impl Clone for Fault {
+    ghost use Rattle.std.specs.Prelude.{◌≡◌};
+
+    ghost is_clone = { λ fault copy. copy ≡ fault };
+
+    fn clone(&self) -> Result<Fault, AllocError> {
+        Ok(Fault {
+            name: self.name.clone()?,
+            line: self.line,
+            code: self.code,
+            detail: self.detail.clone()?,
+        })
+    }
+}
+
+/// Copies, which share the names of the faults.
+pub fn copy_faults(alloc: Global, faults: &[Fault]) -> Result<List<Fault>, AllocError>
+    ensures { IfOk result (λ copies. copies ≡ faults.now) }
+{
+    let mut copies = List::new(alloc);
+    for fault in faults {
+        copies.push(fault.clone()?)?;
+    }
+    Ok(copies)
 }

@@ -28,7 +28,7 @@ mod text;
 
 pub use body::Body;
 pub use bytes::{
-    is_blank, is_blank_byte, is_utf8, split_at_first, split_at_last, split_text_at_first,
+    is_blank, is_blank_byte, is_same, is_utf8, split_at_first, split_at_last, split_text_at_first,
 };
 pub use class::{ClassFault, ClassList, Sign, is_token, split_sign, split_word};
 pub use content::{
@@ -37,7 +37,7 @@ pub use content::{
 pub use doc::{Attribute, Doc, Node, NodeKind};
 pub use escapes::{append_html, append_html_value, append_pyx, append_unescaped, fold};
 pub use fact::{Fact, FactKey, FactPair, FactValue, Html, Part, Row};
-pub use fault::{Fault, FaultCode, PyxCode, PyxFault};
+pub use fault::{Fault, FaultCode, PyxCode, PyxFault, copy_faults};
 pub use list::List;
 pub use name::{NAME_LIMIT, Name, NotName, is_name};
 pub use plan::{

@@ -1,6 +1,6 @@
 //! The plan of a build: the nodes of its map, its scopes and its pages.
 
-use crate::doc::Attribute;
+use crate::doc::{Attribute, value_among};
 use crate::fault::Fault;
 use crate::list::List;
 use crate::name::Name;
@@ -53,6 +53,19 @@ pub struct PlanNode {
     pub filters: List<Name>,
     pub affixes: List<Affix>,
     pub cascaded: List<Attribute>,
+}
+
+impl PlanNode {
+    ghost use Rattle.std.specs.Prelude.{◌≡◌};
+    ghost use Rattle.std.specs.Option.{option_copied};
+    ghost use Rattle.dita_doc.specs.ClassValue as class_value_spec;
+
+    /// The value of an attribute that holds at the node, if one does.
+    pub fn cascaded_value(&self, name: &str) -> Option<&str>
+        ensures { option_copied result ≡ class_value_spec.value_of name.now self.now.cascaded }
+    {
+        value_among(self.cascaded.as_slice(), name)
+    }
 }
 
 /// A key scope: its parent, the node that begins it, and its names.

@@ -7,7 +7,17 @@ ghost use Rattle.dita_doc.specs.ClassValue.{words_of};
 ghost use Rattle.dita_doc.specs.declared.content.Rule.{Rule};
 ghost use Rattle.ditaval_rules.specs.Verdict as spec;
 
-use dita_doc::{Action, Attribute, List, Rule, Text, split_word};
+use dita_doc::{Action, Attribute, List, Rule, Text, is_same, split_word};
+
+// The names of the conditional attributes.
+const CONDITIONAL: [&str; 6] = [
+    "audience",
+    "platform",
+    "product",
+    "otherprops",
+    "props",
+    "deliveryTarget",
+];
 
 /// Whether the rules exclude an element of these attributes. It takes no memory, and walks over all
 /// rules for each token: `RuleTable` finds the deciding rule by halving.
@@ -78,13 +88,13 @@ fn excludes_tokens<D: Decides>(decides: &D, att: &[u8], value: &[u8]) -> bool
     has_token
 }
 
-fn is_conditional(name: &str) -> bool
+/// Whether this is the name of a conditional attribute.
+pub fn is_conditional(name: &str) -> bool
     ensures { result ≡ spec.is_conditional name.now }
 {
-    matches!(
-        name,
-        "audience" | "platform" | "product" | "otherprops" | "props" | "deliveryTarget"
-    )
+    CONDITIONAL
+        .iter()
+        .any(|known| is_same(name.as_bytes(), known.as_bytes()))
 }
 
 fn first_for_token<'a>(rules: &'a [Rule], att: &[u8], token: &[u8]) -> Option<&'a Rule>

@@ -10,6 +10,6 @@ mod reading;
 mod rules;
 mod table;
 
-pub use exclude::verdict;
+pub use exclude::{is_conditional, verdict};
 pub use rules::{NotDitaval, RulesRead, read_rules};
 pub use table::RuleTable;

@@ -8,11 +8,15 @@
 mod below;
 mod children;
 mod faults;
+mod root;
+mod special;
 mod text;
 mod types;
 
 pub use below::first_under;
 pub use children::first_child;
 pub use faults::{append_faults, class_fault, fault_at};
+pub use root::root_of;
+pub use special::is_special;
 pub use text::plain_text;
 pub use types::{has_types, is_dita, is_transparent, tokens_of};

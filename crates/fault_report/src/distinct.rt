@@ -42,19 +42,7 @@ fn copy_all(alloc: Global, faults: &[&Fault]) -> Result<List<Fault>, AllocError>
 {
     let mut copies = List::new(alloc);
     for fault in faults {
-        copies.push(copy(fault)?)?;
+        copies.push(Fault::clone(fault)?)?;
     }
     Ok(copies)
-}
-
-// A copy, which shares the name.
-fn copy(fault: &Fault) -> Result<Fault, AllocError>
-    ensures { IfOk result (λ copy. copy ≡ fault.now) }
-{
-    Ok(Fault {
-        name: fault.name.clone()?,
-        line: fault.line,
-        code: fault.code,
-        detail: fault.detail.clone()?,
-    })
 }

@@ -7,7 +7,8 @@ use Rattle.dita_doc.specs.declared.content.Anchor.{Anchor}
 use Rattle.dita_doc.specs.declared.content.Resolved.{Resolved}
 use Rattle.dita_doc.specs.declared.fact.Html.{Html}
 use Rattle.html_blocks.specs.Body.{AreNodesOf, with_own_hrefs}
-use Rattle.html_blocks.proofs.BareLaws.{bare, bare_element, columns_same, text_same}
+use Rattle.doc_elements.proofs.BareLaws.{bare, bare_element, text_same}
+use Rattle.html_blocks.proofs.BareLaws.{columns_same}
 use Rattle.map_spec.specs.Elements.{attribute, class_faults, has_types}
 use Rattle.map_spec.specs.Written.{Element, Written, End, Chars, Node, size}
 use Rattle.page_spec.specs.Blocks as blocks

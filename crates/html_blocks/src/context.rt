@@ -4,8 +4,7 @@ ghost use Rattle.std.specs.Prelude.{◌≡◌};
 ghost use Rattle.html_blocks.specs.Shown as shown_spec;
 ghost use Rattle.page_spec.specs.Blocks as blocks_spec;
 
-use dita_doc::Node;
-use html_forms::is_same_token;
+use dita_doc::{Node, is_same};
 use html_tables::TableContext;
 
 /// The nearest of topic, section or example, figure and table around an element.
@@ -95,7 +94,7 @@ impl<'a> Context<'a> {
         ensures nearest { result.around ≡ self.entry.around }
         ensures tables { result.tables ≡ self.entry.tables }
     {
-        if !is_same_token(token.as_bytes(), b"topic/topic") {
+        if !is_same(token.as_bytes(), b"topic/topic") {
             return self;
         }
         Context {
@@ -111,16 +110,16 @@ fn around_in(token: &str, around: Around) -> Around
         ≡ blocks_spec.around_in token.now (shown_spec.around_shown around) }
 {
     let token = token.as_bytes();
-    if is_same_token(token, b"topic/topic") {
+    if is_same(token, b"topic/topic") {
         return Around::Topic;
     }
-    if is_same_token(token, b"topic/section") || is_same_token(token, b"topic/example") {
+    if is_same(token, b"topic/section") || is_same(token, b"topic/example") {
         return Around::Section;
     }
-    if is_same_token(token, b"topic/fig") {
+    if is_same(token, b"topic/fig") {
         return Around::Figure;
     }
-    if is_same_token(token, b"topic/table") {
+    if is_same(token, b"topic/table") {
         return Around::Table;
     }
     around

@@ -1,13 +1,13 @@
 //! The row of the table that counts for an element.
 
-ghost use Rattle.std.specs.Prelude.{◌≡◌, ℕ, List, bytes_eq, option_map};
+ghost use Rattle.std.specs.Prelude.{◌≡◌, ℕ, List, option_map};
 ghost use Rattle.dita_doc.specs.ClassValue.{words_of};
 ghost use Rattle.doc_elements.specs.Walk as walk_spec;
 ghost use Rattle.html_forms.specs.Shown as shown_spec;
 ghost use Rattle.page_spec.specs.Blocks as blocks_spec;
 
 use crate::forms::{Form, ROWS};
-use dita_doc::{Node, split_word};
+use dita_doc::{Node, is_same, split_word};
 use doc_elements::tokens_of;
 
 /// The form of the last of an element's types that the table has, if it has one.
@@ -49,16 +49,6 @@ fn row_named(token: &[u8]) -> Option<(&'static str, Form)>
     ensures { shown_spec.row_found result ≡ blocks_spec.row_of token.now }
 {
     ROWS.iter()
-        .find(|row| is_same_token(row.0.as_bytes(), token))
+        .find(|row| is_same(row.0.as_bytes(), token))
         .copied()
-}
-
-/// Whether two tokens are one. Their lengths are compared first: most tokens differ in them.
-pub fn is_same_token(one: &[u8], other: &[u8]) -> bool
-    ensures { result ≡ bytes_eq one.now other.now }
-{
-    if one.len() != other.len() {
-        return false;
-    }
-    one == other
 }

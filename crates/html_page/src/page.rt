@@ -6,9 +6,9 @@ ghost use Rattle.dita_doc.specs.HtmlEscapes as html_escapes_spec;
 ghost use Rattle.dita_doc.specs.Lines as lines_spec;
 ghost use Rattle.page_spec.specs.PageHtml as spec;
 
-use crate::faults::{copies, too_large};
+use crate::faults::too_large;
 use crate::links::append_related_line;
-use dita_doc::{Html, List, Name, NoMemory, PageLink, Text, append_html};
+use dita_doc::{Html, List, Name, NoMemory, PageLink, Text, append_html, copy_faults};
 use std::alloc::{AllocError, Global};
 
 // The most bytes of a page.
@@ -27,7 +27,7 @@ pub fn page_html(
     ensures { IfOk result (λ html. html
         ≡ spec.page_html name.now line title.now body.now links.now) }
 {
-    let mut faults = copies(alloc, body.faults.as_slice())?;
+    let mut faults = copy_faults(alloc, body.faults.as_slice())?;
     let bytes = page_text(alloc, title, body.bytes.as_slice(), links.as_slice())?;
     if bytes.len() <= PAGE_LIMIT {
         return Ok(Html { bytes, faults });

@@ -3,7 +3,7 @@
 ghost use Rattle.std.specs.Prelude.{◌≡◌};
 ghost use Rattle.page_spec.specs.Blocks as blocks_spec;
 
-use html_forms::is_same_token;
+use dita_doc::is_same;
 
 /// Whether a cell heads its column here, and the nearest group of rows.
 #[derive(Clone, Copy, Debug)]
@@ -53,10 +53,10 @@ fn head_in(token: &str, around: bool) -> bool
     ensures { result ≡ blocks_spec.head_in token.now around }
 {
     let token = token.as_bytes();
-    if is_same_token(token, b"topic/thead") {
+    if is_same(token, b"topic/thead") {
         return true;
     }
-    if is_same_token(token, b"topic/tbody") || is_same_token(token, b"topic/table") {
+    if is_same(token, b"topic/tbody") || is_same(token, b"topic/table") {
         return false;
     }
     around
@@ -66,10 +66,10 @@ fn simple_head_in(token: &str, around: bool) -> bool
     ensures { result ≡ blocks_spec.simple_head_in token.now around }
 {
     let token = token.as_bytes();
-    if is_same_token(token, b"topic/sthead") {
+    if is_same(token, b"topic/sthead") {
         return true;
     }
-    if is_same_token(token, b"topic/strow") || is_same_token(token, b"topic/simpletable") {
+    if is_same(token, b"topic/strow") || is_same(token, b"topic/simpletable") {
         return false;
     }
     around

@@ -2,7 +2,6 @@
 
 ghost use Rattle.std.specs.Prelude.{◌≡◌, IfOk};
 ghost use Rattle.std.specs.Option.{option_copied, option_to_list};
-ghost use Rattle.dita_doc.specs.ClassValue as class_value_spec;
 ghost use Rattle.map_spec.specs.Keys as keys_spec;
 ghost use Rattle.map_spec.specs.Scopes as scopes_spec;
 ghost use Rattle.plan_nodes.specs.Home as home_spec;
@@ -79,20 +78,8 @@ fn target_of(alloc: Global, node: &PlanNode, href: &str, doc: &Name) -> Result<T
     ensures { IfOk result (λ target.
         target ≡ spec.target_carried node.now href.now doc.now) }
 {
-    let format = cascaded(node, "format").unwrap_or("dita");
-    let scope = cascaded(node, "scope").unwrap_or("local");
+    let format = node.cascaded_value("format").unwrap_or("dita");
+    let scope = node.cascaded_value("scope").unwrap_or("local");
     let target = target_by(alloc, href, format, scope, doc)?;
     Ok(target.unwrap_or(Target::Nothing))
-}
-
-// The value of an attribute that holds at a node.
-fn cascaded<'a>(node: &'a PlanNode, name: &str) -> Option<&'a str>
-    ensures { option_copied result ≡ class_value_spec.value_of name.now node.now.cascaded }
-{
-    let attribute = node
-        .cascaded
-        .as_slice()
-        .iter()
-        .find(|attribute| attribute.name.as_str() == name)?;
-    Some(attribute.value.as_str())
 }

@@ -12,16 +12,11 @@ use Rattle.dita_doc.specs.declared.plan.PlanNode.{PlanNode}
 use Rattle.reader_spec.specs.World.{World}
 use Rattle.map_spec.specs.PlanOf.{limits, plan_of}
 use Rattle.map_spec.specs.Pages.{Use, base_of, contents_name, free_from, free_name, good_base, html, is_page_name, longest_name, named_from, page_of_use, pages_of, uses_of, with_number}
-use Rattle.language_laws.specs.PageNames.{FitsFolders}
+use Rattle.language_laws.specs.PageNames.{FitsFolders, IsPageName}
 use Rattle.language_laws.proofs.FreeLaws.{is_taken}
 use Rattle.language_laws.proofs.NameLaws.{length_named}
 use Rattle.language_laws.proofs.PlanPagesLaws.{plan_pages}
 use Rattle.language_laws.proofs.WordLaws.{IsWord, decimal_is_word, name_under, name_with_end, word_is_name, words_joined}
-
--- a name that is short enough for a folder before it
-pub record IsShortName (name : List ℕ) : Type 0 where
-  pub named : is_name name ≡ true
-  pub short : length name ≤ 248
 
 -- Names with numbers
 
@@ -45,14 +40,14 @@ regrouped : (base mark digits tail : List ℕ) → base ++ (mark ++ digits ++ ta
 regrouped base mark digits tail = simp append_assoc
 
 -- a base that makes a page's name makes short names
-base_short : (base : List ℕ) → is_page_name (html base) ≡ true → IsShortName (html base)
+base_short : (base : List ℕ) → is_page_name (html base) ≡ true → IsPageName (html base)
 base_short base good =
     let parts = and_parts (is_name (html base)) (nat_le (length (html base)) longest_name) good in
     let short : length (html base) ≤ 240 = leb-true _ _ parts.1 in
-    record { named = parts.0; short = omega arith }
+    record { named = parts.0; within = omega arith }
 
 -- also with a number
-number_short : (base : List ℕ) (n : ℕ) → is_page_name (html base) ≡ true → n < 10000 → IsShortName (with_number base n)
+number_short : (base : List ℕ) (n : ℕ) → is_page_name (html base) ≡ true → n < 10000 → IsPageName (with_number base n)
 number_short base n good small =
     let parts = and_parts (is_name (html base)) (nat_le (length (html base)) longest_name) good in
     let short : length (html base) ≤ 240 = leb-true _ _ parts.1 in
@@ -61,9 +56,9 @@ number_short base n good small =
     let end : length (end_with n) ≤ 10 = omega (arith, length-append (codes "_" ++ decimal n) (codes ".html")) in
     let long : 5 < length (end_with n) = omega (arith, length-append (codes "_" ++ decimal n) (codes ".html")) in
     let same : base ++ end_with n ≡ with_number base n = regrouped base (codes "_") (decimal n) (codes ".html") in
-    subst IsShortName same (record {
+    subst IsPageName same (record {
       named = name_with_end base (codes ".html") (end_with n) parts.0 (end_is_word n small) (omega arith) (omega arith);
-      short = omega (arith, length-append base (end_with n));
+      within = omega (arith, length-append base (end_with n));
     })
 
 -- The base of a page
@@ -99,21 +94,21 @@ free_from_holds P (suc others) number taken base each =
 
 -- a free name of such a base is short
 free_short : (taken : List (List ℕ)) (base : List ℕ) → is_page_name (html base) ≡ true → length taken ≤ 9000
-    → IsShortName (free_name taken base)
+    → IsPageName (free_name taken base)
 free_short taken base good few =
-    cond_both (is_taken taken (html base)) (free_from (length taken) 2 taken base) (html base) IsShortName
-    (λ e. free_from_holds IsShortName (length taken) 2 taken base (λ n low. number_short base n good (omega arith)))
+    cond_both (is_taken taken (html base)) (free_from (length taken) 2 taken base) (html base) IsPageName
+    (λ e. free_from_holds IsPageName (length taken) 2 taken base (λ n low. number_short base n good (omega arith)))
     (λ e. base_short base good)
 
 -- so that each page's name is short
 named_short : (index : ℕ) (taken : List (List ℕ)) (uses : List Use) (at : ℕ) (page : PagePlan)
     → index + length uses ≤ 9000 → length taken + length uses ≤ 9000
-    → slice_get (named_from index taken uses) at ≡ Some page → IsShortName page.name
+    → slice_get (named_from index taken uses) at ≡ Some page → IsPageName page.name
 named_short index taken [] at page low few is = absurd (cc)
 named_short index taken (first ∷ uses) zero page low few is =
     let base = good_base index (base_of first.id) in
     let same = same_Some (page_of_use first (free_name taken base)) page is in
-    subst (λ (made : PagePlan). IsShortName made.name) same
+    subst (λ (made : PagePlan). IsPageName made.name) same
     (free_short taken base (base_good index (base_of first.id) (omega arith)) (omega arith))
 named_short index taken (first ∷ uses) (suc at) page low few is =
     let name = free_name taken (good_base index (base_of first.id)) in
@@ -121,7 +116,7 @@ named_short index taken (first ∷ uses) (suc at) page low few is =
 
 -- the names of a world's pages are short, if the pages are few
 pages_short : (world : World) (nodes : List PlanNode) (at : ℕ) (page : PagePlan) → length (pages_of world nodes) ≤ 4096
-    → slice_get (pages_of world nodes) at ≡ Some page → IsShortName page.name
+    → slice_get (pages_of world nodes) at ≡ Some page → IsPageName page.name
 pages_short world nodes at page few is =
     let uses = uses_of world nodes in
     let taken = contents_name ∷ [] in
@@ -130,7 +125,7 @@ pages_short world nodes at page few is =
 
 -- and those of a plan within the limits
 pub plan_short : (world : World) (map : List ℕ) (val : Option (List ℕ)) (plan : Plan) (at : ℕ) (page : PagePlan)
-    → plan_of limits world map val ≡ Ok plan → slice_get plan.pages at ≡ Some page → IsShortName page.name
+    → plan_of limits world map val ≡ Ok plan → slice_get plan.pages at ≡ Some page → IsPageName page.name
 plan_short world map val plan at page is there =
     let known = plan_pages limits world map val plan is in
     let few : length (pages_of world known.nodes) ≤ 4096 = omega (arith, ap length known.are) in
@@ -141,4 +136,4 @@ pub plan_fits : (world : World) (map : List ℕ) (val : Option (List ℕ)) (plan
     → plan_of limits world map val ≡ Ok plan → FitsFolders plan.pages
 plan_fits world map val plan is number at page small there =
     let short = plan_short world map val plan at page is there in
-    name_under number page.name small short.named short.short
+    name_under number page.name small short.named short.within

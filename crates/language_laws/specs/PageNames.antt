@@ -1,5 +1,5 @@
 -- The names of a plan's pages (own).
-use Rattle.std.specs.Prelude.{◌≡◌, ◌≢◌, ◌≤◌, ◌<◌, ◌++◌, ℕ, List, Some, codes, slice_get, true}
+use Rattle.std.specs.Prelude.{◌≡◌, ◌≢◌, ◌≤◌, ◌<◌, ◌++◌, ℕ, List, Some, codes, length, slice_get, true}
 use Rattle.std.specs.Fmt.{decimal}
 use Rattle.dita_doc.specs.Name.{is_name}
 use Rattle.dita_doc.specs.declared.plan.PagePlan.{PagePlan}
@@ -10,6 +10,12 @@ pub record HasDistinctNames (pages : List PagePlan) : Type 0 where
   pub differ : (at other : ℕ) (page another : PagePlan) → at < other → slice_get pages at ≡ Some page
       → slice_get pages other ≡ Some another → page.name ≢ another.name
   pub free : (at : ℕ) (page : PagePlan) → slice_get pages at ≡ Some page → page.name ≢ contents_name
+
+-- The name of a page stays a document name when the folder of its build is put before it: `b1/`, or `b65536/` at most,
+-- which takes 7 of the 255 bytes of a name.
+pub record IsPageName (page : List ℕ) : Type 0 where
+  pub named : is_name page ≡ true
+  pub within : length page ≤ 248
 
 -- each name is a document name under the folder of any build of a script
 abbrev pub FitsFolders : List PagePlan → Type 0

@@ -2,7 +2,6 @@
 
 ghost use Rattle.std.specs.Prelude.{◌≡◌, ◌&&◌, [], ◌∷◌, ℕ, IfOk, slice_get};
 ghost use Rattle.std.specs.Option.{option_copied};
-ghost use Rattle.dita_doc.specs.ClassValue.{value_of};
 ghost use Rattle.dita_doc.specs.declared.plan.Plan as plan_spec;
 ghost use Rattle.link_groups.specs.LinkNodes as spec;
 ghost use Rattle.map_spec.specs.Pages.{local_name, page_for};
@@ -120,8 +119,8 @@ impl LinkNodes {
     }
 }
 
-// The document to which the node at this place leads, if it is local.
-fn name_at(plan: &Plan, at: usize) -> Option<&Name>
+/// The document to which the node at this place leads, if it is local.
+pub fn name_at(plan: &Plan, at: usize) -> Option<&Name>
     ensures { option_copied result ≡ local_name (links_spec.target_of plan.now at) }
 {
     match plan.targets.as_slice().get(at) {
@@ -130,7 +129,8 @@ fn name_at(plan: &Plan, at: usize) -> Option<&Name>
     }
 }
 
-fn node_at(plan: &Plan, at: usize) -> Option<&PlanNode>
+/// The node at this place of the plan, if there is one.
+pub fn node_at(plan: &Plan, at: usize) -> Option<&PlanNode>
     ensures { option_copied result ≡ slice_get plan.now.nodes at }
 {
     plan.nodes.as_slice().get(at)
@@ -181,22 +181,10 @@ fn is_either(value: &str, one: &str, other: &str) -> bool
 fn linking_of(node: &PlanNode) -> &str
     ensures { result.now ≡ spec.linking_of node.now }
 {
-    match carried_value(node, "linking") {
+    match node.cascaded_value("linking") {
         Some(linking) => linking,
         None => "normal",
     }
-}
-
-// The value of an attribute that a node carries, if it has one.
-fn carried_value<'a>(node: &'a PlanNode, name: &str) -> Option<&'a str>
-    ensures { option_copied result ≡ value_of name.now node.now.cascaded }
-{
-    let attribute = node
-        .cascaded
-        .as_slice()
-        .iter()
-        .find(|attribute| attribute.name.as_str() == name)?;
-    Some(attribute.value.as_str())
 }
 
 // Where a document is used by a node. The page of a document is found by what sets pages apart.

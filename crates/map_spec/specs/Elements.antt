@@ -1,6 +1,6 @@
 -- Elements by their types (DITA 1.3, "Specialization in DITA: design, implementation and rules", "The @class attribute
 -- rules and syntax"). That an element without a class that can be read is transparent is our own.
-use Rattle.std.specs.Prelude.{◌==◌, ◌&&◌, ℕ, Bool, false, not, List, [], ◌∷◌, Option, Some, None, Result, Ok, Err, filter, find, length, codes, bytes_eq, if◌then◌else◌}
+use Rattle.std.specs.Prelude.{◌==◌, ◌&&◌, ℕ, Bool, true, false, not, List, [], ◌∷◌, Option, Some, None, Result, Ok, Err, filter, find, length, codes, bytes_eq, if◌then◌else◌}
 use Rattle.std.specs.List.{flat_map, list_any}
 use Rattle.std.specs.Option.{option_map_or}
 use Rattle.dita_doc.specs.ClassValue.{class_of, value_of}
@@ -47,6 +47,17 @@ is_a token element = list_any (bytes_eq token) (tokens_of element)
 
 abbrev pub has_types : Element → Bool
 has_types element = not (length (tokens_of element) == 0)
+
+-- the tokens begin with those of the base
+abbrev pub begins_with : List (List ℕ) → List (List ℕ) → Bool
+begins_with tokens [] = true
+begins_with [] (base ∷ bases) = false
+begins_with (token ∷ tokens) (base ∷ bases) = bytes_eq token base && begins_with tokens bases
+
+-- an element of a type, or of one that specializes it; an element without a readable class is neither
+abbrev pub is_special : Element → Element → Bool
+is_special special base =
+    has_types special && has_types base && begins_with (tokens_of special) (tokens_of base)
 
 abbrev pub is_dita : Element → Bool
 is_dita element = bytes_eq element.name (codes "dita")

@@ -1,6 +1,6 @@
 -- What a reference leads to (DITA 1.3, "URI-based (direct) addressing", "The @format attribute", "The @scope
 -- attribute"). That nothing is inferred from an extension is our own.
-use Rattle.std.specs.Prelude.{◌==◌, ◌||◌, ℕ, Bool, List, [], ◌∷◌, Option, Some, None, Result, Ok, Err, length, option_map, codes, bytes_eq, unwrap_or, if◌then◌else◌}
+use Rattle.std.specs.Prelude.{◌==◌, ◌&&◌, ◌||◌, ℕ, Bool, not, List, [], ◌∷◌, Option, Some, None, Result, Ok, Err, length, option_map, codes, bytes_eq, unwrap_or, if◌then◌else◌}
 use Rattle.std.specs.List.{before_first}
 use Rattle.dita_doc.specs.Bytes.{number_sign}
 use Rattle.dita_doc.specs.declared.plan.Reference.{Reference}
@@ -16,6 +16,11 @@ use Rattle.map_spec.specs.Elements.{attribute}
 abbrev pub if_read : {X : Type 0} → Result X RefFault → Option X
 if_read (Ok value) = Some value
 if_read (Err fault) = None
+
+-- `#./element` names the topic around the element that carries it (DITA 1.3, "URI-based (direct) addressing")
+abbrev pub is_same_topic : Reference → Bool
+is_same_topic reference = (length reference.file == 0) && bytes_eq reference.topic (codes ".")
+    && not (length reference.element == 0)
 
 -- the file of a value, and what stands behind it, from the first `#` on
 abbrev pub file_of : List ℕ → List ℕ

@@ -2,14 +2,14 @@
 use Rattle.std.specs.Prelude.{◌≡◌, ℕ, Bool, List, [], ◌∷◌, ◌++◌, if◌then◌else◌}
 use Rattle.std.specs.BTreeMap.{is_at}
 use Rattle.std.specs.Cmp.Lexicographic.{slice_cmp}
-use Rattle.std.specs.List.{flat_map, list_any}
+use Rattle.std.specs.List.{list_any}
 use Rattle.std.specs.Ordering.{nat_cmp, ordering_then}
 use Rattle.std.specs.declared.cmp.Ordering.{Ordering}
-use Rattle.dita_doc.specs.declared.plan.Affix.{Affix}
 use Rattle.dita_doc.specs.declared.plan.PageId.{PageId}
 use Rattle.dita_doc.specs.declared.plan.PlanNode.{PlanNode}
 use Rattle.map_spec.specs.Pages as pages_spec
 use Rattle.map_spec.specs.Pages.{is_same_page}
+use Rattle.plan_nodes.specs.Affixes.{texts_of}
 use Rattle.page_names.specs.declared.page_uses.PageKey.{PageKey}
 use Rattle.page_names.specs.declared.page_uses.PageUses.{PageUses}
 use Rattle.page_names.specs.Shown.{uses_shown}
@@ -23,9 +23,6 @@ id_by name node = record { doc = name; scope = node.scope; filters = node.filter
 
 abbrev pub use_by : ℕ → List ℕ → PlanNode → pages_spec.Use
 use_by at name node = record { id = id_by name node; node = at }
-
-abbrev pub texts_of : List Affix → List (List ℕ)
-texts_of affixes = flat_map (λ (affix : Affix). affix.prefix ∷ affix.suffix ∷ []) affixes
 
 abbrev pub key_of : PageId → PageKey
 key_of id = record { doc = id.doc; scope = id.scope; filters = id.filters; affixes = texts_of id.affixes }

@@ -2,7 +2,6 @@
 
 ghost use Rattle.std.specs.Prelude.{◌≡◌, ◌++◌, [], ◌∷◌, ℕ, List, IfOk, OnOk, Some, codes, slice_get};
 ghost use Rattle.std.specs.Option.{option_copied};
-ghost use Rattle.dita_doc.specs.ClassValue as class_value_spec;
 ghost use Rattle.dita_doc.specs.declared.plan.PlanNode as plan_node_spec;
 ghost use Rattle.map_spec.specs.Cascade as cascade_spec;
 ghost use Rattle.map_spec.specs.Included as included_spec;
@@ -246,8 +245,8 @@ fn target_by_href(
     let Some(href) = href else {
         return Ok(Target::Nothing);
     };
-    let format = cascaded_value(node, "format").unwrap_or("dita");
-    let scope = cascaded_value(node, "scope").unwrap_or("local");
+    let format = node.cascaded_value("format").unwrap_or("dita");
+    let scope = node.cascaded_value("scope").unwrap_or("local");
     let read = target_by(alloc, href, format, scope, &node.doc)?;
     target_read(alloc, node, href, read, faults)
 }
@@ -270,16 +269,4 @@ fn target_read(
             Ok(Target::Nothing)
         }
     }
-}
-
-/// The value of an attribute that holds for a node, if one was made.
-pub(crate) fn cascaded_value<'a>(node: &'a PlanNode, name: &str) -> Option<&'a str>
-    ensures { option_copied result ≡ class_value_spec.value_of name.now node.now.cascaded }
-{
-    let attribute = node
-        .cascaded
-        .as_slice()
-        .iter()
-        .find(|attribute| attribute.name.as_str() == name)?;
-    Some(attribute.value.as_str())
 }

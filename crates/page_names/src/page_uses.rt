@@ -4,8 +4,8 @@ ghost use Rattle.std.specs.Prelude.{◌≡◌, [], ◌∷◌, ℕ, List, IfOk, O
 ghost use Rattle.dita_doc.specs.declared.plan.PlanNode as plan_node_spec;
 ghost use Rattle.page_names.specs.PageUses as spec;
 
-use dita_doc::{Affix, List, Name, NoMemory, PageId, PlanNode, Text};
-use plan_nodes::{copy_affixes, copy_names, place_of};
+use dita_doc::{List, Name, NoMemory, PageId, PlanNode, Text};
+use plan_nodes::{affix_texts, copy_affixes, copy_names, place_of};
 use std::alloc::{AllocError, Global};
 use std::collections::BTreeSet;
 
@@ -82,17 +82,6 @@ fn key_of(alloc: Global, node: &PlanNode, name: &Name) -> Result<PageKey, AllocE
         doc: name.clone()?,
         scope: node.scope,
         filters: copy_names(alloc, node.filters.as_slice())?,
-        affixes: texts_of(alloc, node.affixes.as_slice())?,
+        affixes: affix_texts(alloc, node.affixes.as_slice())?,
     })
-}
-
-fn texts_of(alloc: Global, affixes: &[Affix]) -> Result<List<Text>, AllocError>
-    ensures { IfOk result (λ texts. texts ≡ spec.texts_of affixes.now) }
-{
-    let mut texts = List::new(alloc);
-    for affix in affixes {
-        texts.push(affix.prefix.clone()?)?;
-        texts.push(affix.suffix.clone()?)?;
-    }
-    Ok(texts)
 }

@@ -17,7 +17,7 @@ ghost use Rattle.readers.specs.Founded as founded_spec;
 ghost use Rattle.readers.specs.Founded.{Grows, StaysFounded};
 ghost use Rattle.readers.specs.Told.{Agrees};
 
-use crate::aim::{cascaded_value, is_reference, target_of};
+use crate::aim::{is_reference, target_of};
 use crate::documents::Documents;
 use crate::page_uses::PageUses;
 use dita_doc::{DocKind, Fault, FaultCode, List, Name, NoMemory, Node, PlanNode, Target};
@@ -293,5 +293,5 @@ fn is_normal(node: &PlanNode) -> bool
         → result ≡ bytes_eq (cascade_spec.cascaded_value world (codes "processing-role") around)
         (codes "normal") }
 {
-    cascaded_value(node, "processing-role").unwrap_or("normal") == "normal"
+    node.cascaded_value("processing-role").unwrap_or("normal") == "normal"
 }

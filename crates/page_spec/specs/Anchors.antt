@@ -1,6 +1,6 @@
 -- The links of a page's elements (DITA 1.3, "URI-based (direct) addressing", "Processing key references to generate text or
 -- link text", "xref", "link", "image"). That a document without a page gets no link, and the faults, are our own.
-use Rattle.std.specs.Prelude.{◌==◌, ◌&&◌, ◌||◌, ℕ, Bool, true, false, not, List, [], ◌∷◌, ◌++◌, Option, Some, None, is_some, length, map, option_map, slice_get, unwrap_or, codes, bytes_eq, if◌then◌else◌}
+use Rattle.std.specs.Prelude.{◌==◌, ◌||◌, ℕ, Bool, true, false, not, List, [], ◌∷◌, ◌++◌, Option, Some, None, is_some, map, option_map, slice_get, unwrap_or, codes, if◌then◌else◌}
 use Rattle.std.specs.List.{filter_map, flat_map}
 use Rattle.std.specs.Option.{option_and_then, option_map_or}
 use Rattle.dita_doc.specs.declared.content.Anchor.{Anchor}
@@ -18,7 +18,7 @@ use Rattle.reader_spec.specs.World.{World}
 use Rattle.map_spec.specs.Elements.{attribute, fault_at, first_child, has_types, is_a, plain_text}
 use Rattle.map_spec.specs.Keys.{id_of_key, key_of}
 use Rattle.map_spec.specs.Pages.{page_for}
-use Rattle.map_spec.specs.Target.{default_format, default_scope, is_far, local_file, target_by}
+use Rattle.map_spec.specs.Target.{default_format, default_scope, is_far, is_same_topic, local_file, target_by}
 use Rattle.map_spec.specs.Titles.{first_in, title_in}
 use Rattle.map_spec.specs.Written.{Element, Whole, Written}
 use Rattle.page_spec.specs.Blocks as blocks
@@ -114,8 +114,7 @@ scope_of element = unwrap_or (attribute (codes "scope") element) default_scope
 -- `#./element` means the topic where the element stands, on this page
 abbrev pub in_topic : Here → List ℕ → List ℕ → Target → Target
 in_topic here topic href (targets.Local name reference) =
-    if (length reference.file == 0) && bytes_eq reference.topic (codes ".") && not (length reference.element == 0)
-    then targets.Local here.page.id.doc (record reference { topic = topic })
+    if is_same_topic reference then targets.Local here.page.id.doc (record reference { topic = topic })
     else targets.Local name reference
 in_topic here topic href target = target
 

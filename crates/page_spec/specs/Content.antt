@@ -16,14 +16,14 @@ use Rattle.dita_doc.specs.declared.plan.Target.TheVariants as targets
 use Rattle.ditaval_rules.specs.Verdict.{excluded}
 use Rattle.href_text.specs.Joined.{joined}
 use Rattle.href_text.specs.Reference.{reference_of}
-use Rattle.map_spec.specs.Elements.{attribute, fault_at, has_value}
+use Rattle.map_spec.specs.Elements.{attribute, fault_at, has_value, is_special}
 use Rattle.map_spec.specs.Judged.{group_faults}
 use Rattle.map_spec.specs.Keys.{id_of_key, key_of}
-use Rattle.map_spec.specs.Target.{if_read}
+use Rattle.map_spec.specs.Target.{if_read, is_same_topic}
 use Rattle.map_spec.specs.Titles.{id_of}
 use Rattle.map_spec.specs.Written.{Element, Written, End, Chars, Node, side_by_side}
 use Rattle.page_spec.specs.Places.{Standing, is_topic, target_in}
-use Rattle.page_spec.specs.Pushes.{is_same_topic, is_special, without_names}
+use Rattle.page_spec.specs.Pushes.{without_names}
 
 -- Where a page is resolved: its document, the documents with their pushes, the keys of its scope, and the rules by which an
 -- element is judged: those of the build and of each filter of the page

@@ -1,6 +1,6 @@
 -- Pushing content (DITA 1.3, "The @conaction attribute", "Processing conrefs"). The order of pushes, what is dropped and
 -- the faults are our own.
-use Rattle.std.specs.Prelude.{◌+◌, ◌==◌, ◌&&◌, ℕ, Bool, true, false, not, List, [], ◌∷◌, ◌++◌, Option, Some, None, filter, find, is_some, length, map, option_map, unwrap_or, codes, bytes_eq, if◌then◌else◌}
+use Rattle.std.specs.Prelude.{◌+◌, ◌==◌, ◌&&◌, ℕ, Bool, true, false, not, List, [], ◌∷◌, ◌++◌, Option, Some, None, filter, find, is_some, map, option_map, unwrap_or, codes, bytes_eq, if◌then◌else◌}
 use Rattle.std.specs.List.{filter_map, flat_map, list_any}
 use Rattle.std.specs.Option.{option_and_then, option_map_or}
 use Rattle.dita_doc.specs.declared.content.Push.{Push}
@@ -14,23 +14,10 @@ use Rattle.dita_doc.specs.declared.plan.Reference.{Reference}
 use Rattle.href_text.specs.Joined.{joined}
 use Rattle.href_text.specs.Reference.{reference_of}
 use Rattle.reader_spec.specs.World.{World}
-use Rattle.map_spec.specs.Elements.{attribute, fault_at, has_types, has_value, tokens_of}
-use Rattle.map_spec.specs.Target.{if_read}
+use Rattle.map_spec.specs.Elements.{attribute, fault_at, has_value, is_special}
+use Rattle.map_spec.specs.Target.{if_read, is_same_topic}
 use Rattle.map_spec.specs.Written.{Element, Whole, Written, End, Chars, Node, document, element_in, first_sibling, side_by_side, size}
 use Rattle.page_spec.specs.Places.{Standing, TopicAt, all_standing, target_in}
-
--- Types
-
--- the tokens begin with those of the base
-abbrev pub begins_with : List (List ℕ) → List (List ℕ) → Bool
-begins_with tokens [] = true
-begins_with [] (base ∷ bases) = false
-begins_with (token ∷ tokens) (base ∷ bases) = bytes_eq token base && begins_with tokens bases
-
--- an element of a type, or of one that specializes it; an element without a readable class is neither
-abbrev pub is_special : Element → Element → Bool
-is_special special base =
-    has_types special && has_types base && begins_with (tokens_of special) (tokens_of base)
 
 -- What an element pushes
 
@@ -59,11 +46,6 @@ conref_of standing kind = option_and_then (attribute (codes "conref")) (carrier_
 pub record PushTarget : Type 0 where
   pub doc : List ℕ
   pub standing : Standing
-
--- `#./element` names the topic around the pushing element
-abbrev pub is_same_topic : Reference → Bool
-is_same_topic reference = (length reference.file == 0) && bytes_eq reference.topic (codes ".")
-    && not (length reference.element == 0)
 
 abbrev pub topic_of : Standing → Reference → List ℕ
 topic_of standing reference = if is_same_topic reference

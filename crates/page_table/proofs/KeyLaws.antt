@@ -9,7 +9,8 @@ use Rattle.dita_doc.proofs.NameOrder.{same_from_equal}
 use Rattle.dita_doc.specs.declared.plan.PageId.{PageId}
 use Rattle.dita_doc.specs.declared.plan.PagePlan.{PagePlan}
 use Rattle.map_spec.specs.Pages.{are_same_affixes, are_same_texts, is_page_for}
-use Rattle.page_table.specs.Pages.{key_of, order, texts_of}
+use Rattle.plan_nodes.specs.Affixes.{texts_of}
+use Rattle.page_table.specs.Pages.{key_of, order}
 use Rattle.page_table.specs.declared.keys.PageKey.{PageKey}
 use Rattle.plan_nodes.proofs.OrderLaws.{affixes_same, both_equal, numbers_same, texts_equal, texts_same, then_is}
 

@@ -1,22 +1,18 @@
 -- The table of a plan's pages (own): for each document its first page, and for each key the page that has it.
-use Rattle.std.specs.Prelude.{◌≡◌, ℕ, true, false, List, ◌∷◌, [], Option, Some, None, option_map}
+use Rattle.std.specs.Prelude.{◌≡◌, ℕ, true, false, List, Option, Some, None, option_map}
 use Rattle.std.specs.BTreeMap as tree
 use Rattle.std.specs.Cmp.Lexicographic.{slice_cmp}
 use Rattle.std.specs.Coded.{Coded-set, coded_option, coded_ℕ}
-use Rattle.std.specs.List.{flat_map}
 use Rattle.std.specs.Ordering.{nat_cmp, ordering_then}
 use Rattle.std.specs.declared.cmp.Ordering.{Ordering}
 use Rattle.std.proofs.Props.{props}
-use Rattle.dita_doc.specs.declared.plan.Affix.{Affix}
 use Rattle.dita_doc.specs.declared.plan.PageId.{PageId}
 use Rattle.dita_doc.specs.declared.plan.PagePlan.{PagePlan}
 use Rattle.map_spec.specs.Pages.{is_page_for, is_page_of, page_for, place_of}
+use Rattle.plan_nodes.specs.Affixes.{texts_of}
 use Rattle.page_table.specs.declared.keys.PageKey.{PageKey}
 use Rattle.page_table.specs.declared.table.DocPages.{DocPages}
 use Rattle.page_table.specs.declared.table.PageTable.{PageTable}
-
-abbrev pub texts_of : List Affix → List (List ℕ)
-texts_of affixes = flat_map (λ (affix : Affix). affix.prefix ∷ affix.suffix ∷ []) affixes
 
 -- the key of the page of a document that is set apart as another page is
 abbrev pub key_of : List ℕ → PageId → PageKey

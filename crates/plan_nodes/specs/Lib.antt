@@ -1,3 +1,4 @@
+pub mod Affixes
 pub mod Carried
 pub mod Ends
 pub mod Given

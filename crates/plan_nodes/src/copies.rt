@@ -1,6 +1,7 @@
 //! Copies of nodes and of what they have.
 
 ghost use Rattle.std.specs.Prelude.{◌≡◌, IfOk};
+ghost use Rattle.plan_nodes.specs.Affixes as affixes_spec;
 
 use dita_doc::{Affix, Attribute, List, Name, PlanNode, Text};
 use std::alloc::{AllocError, Global};
@@ -81,4 +82,17 @@ pub fn copy_attributes(
         copies.push(attribute.clone()?)?;
     }
     Ok(copies)
+}
+
+/// The texts of affixes, each prefix before its suffix. Lists of affixes are the same exactly if
+/// their texts are.
+pub fn affix_texts(alloc: Global, affixes: &[Affix]) -> Result<List<Text>, AllocError>
+    ensures { IfOk result (λ texts. texts ≡ affixes_spec.texts_of affixes.now) }
+{
+    let mut texts = List::new(alloc);
+    for affix in affixes {
+        texts.push(affix.prefix.clone()?)?;
+        texts.push(affix.suffix.clone()?)?;
+    }
+    Ok(texts)
 }

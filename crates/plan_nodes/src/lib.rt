@@ -8,7 +8,9 @@ mod homes;
 mod places;
 mod words;
 
-pub use copies::{copy_affixes, copy_attributes, copy_names, copy_node, copy_nodes, copy_texts};
+pub use copies::{
+    affix_texts, copy_affixes, copy_attributes, copy_names, copy_node, copy_nodes, copy_texts,
+};
 pub use homes::Homes;
 pub use places::{fault_of, in_tables, place_of, set_ends};
 pub use words::{contains_text, push_once, words_of};

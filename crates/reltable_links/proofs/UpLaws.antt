@@ -1,14 +1,13 @@
 -- The way up from a node of a tree: what stands on it has the node within its span.
-use Rattle.std.specs.Prelude.{◌≡◌, ◌+◌, ◌<◌, ◌≤◌, ◌==◌, ℕ, zero, suc, Bool, true, false, List, [], ◌∷◌, Option, Some, None, find, slice_get, if◌then◌else◌}
-use Rattle.std.specs.Option.{option_map_or}
-use Rattle.std.proofs.Common.{refl, sym, ap, subst, ◌∙◌, arith, eqb}
+use Rattle.std.specs.Prelude.{◌≡◌, ◌+◌, ◌<◌, ◌≤◌, ℕ, zero, suc, Bool, true, false, List, ◌∷◌, Some, None, find, slice_get, if◌then◌else◌}
+use Rattle.std.proofs.Common.{refl, sym, ap, subst, ◌∙◌, arith}
 use Rattle.std.proofs.Math.Logic.{◌⊎◌, inl, inr, ⊎_elim}
 use Rattle.std.proofs.lemmas.Bool.{cases_lt}
-use Rattle.std.proofs.lemmas.Bool.Decides.{nat_tests}
 use Rattle.std.proofs.lemmas.Option.{same_Some}
 use Rattle.dita_doc.specs.declared.plan.PlanNode.{PlanNode}
 use Rattle.map_spec.specs.Cascade.{places_up, steps_up}
 use Rattle.plan_nodes.specs.Preorder.{HasParentsBefore, IsTree}
+use Rattle.plan_nodes.proofs.PlaceLaws.{up_from}
 use Rattle.reltable_links.proofs.ListLaws.{before_there}
 use Rattle.reltable_links.proofs.SpanLaws.{tree_span}
 
@@ -17,40 +16,6 @@ pub tree_before : (nodes : List PlanNode) → IsTree nodes → HasParentsBefore 
 tree_before nodes tree = λ at node some is.
     let first = before_there 0 at nodes node some is in
     (tree_span nodes tree 0 at first.0 node some first.1 is).beside.before
-
--- one step up, which takes no more steps than it needs
-same_step : (nodes : List PlanNode) → HasParentsBefore nodes → (steps more at : ℕ) → at < suc steps → at < suc more
-    → (root : Bool) → (at == 0) ≡ root → (found : Option PlanNode) → slice_get nodes at ≡ found
-    → ((up : ℕ) → up < steps → up < more → steps_up steps nodes up ≡ steps_up more nodes up)
-    → (if root then [] else option_map_or (λ (node : PlanNode). steps_up steps nodes node.parent) found [])
-    ≡ (if root then [] else option_map_or (λ (node : PlanNode). steps_up more nodes node.parent) found [])
-same_step nodes before steps more at few enough true e found is same = refl
-same_step nodes before steps more at few enough false e None is same = refl
-same_step nodes before steps more at few enough false e (Some node) is same =
-    let above : 0 < at = grind (arith, nat_tests) in
-    let up = before at node above is in
-    same node.parent (omega arith) (omega arith)
-
-same_steps : (nodes : List PlanNode) → HasParentsBefore nodes → (steps more at : ℕ) → at < steps → at < more
-    → steps_up steps nodes at ≡ steps_up more nodes at
-same_steps nodes before zero more at few enough = absurd (omega arith)
-same_steps nodes before (suc steps) zero at few enough = absurd (omega arith)
-same_steps nodes before (suc steps) (suc more) at few enough =
-    ap (λ places. at ∷ places) (same_step nodes before steps more at few enough (at == 0) refl (slice_get nodes at) refl
-    (λ up fewer less. same_steps nodes before steps more up fewer less))
-
-module _ (nodes : List PlanNode) (before : HasParentsBefore nodes) (at : ℕ) (node : PlanNode)
-    (is : slice_get nodes at ≡ Some node) where
-  up_one : (steps : ℕ) → 0 < at → steps_up (suc steps) nodes at ≡ at ∷ steps_up steps nodes node.parent
-  up_one steps above = let other : eqb at 0 ≡ false = grind (arith, nat_tests) in rw (other, is) refl
-
-  -- the places up from a node go on from its parent
-  pub up_from : 0 < at → places_up nodes at ≡ at ∷ places_up nodes node.parent
-  up_from above =
-      let more : at + 1 ≡ suc at = omega arith in
-      let up = before at node above is in
-      ap (λ steps. steps_up steps nodes at) more ∙ up_one at above
-      ∙ ap (λ places. at ∷ places) (same_steps nodes before at (node.parent + 1) node.parent up (omega arith))
 
 -- a node has another within its span, or is it
 pub record IsOver (nodes : List PlanNode) (first at : ℕ) : Type 0 where

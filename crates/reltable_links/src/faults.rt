@@ -1,18 +1,16 @@
 //! The faults of nodes below cells that lead to documents without pages.
 
-ghost use Rattle.std.specs.Prelude.{◌≡◌, ◌++◌, ℕ, filter, slice_get, OnOk};
+ghost use Rattle.std.specs.Prelude.{◌≡◌, ◌++◌, ℕ, filter, OnOk};
 ghost use Rattle.std.specs.List.{flat_map};
 ghost use Rattle.std.specs.List.Sorted.{IsNonDecreasingBy};
-ghost use Rattle.std.specs.Option.{option_copied};
-ghost use Rattle.map_spec.specs.Pages.{local_name};
-ghost use Rattle.page_spec.specs.Links as links_spec;
 ghost use Rattle.reltable_links.specs.Below as below_spec;
 ghost use Rattle.reltable_links.specs.RowTable as spec;
 ghost use Rattle.reltable_links.specs.declared.cells.Cell as cell_spec;
 
 use crate::cells::Cell;
 use crate::placed::below;
-use dita_doc::{Fault, FaultCode, List, Name, NoMemory, Plan, PlanNode, Target};
+use dita_doc::{Fault, FaultCode, List, NoMemory, Plan};
+use link_groups::{name_at, node_at};
 use plan_nodes::fault_of;
 use std::alloc::Global;
 
@@ -69,20 +67,4 @@ fn append_fault(
     };
     faults.push(fault_of(alloc, node, FaultCode::LinkNoPage, name.as_str())?)?;
     Ok(())
-}
-
-// The document to which the node at this place leads, if it is local.
-fn name_at(plan: &Plan, at: usize) -> Option<&Name>
-    ensures { option_copied result ≡ local_name (links_spec.target_of plan.now at) }
-{
-    match plan.targets.as_slice().get(at) {
-        Some(Target::Local(name, _)) => Some(name),
-        _ => None,
-    }
-}
-
-fn node_at(plan: &Plan, at: usize) -> Option<&PlanNode>
-    ensures { option_copied result ≡ slice_get plan.now.nodes at }
-{
-    plan.nodes.as_slice().get(at)
 }

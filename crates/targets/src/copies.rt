@@ -2,7 +2,7 @@
 
 ghost use Rattle.std.specs.Prelude.{◌≡◌, IfOk};
 
-use dita_doc::{Fault, KeyAnswer, List, NoMemory, Reference, Target};
+use dita_doc::{KeyAnswer, NoMemory, Reference, Target, copy_faults};
 use std::alloc::Global;
 
 /// A copy of a target with texts of its own.
@@ -34,25 +34,10 @@ pub fn copy_reference(_alloc: Global, reference: &Reference) -> Result<Reference
 pub fn copy_answer(alloc: Global, answer: &KeyAnswer) -> Result<KeyAnswer, NoMemory>
     ensures { IfOk result (λ copy. copy ≡ answer.now) }
 {
-    let mut faults = List::new(alloc);
-    for fault in answer.faults.as_slice() {
-        faults.push(copy_fault(fault)?)?;
-    }
     Ok(KeyAnswer {
         node: answer.node,
         target: copy_target(alloc, &answer.target)?,
         label: answer.label.clone()?,
-        faults,
-    })
-}
-
-fn copy_fault(fault: &Fault) -> Result<Fault, NoMemory>
-    ensures { IfOk result (λ copy. copy ≡ fault.now) }
-{
-    Ok(Fault {
-        name: fault.name.clone()?,
-        line: fault.line,
-        code: fault.code,
-        detail: fault.detail.clone()?,
+        faults: copy_faults(alloc, answer.faults.as_slice())?,
     })
 }

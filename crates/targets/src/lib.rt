@@ -13,4 +13,4 @@ mod target;
 pub use copies::{copy_answer, copy_reference, copy_target};
 pub use keyref::split_key;
 pub use named::{Named, named_of};
-pub use target::{file_target, is_external, is_far, target_by};
+pub use target::{file_target, if_read, is_external, is_far, is_same_topic, target_by};

@@ -5,7 +5,7 @@ ghost use Rattle.href_text.specs.Reference as reference_spec;
 ghost use Rattle.map_spec.specs.Target as target_spec;
 ghost use Rattle.targets.specs.Named as named_spec;
 
-use dita_doc::{Name, NoMemory, Stop, Target, Text, split_text_at_first};
+use dita_doc::{Name, NoMemory, Reference, Stop, Target, Text, split_text_at_first};
 use href_text::{RefFault, join_name, read_reference};
 use std::alloc::Global;
 
@@ -67,6 +67,13 @@ pub fn is_external(value: &str) -> bool
     false
 }
 
+/// Whether a reference is `#./element`, which names the topic around the element that carries it.
+pub fn is_same_topic(reference: &Reference) -> bool
+    ensures { result ≡ target_spec.is_same_topic reference.now }
+{
+    reference.file.is_empty() && reference.topic.as_str() == "." && !reference.element.is_empty()
+}
+
 // The topic that a value names from the document `doc`.
 fn topic_target(alloc: Global, value: &str, doc: &Name) -> Result<Option<Target>, NoMemory>
     ensures { IfOk result (λ target. target ≡ target_spec.local_topic doc.now
@@ -112,8 +119,8 @@ fn split_file(value: &str) -> (&str, Option<&str>)
     }
 }
 
-// What was read, if it was.
-fn if_read<T: Drop>(read: Result<T, Stop<RefFault>>) -> Result<Option<T>, NoMemory>
+/// What was read, if it was: a reference or a name that can't be read is none.
+pub fn if_read<T: Drop>(read: Result<T, Stop<RefFault>>) -> Result<Option<T>, NoMemory>
     ensures { IfOk result (λ value. named_spec.IsIfRead value read) }
 {
     match read {

@@ -4,7 +4,6 @@ ghost use Rattle.std.specs.Prelude.{◌≡◌, ◌++◌, [], codes, false, slice
 ghost use Rattle.std.specs.List.{flat_map};
 ghost use Rattle.std.specs.Option.{option_copied};
 ghost use Rattle.dita_doc.specs.HtmlEscapes as html_escapes_spec;
-ghost use Rattle.ditaval_rules.specs.Verdict as verdict_spec;
 ghost use Rattle.page_spec.specs.Blocks as blocks_spec;
 ghost use Rattle.page_spec.specs.Contents as contents_spec;
 ghost use Rattle.page_spec.specs.Links as links_spec;
@@ -25,6 +24,7 @@ use crate::titles::navtitle_of;
 use dita_doc::{
     Attribute, NoMemory, Plan, PlanKind, PlanNode, Target, Text, append_html, append_html_value,
 };
+use ditaval_rules::is_conditional;
 use html_page::append_anchor;
 use key_scopes::ScopeTable;
 use plan_nodes::Homes;
@@ -204,15 +204,6 @@ fn append_data(out: &mut Text, given: &Attribute) -> Result<(), AllocError>
     out.append("=\"")?;
     append_html_value(out, given.value.as_str())?;
     out.append("\"")
-}
-
-fn is_conditional(name: &str) -> bool
-    ensures { result ≡ verdict_spec.is_conditional name.now }
-{
-    matches!(
-        name,
-        "audience" | "platform" | "product" | "otherprops" | "props" | "deliveryTarget"
-    )
 }
 
 // Appends a label, which leads where the item leads.

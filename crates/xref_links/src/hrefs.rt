@@ -1,6 +1,6 @@
 //! Hrefs as they are written, and what they lead to.
 
-ghost use Rattle.std.specs.Prelude.{◌≡◌, ◌==◌, ◌&&◌, ◌||◌, ℕ, List, IfOk, bytes_eq, codes, length, not, unwrap_or};
+ghost use Rattle.std.specs.Prelude.{◌≡◌, ◌||◌, ℕ, List, IfOk, codes, unwrap_or};
 ghost use Rattle.dita_doc.specs.ClassValue as class_value_spec;
 ghost use Rattle.href_text.specs.Reference as reference_spec;
 ghost use Rattle.map_spec.specs.Elements as elements_spec;
@@ -11,7 +11,7 @@ ghost use Rattle.xref_links.specs.Adding as spec;
 
 use crate::page::{Page, Standing};
 use dita_doc::{Fault, FaultCode, List, NoMemory, Node, Reference, Target, Text};
-use targets::{file_target, is_external, is_far, target_by};
+use targets::{file_target, is_external, is_far, is_same_topic, target_by};
 
 // What the href of an element leads to; nothing, with a fault, if it can't be read.
 pub(crate) fn read_href<'a>(
@@ -56,13 +56,6 @@ fn in_topic(page: Page<'_>, topic: &str, target: Target) -> Result<Target, NoMem
         }
         target => Ok(target),
     }
-}
-
-fn is_same_topic(reference: &Reference) -> bool
-    ensures { result ≡ ((length reference.now.file == 0) && bytes_eq reference.now.topic (codes ".")
-        && not (length reference.now.element == 0)) }
-{
-    reference.file.is_empty() && reference.topic.as_str() == "." && !reference.element.is_empty()
 }
 
 // What the href of an image leads to, whatever its format; nothing, with a fault, if it can't be

@@ -7,7 +7,7 @@ use Rattle.doc_maker.specs.Building.{whole}
 use Rattle.map_spec.specs.Written.{written_in}
 use Rattle.readers.specs.Told.{Agrees, Told, tree_found}
 use Rattle.conref_pull.specs.Hrefs.{HaveNamed}
-use Rattle.conref_pull.specs.Resolved.{root_element}
+use Rattle.doc_elements.specs.Root.{root_element}
 use Rattle.conref_pull.proofs.AskingLaws.{about_doc}
 use Rattle.conref_pull.proofs.RootLaws.{faults_none, faults_rootless, faults_some}
 use Rattle.conref_pull.proofs.calls.too_many.Goals as goal

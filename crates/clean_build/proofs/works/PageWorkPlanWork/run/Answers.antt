@@ -12,7 +12,7 @@ use Rattle.readers.specs.Told.{tree_found}
 use Rattle.clean_build.specs.Ground.{IsReady}
 use Rattle.clean_build.specs.Made.{IsMadeAt, IsPageMade}
 use Rattle.clean_build.specs.Names.{about_page}
-use Rattle.clean_build.specs.Root.{root_element, root_named}
+use Rattle.doc_elements.specs.Root.{root_element, root_named}
 use Rattle.clean_build.proofs.NameLaws.{stays_doc, stays_with}
 use Rattle.clean_build.proofs.PageLaws.{page_rooted}
 use Rattle.clean_build.proofs.ReadyLaws.{ok_under}

@@ -18,5 +18,5 @@ returns c = λ all acting tabled.
     tabled_fault all acting c.args.self.now (record { entries = c.add_fault.new.self; faults = c.push.new.self })
     c.args.name.now seen tabled
     (subst (λ f. IsChanged c.args.self.now.entries c.add_fault.new.self c.args.name.now (table.with_fault f))
-    (c.in_ok-copy_fault.ensures ∙ fault_is) c.in_ok-add_fault.ensures)
+    (c.in_ok-clone.ensures.cases ∙ fault_is) c.in_ok-add_fault.ensures)
     refl (c.in_ok-push.ensures ∙ ap (λ f. c.args.self.now.faults ++ f ∷ []) fault_is)

@@ -1,0 +1,176 @@
+-- An element that is opened, holds what is resolved, and is closed: as it is, or with what it takes.
+use Rattle.std.specs.Prelude.{◌≡◌, ◌++◌, ℕ, Bool, true, false, List, [], Option, Some, Result, Ok, Err, IsErrAnd}
+use Rattle.std.proofs.Common.{refl, sym, ap, ◌∙◌}
+use Rattle.dita_doc.specs.declared.doc.Attribute.{Attribute}
+use Rattle.dita_doc.specs.declared.stop.Stop.{Stop}
+use Rattle.doc_maker.specs.Building.{closed, opened}
+use Rattle.doc_maker.specs.Made.{building}
+use Rattle.doc_maker.specs.declared.maker.DocMaker.{DocMaker}
+use Rattle.map_spec.specs.Judged.{group_faults}
+use Rattle.map_spec.specs.Written.{Element, Whole, Written}
+use Rattle.page_spec.specs.Content.{Made, Setting, merged_element, topic_within, without_id}
+use Rattle.reader_spec.specs.World.{World}
+use Rattle.readers.specs.Setting.{Stand}
+use Rattle.conref_pull.specs.Count.{OneMore}
+use Rattle.conref_pull.specs.Judging.{with_attributes}
+use Rattle.conref_pull.specs.Merging.{IsMerged}
+use Rattle.conref_pull.specs.Putting.{built}
+use Rattle.conref_pull.specs.Rules.{some_exclude}
+use Rattle.conref_pull.specs.Walking.{Here, IsReady, IsWalked, Walks, among_made, inside_of, kept_made, merged_made}
+use Rattle.conref_pull.specs.declared.merge.Merged.{Merged}
+use Rattle.conref_pull.specs.declared.resolver.Resolver.{Resolver}
+use Rattle.conref_pull.specs.declared.resolver.TooMany.{TooMany}
+use Rattle.conref_pull.specs.declared.tables.PlaceTables.{PlaceTables}
+use Rattle.conref_pull.proofs.AroundLaws.{Counts, Opens, around_not, closes_by, counts_one, counts_room, element_put_as, home_kept, merged_count, merged_goes, merged_not, merged_stays, opened_named, opens_by, page_judged, page_one, put_around, ready_opened}
+use Rattle.conref_pull.proofs.ChainLaws.{shown_inside}
+use Rattle.conref_pull.proofs.WalkLaws.{walks_as, walks_err}
+
+-- the page, with what was made so far
+abbrev pub at_maker : Resolver → DocMaker → Resolver
+at_maker a maker = record a { maker = maker }
+
+-- As it is
+
+module _ {world : World} {stand : Stand} {links : ℕ} {here : Here} {held name : List ℕ} {attributes : List Attribute}
+    {a b : Resolver} {places : PlaceTables} (is_range : Bool) (topic : List ℕ) (element : Element) (inside : Written)
+    (opener : DocMaker) (counted : OneMore a b) (named : name ≡ element.name)
+    (are : attributes ≡ (without_id is_range element).attributes)
+    (into : building opener ≡ opened (built b) (element_put_as name attributes element.doc element.line
+    element.href_doc))
+    (holds : held ≡ topic_within is_range element topic) (ready : IsReady world stand links here a places) where
+  abbrev c : Resolver
+  c = at_maker b opener
+
+  abbrev given : Element
+  given = element_put_as name attributes element.doc element.line element.href_doc
+
+  counts : Counts [] a b
+  counts = counts_one a b counted
+
+  opens : Opens [] (without_id is_range element) a c
+  opens = opens_by [] (without_id is_range element) given a b c counts refl into
+      (opened_named is_range element name attributes element.href_doc named are (home_kept is_range element))
+
+  now : IsReady world stand links (inside_of here) c places
+  now = ready_opened world stand links here [] given a b c places ready (page_one a b counted) counts
+      (counts_room [] a b b counted counts) refl into
+
+  abbrev content : Made
+  content = among_made (inside_of here) false (topic_within is_range element topic) inside
+
+  held_is : (result : Result (Unit {0}) (Stop TooMany)) (d : Resolver) (after : PlaceTables)
+      → (IsReady world stand links (inside_of here) c places
+      → Walks result here.setting.pushed links (among_made (inside_of here) false held inside)
+      (at_maker b opener) d after)
+      → Walks result here.setting.pushed links content c d after
+  held_is result d after walked = walks_as result here.setting.pushed links
+      (among_made (inside_of here) false held inside) content c d after
+      (ap (λ (t : List ℕ). among_made (inside_of here) false t inside) holds) (walked now)
+
+  pub kept_put : {d : Resolver} {after : PlaceTables} (closer : DocMaker)
+      → (IsReady world stand links (inside_of here) (at_maker b opener) places
+      → IsWalked here.setting.pushed links (among_made (inside_of here) false held inside) (at_maker b opener) d after)
+      → building closer ≡ closed (built d)
+      → IsWalked here.setting.pushed links (kept_made here is_range topic element inside) a (at_maker d closer) after
+  kept_put {d} {after} closer walked close = put_around here.setting.pushed links is_range element content [] a c d
+      (at_maker d closer) after opens (held_is (Ok tt) d after walked) (closes_by d (at_maker d closer) refl close)
+
+  pub kept_not : (result : Result (Unit {0}) (Stop TooMany)) (stop : Stop TooMany) (d : Resolver) (after : PlaceTables)
+      → IsErrAnd result (λ e. e ≡ stop)
+      → (IsReady world stand links (inside_of here) (at_maker b opener) places
+      → Walks (Err stop) here.setting.pushed links (among_made (inside_of here) false held inside)
+      (at_maker b opener) d after)
+      → Walks result here.setting.pushed links (kept_made here is_range topic element inside) a d after
+  kept_not result stop d after is walked =
+      walks_err result stop here.setting.pushed links (kept_made here is_range topic element inside) a d after is
+      (around_not stop here.setting.pushed links is_range element content [] a c d after opens
+      (held_is (Err stop) d after walked))
+
+-- With what it takes
+
+module _ {world : World} {stand : Stand} {links : ℕ} {here : Here} {merged : Merged} {a b c : Resolver}
+    {places : PlaceTables} (is_range : Bool) (topic : List ℕ) (element target : Element) (inside : Written)
+    (counted : OneMore a b) (is : IsMerged merged (merged_element element target))
+    (judged : c ≡ record b { faults = b.faults ++ group_faults (with_attributes merged.attributes element) })
+    (ready : IsReady world stand links here a places) where
+  rules : here.setting.rules ≡ b.rules
+  rules = ap (λ (s : Setting). s.rules) ready.setting ∙ sym (ap (λ (r : Resolver). r.rules) counted.state)
+
+  pub taken_goes : true ≡ some_exclude b.rules merged.attributes
+      → IsWalked here.setting.pushed links (merged_made here is_range topic (merged_element element target) inside) a c
+      places
+  taken_goes gone = merged_goes here links is_range topic element target inside merged a b c places counted is judged
+      rules gone ready.within ready.tables
+
+module _ {world : World} {stand : Stand} {links : ℕ} {here : Here} {held name : List ℕ} {merged own : Merged}
+    {a b c : Resolver} {places : PlaceTables} (is_range : Bool) (topic : List ℕ) (element target : Element)
+    (inside : Written) (opener : DocMaker) (counted : OneMore a b) (is : IsMerged merged
+    (merged_element element target))
+    (judged : c ≡ record b { faults = b.faults ++ group_faults (with_attributes merged.attributes element) })
+    (left : false ≡ some_exclude b.rules merged.attributes) (named : name ≡ element.name)
+    (written : (whole : Element) → IsMerged merged whole → IsMerged own (without_id is_range whole))
+    (into : building opener ≡ opened (built c) (element_put_as name own.attributes element.doc element.line
+    own.href_doc)) (holds : held ≡ topic_within is_range (merged_element element target) topic)
+    (ready : IsReady world stand links here a places) where
+  abbrev whole : Element
+  whole = merged_element element target
+
+  abbrev d : Resolver
+  d = at_maker c opener
+
+  abbrev put_as : Element
+  put_as = element_put_as name own.attributes element.doc element.line own.href_doc
+
+  rules_are : here.setting.rules ≡ b.rules
+  rules_are = rules is_range topic element target inside counted is judged ready
+
+  put_is : put_as ≡ without_id is_range whole
+  put_is = opened_named is_range whole name own.attributes own.href_doc named (written whole is).attributes
+      (written whole is).href_doc
+
+  counts_all : Counts (group_faults whole) a c
+  counts_all = merged_count here links is_range topic element target inside merged a b c places counted is judged
+      rules_are
+
+  ready_held : IsReady world stand links (inside_of here) d places
+  ready_held = ready_opened world stand links here (group_faults whole) put_as a c d places ready
+      (page_judged _ a b c counted judged) counts_all (counts_room (group_faults whole) a b c counted counts_all) refl
+      into
+
+  content_taken : (result : Result (Unit {0}) (Stop TooMany)) (kept : Written) (e : Resolver) (after : PlaceTables)
+      → kept ≡ inside → (IsReady world stand links (inside_of here) d places
+      → Walks result here.setting.pushed links (among_made (inside_of here) false held kept)
+      (at_maker c opener) e after)
+      → Walks result here.setting.pushed links
+      (among_made (inside_of here) false (topic_within is_range whole topic) inside) d e after
+  content_taken result kept e after same walked = walks_as result here.setting.pushed links
+      (among_made (inside_of here) false held kept)
+      (among_made (inside_of here) false (topic_within is_range whole topic) inside) d e after
+      (ap (λ (t : List ℕ). among_made (inside_of here) false t kept) holds
+      ∙ ap (among_made (inside_of here) false (topic_within is_range whole topic)) same) (walked ready_held)
+
+  pub taken_put : {first last : Element} {kept : Written} {e : Resolver} {after : PlaceTables} (closer : DocMaker)
+      → ◌≡◌ {A = Option Whole} (Some (first, kept)) (Some (last, inside))
+      → (IsReady world stand links (inside_of here) (at_maker c opener) places
+      → IsWalked here.setting.pushed links (among_made (inside_of here) false held kept) (at_maker c opener) e after)
+      → building closer ≡ closed (built e)
+      → IsWalked here.setting.pushed links (merged_made here is_range topic (merged_element element target) inside) a
+      (at_maker e closer) after
+  taken_put {first} {last} {kept} {e} {after} closer same walked close =
+      merged_stays here links is_range topic element target inside merged a b c places counted is judged rules_are
+      put_as d e (at_maker e closer) after left refl into put_is (content_taken (Ok tt) kept e after
+      (shown_inside (first, kept) (last, inside) same) walked) refl close
+
+  pub taken_not : {first last : Element} {kept : Written} (result : Result (Unit {0}) (Stop TooMany))
+      (stop : Stop TooMany) (e : Resolver) (after : PlaceTables) → IsErrAnd result (λ f. f ≡ stop)
+      → ◌≡◌ {A = Option Whole} (Some (first, kept)) (Some (last, inside))
+      → (IsReady world stand links (inside_of here) (at_maker c opener) places
+      → Walks (Err stop) here.setting.pushed links (among_made (inside_of here) false held kept)
+      (at_maker c opener) e after)
+      → Walks result here.setting.pushed links (merged_made here is_range topic
+      (merged_element element target) inside) a e after
+  taken_not {first} {last} {kept} result stop e after ended same walked =
+      walks_err result stop here.setting.pushed links (merged_made here is_range topic whole inside) a e after ended
+      (merged_not here links is_range topic element target inside merged a b c places counted is judged rules_are stop
+      put_as d e after left refl into put_is (content_taken (Err stop) kept e after
+      (shown_inside (first, kept) (last, inside) same) walked))
