@@ -12,7 +12,7 @@ use plan_nodes::Homes;
 use std::alloc::{AllocError, Global};
 
 /// For each node the nearest value of each attribute, if one is written on its walk.
-#[derive(Debug, Drop)]
+#[derive(Drop)]
 pub(crate) struct Nearest<'a> {
     pub linking: Vec<Option<&'a str>>,
     pub toc: Vec<Option<&'a str>>,

@@ -18,14 +18,14 @@ use std::alloc::{AllocError, Global};
 use std::collections::BTreeSet;
 
 // Tokens that hold at nodes, and what they are as a value: with one space between them.
-#[derive(Debug, Drop)]
+#[derive(Drop)]
 struct TokenList<'a> {
     tokens: Vec<&'a str>,
     value: Text,
 }
 
 /// For each node the tokens of one conditional attribute. Nodes with the same tokens share a list.
-#[derive(Debug, Drop)]
+#[derive(Drop)]
 pub(crate) struct TokenTable<'a> {
     pub name: &'static str,
     lists: Vec<TokenList<'a>>,

@@ -19,7 +19,7 @@ use std::alloc::Global;
 use targets::{Named, named_of};
 
 /// A DITAVAL by which a branch is filtered: its name, and which of the DITAVALs it is.
-#[derive(Debug, Drop)]
+#[derive(Drop)]
 pub(crate) struct Filter {
     pub name: Name,
     pub ditaval: usize,
@@ -27,7 +27,7 @@ pub(crate) struct Filter {
 
 /// What a ditavalref does: its place among the nodes, its filter, and what it puts before and after
 /// the names of pages and of scopes.
-#[derive(Debug, Drop)]
+#[derive(Drop)]
 pub(crate) struct Branch {
     pub place: usize,
     pub filter: Option<Filter>,

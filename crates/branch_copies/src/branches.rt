@@ -24,7 +24,7 @@ use readers::Reader;
 use std::alloc::Global;
 
 /// Which of the branches a node has: so many from the first on.
-#[derive(Clone, Copy, Debug)]
+#[derive(Clone, Copy)]
 pub(crate) struct Span {
     pub first: usize,
     pub count: usize,
@@ -32,7 +32,7 @@ pub(crate) struct Span {
 
 /// The branches of all nodes, each read once, which of them each node has, and what is wrong with
 /// them.
-#[derive(Debug, Drop)]
+#[derive(Drop)]
 pub(crate) struct Branches {
     pub branches: Vec<Branch>,
     pub spans: Vec<Span>,

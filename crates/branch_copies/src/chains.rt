@@ -8,7 +8,7 @@ use std::alloc::Global;
 
 /// Chains of branches that stand around a node, each by its place: the inner ones first. The chain
 /// at place 0 is empty.
-#[derive(Debug, Drop)]
+#[derive(Drop)]
 pub(crate) struct Chains {
     chains: Vec<Vec<usize>>,
 }

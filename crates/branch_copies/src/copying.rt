@@ -27,7 +27,7 @@ use std::alloc::Global;
 const NODE_LIMIT: usize = 65_536;
 
 /// The nodes that were made, and what is left to copy, of which the last is the next.
-#[derive(Debug, Drop)]
+#[derive(Drop)]
 pub(crate) struct Copying {
     made: Vec<PlanNode>,
     chains: Chains,

@@ -17,7 +17,7 @@ use std::alloc::Global;
 use std::collections::BTreeMap;
 
 /// What was read of DITAVALs, and for each name which of them stands under it, if one does.
-#[derive(Debug, Drop)]
+#[derive(Drop)]
 pub(crate) struct Ditavals {
     known: BTreeMap<Name, Option<usize>>,
     read: Vec<RulesRead>,

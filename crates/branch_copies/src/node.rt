@@ -51,7 +51,7 @@ pub(crate) struct Seen<'a> {
 }
 
 // What a copy does not have of the node that it is a copy of.
-#[derive(Debug, Drop)]
+#[derive(Drop)]
 struct Changed {
     kind: PlanKind,
     level: u32,

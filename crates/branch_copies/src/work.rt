@@ -2,7 +2,7 @@
 
 /// Nodes that stand side by side, from `at` to `end`, below which node their copies stand, and the
 /// chain of the branches around them.
-#[derive(Clone, Copy, Debug)]
+#[derive(Clone, Copy)]
 pub(crate) struct Walk {
     pub at: usize,
     pub end: usize,
@@ -11,7 +11,7 @@ pub(crate) struct Walk {
 }
 
 /// Copies of the node `at`, whose subtree ends at `end`, for so many branches from `branch` on.
-#[derive(Clone, Copy, Debug)]
+#[derive(Clone, Copy)]
 pub(crate) struct Copies {
     pub at: usize,
     pub end: usize,
@@ -21,7 +21,7 @@ pub(crate) struct Copies {
     pub chain: usize,
 }
 
-#[derive(Clone, Copy, Debug)]
+#[derive(Clone, Copy)]
 pub(crate) enum Work {
     Walk(Walk),
     Copies(Copies),

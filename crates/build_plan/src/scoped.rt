@@ -24,7 +24,7 @@ use readers::{Reader, Titles};
 use std::alloc::{AllocError, Global};
 
 /// A plan, the elements of its nodes, and the table of their scopes.
-#[derive(Debug, Drop)]
+#[derive(Drop)]
 pub struct Planned {
     pub plan: Plan,
     pub homes: Homes,
@@ -32,7 +32,7 @@ pub struct Planned {
 }
 
 // Nodes in their scopes, with their elements.
-#[derive(Debug, Drop)]
+#[derive(Drop)]
 struct Scoped {
     made: ScopesMade,
     homes: Homes,

@@ -24,7 +24,7 @@ use std::alloc::Global;
 use xref_links::{AnchorsMade, anchors};
 
 /// The body of a page, the links that its elements list, and the tables by which it was resolved.
-#[derive(Debug, Drop)]
+#[derive(Drop)]
 pub(crate) struct BodyMade {
     pub body: Html,
     pub links: List<PageLink>,

@@ -16,7 +16,7 @@ use readers::Reader;
 use std::alloc::Global;
 
 /// The elements and the scopes of a plan's nodes, the pushes of its documents, and its pages.
-#[derive(Debug, Drop)]
+#[derive(Drop)]
 pub(crate) struct BuildTables {
     pub homes: Homes,
     pub scopes: ScopeTable,

@@ -4,7 +4,7 @@ use dita_doc::{Fault, Html, List, Name, PlanStop};
 use std::sync::Arc;
 
 /// What a build gives.
-#[derive(Debug, Drop)]
+#[derive(Drop)]
 pub enum Clean {
     /// The pages in the map's order, the contents page last; and the faults.
     Done(List<(Name, Arc<Html>)>, List<Fault>),

@@ -23,7 +23,7 @@ const FEW_FAULTS: usize = 4_096;
 
 /// What a build has so far. Once its pages are too large together none is kept, and their bytes are
 /// counted on. Faults are made distinct whenever their number has doubled.
-#[derive(Debug, Drop)]
+#[derive(Drop)]
 pub(crate) struct Gathered {
     pages: List<(Name, Arc<Html>)>,
     total: u64,

@@ -125,7 +125,7 @@ fn contents_of_plan<T: Titles>(
 }
 
 // A part of a build that stands alone.
-#[derive(Clone, Copy, Debug)]
+#[derive(Clone, Copy)]
 enum Part {
     Page(u32),
     Contents,

@@ -84,7 +84,7 @@ pub(crate) struct PageWork<'p, 'b> {
 }
 
 /// A page, and the tables by which its content was resolved.
-#[derive(Debug, Drop)]
+#[derive(Drop)]
 pub(crate) struct PageMade {
     pub html: Html,
     pub content: Tables,

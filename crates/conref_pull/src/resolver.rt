@@ -17,7 +17,7 @@ const COUNT_LIMIT: u32 = 262_144;
 pub(crate) const TOO_MANY: u32 = COUNT_LIMIT + 1;
 
 // The answer that a page has too many nodes.
-#[derive(Clone, Copy, Debug)]
+#[derive(Clone, Copy)]
 pub(crate) struct TooMany;
 
 // Where nodes are resolved: the id of the topic around them, how many targets they are resolved

@@ -20,7 +20,7 @@ use std::marker::Model;
 use std::sync::Arc;
 
 // The rules of each DITAVAL, by its name; a document that is none has no rules.
-#[derive(Debug, Drop)]
+#[derive(Drop)]
 pub(crate) struct RuleLists {
     lists: BTreeMap<Name, Option<List<Rule>>>,
 }

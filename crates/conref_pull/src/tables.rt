@@ -19,7 +19,7 @@ use topic_find::TargetTable;
 /// What was read of the documents of a plan, each when a page first needs it: where their elements
 /// stand, and the rules of each DITAVAL. It holds for one plan over one world, and each answer by it
 /// is the same as with new tables.
-#[derive(Debug, Drop)]
+#[derive(Drop)]
 pub struct Tables {
     pub(crate) rules: RuleLists,
     pub(crate) places: PlaceTables,
@@ -43,7 +43,7 @@ impl Tables {
 }
 
 // Where the elements of documents stand, by the names of the documents.
-#[derive(Debug, Drop)]
+#[derive(Drop)]
 pub(crate) struct PlaceTables {
     targets: BTreeMap<Name, TargetTable>,
     // For each node the place behind the last of its siblings.

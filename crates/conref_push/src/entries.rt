@@ -9,7 +9,7 @@ use std::alloc::Global;
 use std::collections::BTreeMap;
 
 // What is pushed into a document, the faults that stand in it, and whether an element of it acts.
-#[derive(Debug, Drop)]
+#[derive(Drop)]
 pub(crate) struct Entry {
     pub pushes: List<Push>,
     pub faults: List<Fault>,
@@ -38,7 +38,7 @@ impl Entry {
 }
 
 // The entries of documents by their names.
-#[derive(Debug, Drop)]
+#[derive(Drop)]
 pub(crate) struct Entries {
     map: BTreeMap<Name, Entry>,
 }

@@ -179,7 +179,7 @@ fn take_group(alloc: Global, groups: &mut BTreeMap<u32, Vec<Push>>, at: u32) -> 
 }
 
 // What goes into the document of this name.
-#[derive(Debug, Drop)]
+#[derive(Drop)]
 struct PushedInto<'a> {
     name: &'a Name,
     by_place: BTreeMap<u32, Vec<Push>>,

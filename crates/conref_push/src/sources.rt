@@ -21,7 +21,7 @@ use std::collections::BTreeMap;
 use std::sync::Arc;
 
 // The documents that pushes come from.
-#[derive(Debug, Drop)]
+#[derive(Drop)]
 pub(crate) struct PushSources {
     docs: BTreeMap<Name, Option<Arc<Doc>>>,
 }

@@ -26,7 +26,7 @@ use readers::Reader;
 use std::alloc::Global;
 
 /// The pushes of some documents, by the document into which they go.
-#[derive(Debug, Drop)]
+#[derive(Drop)]
 pub struct PushTable {
     entries: Entries,
     faults: List<Fault>,

@@ -30,21 +30,21 @@ use targets::is_same_topic;
 use topic_find::TargetTable;
 
 // A document into which is pushed, and the places of its elements that fragments name.
-#[derive(Debug, Drop)]
+#[derive(Drop)]
 pub(crate) struct TargetDoc {
     doc: Arc<Doc>,
     table: TargetTable,
 }
 
 // A target: an element of a document.
-#[derive(Debug, PartialEq, Eq, PartialOrd, Ord, Drop)]
+#[derive(PartialEq, Eq, PartialOrd, Ord, Drop)]
 pub(crate) struct PushTarget {
     pub doc: Name,
     pub place: u32,
 }
 
 // The documents that pushes name, each asked for once. None is kept for one that is not stored.
-#[derive(Debug, Drop)]
+#[derive(Drop)]
 pub(crate) struct Targets {
     docs: BTreeMap<Name, Option<TargetDoc>>,
     // The elements that are replaced.

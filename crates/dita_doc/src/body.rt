@@ -14,7 +14,7 @@ use std::sync::Arc;
 
 /// Bytes, and what PYX they are: the document of the tree that they stand for, which has one
 /// origin, or their first fault.
-#[derive(Debug, Drop)]
+#[derive(Drop)]
 pub struct Body {
     pub bytes: Arc<List<u8>>,
     pub read: Result<Arc<Doc>, PyxFault>,

@@ -17,7 +17,7 @@ pub enum Sign {
 }
 
 /// A class value: the tokens of an element's types, the base type first.
-#[derive(Debug, Drop)]
+#[derive(Drop)]
 pub struct ClassList {
     pub sign: Sign,
     pub tokens: List<Text>,

@@ -21,7 +21,7 @@ pub enum Action {
 
 /// A rule of a DITAVAL: for a token of an attribute, for the whole attribute, or, without an
 /// attribute, for all that no other rule decides.
-#[derive(Debug, Drop)]
+#[derive(Drop)]
 pub struct Rule {
     pub att: Option<Text>,
     pub val: Option<Text>,
@@ -30,7 +30,7 @@ pub struct Rule {
 
 /// What a key gives where it is used: the node that defines it, if one does, its target, its text,
 /// and the faults met on the way.
-#[derive(Debug, Drop)]
+#[derive(Drop)]
 pub struct KeyAnswer {
     pub node: Option<u32>,
     pub target: Target,
@@ -39,7 +39,7 @@ pub struct KeyAnswer {
 }
 
 /// Where pushed content goes.
-#[derive(Clone, Copy, Debug, PartialEq, Eq)]
+#[derive(Clone, Copy, PartialEq, Eq)]
 pub enum PushKind {
     Before,
     After,
@@ -47,7 +47,7 @@ pub enum PushKind {
 }
 
 /// A push: to the element at the place `at`, from the element at `place` of the document `from`.
-#[derive(Debug, Drop)]
+#[derive(Drop)]
 pub struct Push {
     pub kind: PushKind,
     pub at: u32,
@@ -56,7 +56,7 @@ pub struct Push {
 }
 
 /// The pushes into a document, and the faults of the pushes that stand in it.
-#[derive(Debug, Drop)]
+#[derive(Drop)]
 pub struct PushList {
     pub pushes: List<Push>,
     pub faults: List<Fault>,
@@ -65,7 +65,7 @@ pub struct PushList {
 /// Content with its references resolved. Each node has an entry in `hrefs`: the place, in the
 /// document's `origins`, of the document in which the node's href was written, and the node's own
 /// origin if it has no href.
-#[derive(Debug, Drop)]
+#[derive(Drop)]
 pub struct Resolved {
     pub doc: Doc,
     pub hrefs: List<u32>,
@@ -77,7 +77,7 @@ pub struct Resolved {
 }
 
 /// Why one page is linked to another.
-#[derive(Clone, Copy, Debug, PartialEq, Eq)]
+#[derive(Clone, Copy, PartialEq, Eq)]
 pub enum LinkKind {
     Previous,
     Next,
@@ -86,7 +86,7 @@ pub enum LinkKind {
 }
 
 /// A link of a page to another.
-#[derive(Debug, Drop)]
+#[derive(Drop)]
 pub struct PageLink {
     pub kind: LinkKind,
     pub href: Text,
@@ -95,7 +95,7 @@ pub struct PageLink {
 
 /// The link of the element at `place`: what it leads to, and the text that it shows if it has none
 /// of its own.
-#[derive(Debug, Drop)]
+#[derive(Drop)]
 pub struct Anchor {
     pub place: u32,
     pub href: Option<Text>,

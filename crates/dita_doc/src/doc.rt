@@ -13,7 +13,7 @@ use crate::text::Text;
 use std::alloc::AllocError;
 
 /// An attribute as it was written. An element has no two of one name.
-#[derive(Debug, PartialEq, Eq, Drop)]
+#[derive(PartialEq, Eq, Drop)]
 pub struct Attribute {
     pub name: Text,
     pub value: Text,
@@ -51,7 +51,7 @@ pub enum NodeKind {
 }
 
 /// A node of a document: an element, whose `text` is its name, or a text without attributes.
-#[derive(Debug, PartialEq, Eq, Drop)]
+#[derive(PartialEq, Eq, Drop)]
 pub struct Node {
     pub kind: NodeKind,
     pub text: Text,
@@ -88,7 +88,7 @@ impl Node {
 
 /// A document: the nodes of its tree in preorder, and the names of the documents that they were
 /// written in. The `origin` of each node is a place in `origins`.
-#[derive(Debug, Drop)]
+#[derive(Drop)]
 pub struct Doc {
     pub origins: List<Name>,
     pub nodes: List<Node>,

@@ -13,7 +13,7 @@ use std::alloc::Global;
 use std::sync::Arc;
 
 /// A page's bytes, with the faults that were met on the way.
-#[derive(Debug, Drop)]
+#[derive(Drop)]
 pub struct Html {
     pub bytes: List<u8>,
     pub faults: List<Fault>,
@@ -29,7 +29,7 @@ pub enum Part {
 }
 
 /// What a fact is about.
-#[derive(Debug, Drop)]
+#[derive(Drop)]
 pub struct FactKey {
     pub map: Name,
     pub val: Option<Name>,
@@ -37,7 +37,7 @@ pub struct FactKey {
 }
 
 /// What a part of a build is.
-#[derive(Debug, Drop)]
+#[derive(Drop)]
 pub enum FactValue {
     Planned(Arc<Plan>),
     Stopped(PlanStop),
@@ -45,7 +45,7 @@ pub enum FactValue {
 }
 
 /// A part of a build, with the questions that it was made from and their answers.
-#[derive(Debug, Drop)]
+#[derive(Drop)]
 pub struct Fact {
     pub key: FactKey,
     pub asked: List<Asked>,
@@ -53,7 +53,7 @@ pub struct Fact {
 }
 
 /// Two shares of one fact: one is kept, and one is given away without memory being taken then.
-#[derive(Debug, Drop)]
+#[derive(Drop)]
 pub struct FactPair {
     pub kept: Arc<Fact>,
     pub given: Arc<Fact>,
@@ -73,7 +73,7 @@ impl FactPair {
 }
 
 /// A fact that is kept for later builds.
-#[derive(Debug, Drop)]
+#[derive(Drop)]
 pub struct Row {
     /// Rows and claims have numbers from 1, drawn when they are claimed.
     pub serial: u64,

@@ -138,7 +138,7 @@ impl FaultCode {
 }
 
 /// A fault of a build, at the document and line of the element as it was written.
-#[derive(Debug, PartialEq, Eq, Drop)]
+#[derive(PartialEq, Eq, Drop)]
 pub struct Fault {
     pub name: Name,
     pub line: u32,

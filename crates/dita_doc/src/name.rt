@@ -18,7 +18,7 @@ use std::sync::Arc;
 pub const NAME_LIMIT: usize = 255;
 
 /// The answer that a text is no document name.
-#[derive(Clone, Copy, Debug, PartialEq, Eq)]
+#[derive(Clone, Copy, PartialEq, Eq)]
 pub struct NotName;
 
 /// A document name: its text is shared, so that a clone copies none of it.

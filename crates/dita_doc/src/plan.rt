@@ -7,7 +7,7 @@ use crate::name::Name;
 use crate::text::Text;
 
 /// The three parts of a reference; a part that is not there is empty.
-#[derive(Debug, PartialEq, Eq, Drop)]
+#[derive(PartialEq, Eq, Drop)]
 pub struct Reference {
     pub file: Text,
     pub topic: Text,
@@ -15,14 +15,14 @@ pub struct Reference {
 }
 
 /// What a branch copy puts before and after the names of its pages.
-#[derive(Debug, PartialEq, Eq, Drop)]
+#[derive(PartialEq, Eq, Drop)]
 pub struct Affix {
     pub prefix: Text,
     pub suffix: Text,
 }
 
 /// What a node of a map stands for.
-#[derive(Clone, Copy, Debug, PartialEq, Eq)]
+#[derive(Clone, Copy, PartialEq, Eq)]
 pub enum PlanKind {
     Map,
     Reference,
@@ -36,7 +36,7 @@ pub enum PlanKind {
 
 /// A node of a map, in preorder. Its element stands at `place` of the document `doc`; a group has
 /// none.
-#[derive(Debug, Drop)]
+#[derive(Drop)]
 pub struct PlanNode {
     pub kind: PlanKind,
     pub doc: Name,
@@ -69,7 +69,7 @@ impl PlanNode {
 }
 
 /// A key scope: its parent, the node that begins it, and its names.
-#[derive(Debug, Drop)]
+#[derive(Drop)]
 pub struct Scope {
     pub parent: u32,
     pub node: u32,
@@ -77,7 +77,7 @@ pub struct Scope {
 }
 
 /// What makes two pages of a document different.
-#[derive(Debug, Drop)]
+#[derive(Drop)]
 pub struct PageId {
     pub doc: Name,
     pub scope: u32,
@@ -86,7 +86,7 @@ pub struct PageId {
 }
 
 /// A page of a plan: the node of its first use, and its name.
-#[derive(Debug, Drop)]
+#[derive(Drop)]
 pub struct PagePlan {
     pub id: PageId,
     pub node: u32,
@@ -94,7 +94,7 @@ pub struct PagePlan {
 }
 
 /// What a reference leads to.
-#[derive(Debug, Drop)]
+#[derive(Drop)]
 pub enum Target {
     Nothing,
     /// A DITA document, by the reference that was read.
@@ -106,7 +106,7 @@ pub enum Target {
 }
 
 /// The nodes of a map as a step of planning leaves them, with the faults that the step found.
-#[derive(Debug, Drop)]
+#[derive(Drop)]
 pub struct Expanded {
     pub nodes: List<PlanNode>,
     pub faults: List<Fault>,
@@ -114,7 +114,7 @@ pub struct Expanded {
 
 /// Where a page is made: the map and the DITAVAL of its build, what sets it apart from other pages,
 /// and its name.
-#[derive(Debug, Drop)]
+#[derive(Drop)]
 pub struct Context {
     pub map: Name,
     pub val: Option<Name>,
@@ -123,7 +123,7 @@ pub struct Context {
 }
 
 /// The plan of a build. Node 0 is the root map, and scope 0 the root scope.
-#[derive(Debug, Drop)]
+#[derive(Drop)]
 pub struct Plan {
     pub nodes: List<PlanNode>,
     pub scopes: List<Scope>,
@@ -134,7 +134,7 @@ pub struct Plan {
 }
 
 /// Why a build has no plan.
-#[derive(Clone, Copy, Debug, PartialEq, Eq)]
+#[derive(Clone, Copy, PartialEq, Eq)]
 pub enum PlanStop {
     /// The map is not stored.
     NoMap,

@@ -22,7 +22,7 @@ pub enum DocKind {
 }
 
 /// A question about documents, about the keys of a plan's nodes, or about a plan.
-#[derive(Debug, Drop)]
+#[derive(Drop)]
 pub enum Question {
     Document(Name),
     Kind(Name),
@@ -39,7 +39,7 @@ pub enum Question {
 }
 
 /// The answer to a question of the same name.
-#[derive(Debug, Drop)]
+#[derive(Drop)]
 pub enum Answered {
     Document(Option<Arc<Doc>>),
     Kind(DocKind),
@@ -51,7 +51,7 @@ pub enum Answered {
 }
 
 /// A question, with its answer.
-#[derive(Debug, Drop)]
+#[derive(Drop)]
 pub struct Asked {
     pub question: Question,
     pub answered: Answered,

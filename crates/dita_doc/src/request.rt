@@ -8,7 +8,7 @@ use std::sync::Arc;
 
 /// A request. A call that takes one has the condition that a document in the body of a put has the
 /// put's name as its origin.
-#[derive(Debug, Drop)]
+#[derive(Drop)]
 pub enum Request {
     /// Stores a body under a name, in the place of what stands there.
     Put(Name, Body),
@@ -25,14 +25,14 @@ pub enum Request {
 }
 
 /// A name with the version that stood under it. An absent name has version 0.
-#[derive(Debug, PartialEq, Eq, Drop)]
+#[derive(PartialEq, Eq, Drop)]
 pub struct Read {
     pub name: Name,
     pub version: u64,
 }
 
 /// The desk's reply to a request.
-#[derive(Debug, Drop)]
+#[derive(Drop)]
 pub enum Reply {
     /// The body was stored with this version.
     Stored(u64),
@@ -56,7 +56,7 @@ pub enum Reply {
 
 /// A request of a session, with its number and its reply. In a script requests are numbered from 1
 /// over all sessions.
-#[derive(Debug, Drop)]
+#[derive(Drop)]
 pub struct Entry {
     pub session: u32,
     pub number: u32,

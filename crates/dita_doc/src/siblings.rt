@@ -7,7 +7,7 @@ use crate::doc::{Doc, Node, NodeKind};
 
 /// Nodes of a document that stand side by side, with all that is in them: what an element holds, or
 /// the last of it.
-#[derive(Clone, Copy, Debug)]
+#[derive(Clone, Copy)]
 pub struct Siblings<'a> {
     doc: &'a Doc,
     nodes: &'a [Node],
@@ -19,7 +19,7 @@ pub struct Siblings<'a> {
 }
 
 /// The first of some siblings, with its place in the document, and the others.
-#[derive(Clone, Copy, Debug)]
+#[derive(Clone, Copy)]
 pub enum First<'a> {
     End,
     Chars {

@@ -12,7 +12,7 @@ use std::marker::Model;
 use std::sync::Arc;
 
 /// A stored document: the bytes as they were put, and the document that they are.
-#[derive(Debug, Drop)]
+#[derive(Drop)]
 pub struct Document {
     pub name: Name,
     /// The place of the entry that stored it, plus 1.
@@ -43,7 +43,7 @@ impl Clone for Document {
 }
 
 /// The documents that are stored, by the bytes of their names, each name once.
-#[derive(Debug, Drop)]
+#[derive(Drop)]
 pub struct Sources {
     documents: Vec<Document>,
 }

@@ -15,7 +15,7 @@ use std::{fs, io};
 /// The folders of a name are made. A file that holds the page's bytes already is left as it is, so
 /// that a rebuild does not touch what did not change. Another page is written beside its place and
 /// renamed, so that no reader sees half of one. Pages of earlier runs stay.
-#[derive(Debug, Drop)]
+#[derive(Drop)]
 pub struct FolderOutlet<R: Files + AllocGlobal + Drop> {
     rt: R,
     folder: Text,
@@ -24,7 +24,7 @@ pub struct FolderOutlet<R: Files + AllocGlobal + Drop> {
 }
 
 /// Why a page was not taken: the path of its file, and the error of the system.
-#[derive(Debug, Drop)]
+#[derive(Drop)]
 pub struct PageError {
     pub path: String,
     pub error: io::Error,

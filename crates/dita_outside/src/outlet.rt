@@ -26,7 +26,7 @@ pub trait Outlet {
 }
 
 /// An outlet in memory that fails at the calls listed, which are counted from 1.
-#[derive(Debug, Drop)]
+#[derive(Drop)]
 pub struct MemOutlet {
     content: List<(Name, List<u8>)>,
     failing: List<u32>,

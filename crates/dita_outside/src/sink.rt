@@ -31,7 +31,7 @@ pub trait Sink {
 
 /// A sink in memory that fails at the calls listed, which are counted from 1, and when its room is
 /// full.
-#[derive(Debug, Drop)]
+#[derive(Drop)]
 pub struct MemSink {
     content: List<u8>,
     room: u64,
@@ -169,7 +169,7 @@ impl Sink for SureSink {
 
 /// A writer of the system as a sink: it tells no bytes, and counts each error of the writer. A
 /// write that takes nothing of a piece that is not empty is such an error.
-#[derive(Debug, Drop)]
+#[derive(Drop)]
 pub struct StdSink<W: Write> {
     writer: W,
     faults: u64,

@@ -28,7 +28,7 @@ pub trait Source {
 }
 
 /// A source in memory that fails at the calls listed, which are counted from 1.
-#[derive(Debug, Drop)]
+#[derive(Drop)]
 pub struct MemSource {
     bytes: List<u8>,
     place: usize,
@@ -94,7 +94,7 @@ impl Source for MemSource {
 }
 
 /// A source in memory that never fails.
-#[derive(Debug, Drop)]
+#[derive(Drop)]
 pub struct SureSource {
     bytes: List<u8>,
     place: usize,
@@ -133,7 +133,7 @@ impl Source for SureSource {
 }
 
 /// A reader of the system as a source: it tells no bytes, and counts each error of the reader.
-#[derive(Debug, Drop)]
+#[derive(Drop)]
 pub struct StdSource<R: Read> {
     reader: R,
     faults: u64,

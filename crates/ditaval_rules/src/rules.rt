@@ -11,11 +11,11 @@ use dita_doc::{Doc, Fault, First, List, Name, NoMemory, Rule, Siblings, Stop};
 use std::alloc::Global;
 
 /// The answer that the root of a document is not `val`.
-#[derive(Clone, Copy, Debug, PartialEq, Eq)]
+#[derive(Clone, Copy, PartialEq, Eq)]
 pub struct NotDitaval;
 
 /// The rules of a DITAVAL, in order, and what is wrong with its `prop` elements.
-#[derive(Debug, Drop)]
+#[derive(Drop)]
 pub struct RulesRead {
     pub rules: List<Rule>,
     pub faults: List<Fault>,

@@ -17,7 +17,7 @@ const NODE_LIMIT: usize = u32::MAX as usize;
 
 /// A document in the making: elements are opened and closed, and what is put goes into the element
 /// opened last.
-#[derive(Debug, Drop)]
+#[derive(Drop)]
 pub struct DocMaker {
     origins: Origins,
     nodes: Vec<Node>,

@@ -12,7 +12,7 @@ use std::marker::Model;
 const ORIGIN_LIMIT: usize = u32::MAX as usize;
 
 // Names, each once, with their places.
-#[derive(Debug, Drop)]
+#[derive(Drop)]
 pub(crate) struct Origins {
     names: Vec<Name>,
     places: BTreeMap<Name, u32>,

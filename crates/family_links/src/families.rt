@@ -14,7 +14,7 @@ use std::alloc::Global;
 use std::collections::{BTreeMap, BTreeSet};
 
 // The families, and for each page in which of them its nodes may link.
-#[derive(Debug, Drop)]
+#[derive(Drop)]
 pub(crate) struct Families {
     // For each family the first node of each page that may be linked to.
     targets: Vec<Vec<LinkNode>>,

@@ -22,7 +22,7 @@ use std::alloc::Global;
 use std::collections::BTreeMap;
 
 // How the nodes of a collection are linked.
-#[derive(Clone, Copy, Debug, PartialEq, Eq)]
+#[derive(Clone, Copy, PartialEq, Eq)]
 pub(crate) enum GroupKind {
     Sequence,
     Family,

@@ -14,7 +14,7 @@ use std::alloc::Global;
 use std::collections::BTreeMap;
 
 // For each page the nodes right before, and right behind, those of its nodes that link to them.
-#[derive(Debug, Drop)]
+#[derive(Drop)]
 pub(crate) struct Sequences {
     previous: BTreeMap<u32, Vec<LinkNode>>,
     next: BTreeMap<u32, Vec<LinkNode>>,

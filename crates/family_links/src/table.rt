@@ -27,7 +27,7 @@ use std::alloc::Global;
 use std::collections::BTreeMap;
 
 /// The sequences and families of a plan, by the pages that link in them.
-#[derive(Debug, Drop)]
+#[derive(Drop)]
 pub struct Collections {
     sequences: Sequences,
     families: Families,

@@ -2,7 +2,7 @@
 
 /// Why a value is no reference, or a file can't be joined. The numbers are those of
 /// `docs/RULES.md`.
-#[derive(Clone, Copy, Debug, PartialEq, Eq)]
+#[derive(Clone, Copy, PartialEq, Eq)]
 pub enum RefFault {
     /// A `:` stands before the first `/` and `#`, so the value names something outside.
     External = 1,

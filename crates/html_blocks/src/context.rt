@@ -8,7 +8,7 @@ use dita_doc::{Node, is_same};
 use html_tables::TableContext;
 
 /// The nearest of topic, section or example, figure and table around an element.
-#[derive(Clone, Copy, Debug)]
+#[derive(Clone, Copy)]
 pub(crate) enum Around {
     Topic,
     Section,
@@ -18,7 +18,7 @@ pub(crate) enum Around {
 
 /// The id of the nearest topic, how many topics are around, the nearest of those above, and the
 /// tables around.
-#[derive(Clone, Copy, Debug)]
+#[derive(Clone, Copy)]
 pub(crate) struct Context<'a> {
     pub topic: &'a str,
     pub depth: u32,

@@ -7,7 +7,7 @@ use dita_doc::{First, Name, Node, Siblings};
 
 /// An element, its place in the body, and what it holds. It was written in one of the documents
 /// that the body's document names.
-#[derive(Clone, Copy, Debug)]
+#[derive(Clone, Copy)]
 pub(crate) struct Element<'a> {
     pub place: u32,
     pub node: &'a Node,

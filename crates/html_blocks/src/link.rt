@@ -10,14 +10,14 @@ use dita_doc::{Anchor, Text};
 
 /// The link of an element: what it leads to, if it leads anywhere, and the text that it shows if
 /// the element has no content, which is empty if there is none.
-#[derive(Clone, Copy, Debug)]
+#[derive(Clone, Copy)]
 pub(crate) struct Link<'a> {
     pub href: Option<&'a str>,
     pub label: &'a str,
 }
 
 /// The anchors of a body, and whether they stand by their places, at most one at each.
-#[derive(Clone, Copy, Debug)]
+#[derive(Clone, Copy)]
 pub(crate) struct Links<'a> {
     anchors: &'a [Anchor],
     are_by_place: bool,

@@ -20,7 +20,7 @@ use html_tables::Groups;
 use std::alloc::{AllocError, Global};
 
 /// What was written of a body.
-#[derive(Debug, Drop)]
+#[derive(Drop)]
 pub(crate) struct Page {
     pub text: Text,
     pub faults: List<Fault>,
@@ -29,7 +29,7 @@ pub(crate) struct Page {
 
 /// An element that is open: where its content stands, the name of the element of HTML around it,
 /// and whether a link stands around the content.
-#[derive(Clone, Copy, Debug)]
+#[derive(Clone, Copy)]
 pub(crate) struct Opened<'a> {
     pub within: Context<'a>,
     pub name: Option<&'static str>,

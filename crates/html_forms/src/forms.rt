@@ -1,7 +1,7 @@
 //! The forms of types, each token with its form beside it.
 
 /// What an element of a type becomes in a page.
-#[derive(Clone, Copy, Debug)]
+#[derive(Clone, Copy)]
 pub enum Form {
     /// An element of HTML with this name and class; the class is empty if it has none.
     Tag(&'static str, &'static str),

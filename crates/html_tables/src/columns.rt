@@ -14,7 +14,7 @@ use std::alloc::Global;
 use std::collections::BTreeMap;
 
 /// The columns of a group: the place of each name among them. Of equal names the first counts.
-#[derive(Debug, Drop)]
+#[derive(Drop)]
 pub(crate) struct Columns {
     places: BTreeMap<String, u32>,
     count: u32,

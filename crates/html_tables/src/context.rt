@@ -6,7 +6,7 @@ ghost use Rattle.page_spec.specs.Blocks as blocks_spec;
 use dita_doc::is_same;
 
 /// Whether a cell heads its column here, and the nearest group of rows.
-#[derive(Clone, Copy, Debug)]
+#[derive(Clone, Copy)]
 pub struct TableContext {
     /// Whether a cell of a table heads its column.
     pub head: bool,

@@ -9,7 +9,7 @@ use dita_doc::{List, NoMemory, Node, Siblings, split_word};
 use std::alloc::Global;
 
 /// The groups that were met on a walk over a document, each with its columns.
-#[derive(Debug, Drop)]
+#[derive(Drop)]
 pub struct Groups {
     groups: List<Columns>,
 }

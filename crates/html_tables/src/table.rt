@@ -18,7 +18,7 @@ use std::alloc::{AllocError, Global};
 
 /// A cell of a table: its place in the document, whether it heads its column, and how many rows and
 /// columns it spans.
-#[derive(Clone, Copy, Debug, PartialEq, Eq)]
+#[derive(Clone, Copy, PartialEq, Eq)]
 pub struct Cell {
     pub place: u32,
     pub head: bool,
@@ -74,7 +74,7 @@ fn append_whole(
 }
 
 // The cells and the groups that were met.
-#[derive(Debug, Drop)]
+#[derive(Drop)]
 struct Walk {
     cells: List<Cell>,
     groups: Groups,

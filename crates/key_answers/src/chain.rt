@@ -15,7 +15,7 @@ use targets::split_key;
 
 /// The places of the definitions that a key leads to, one after the other, and the faults of the
 /// last step.
-#[derive(Debug, Drop)]
+#[derive(Drop)]
 pub(crate) struct Chain {
     pub met: Vec<u32>,
     pub faults: List<Fault>,

@@ -11,7 +11,7 @@ use std::collections::BTreeMap;
 use std::marker::Model;
 
 /// A key in the scope of this place.
-#[derive(Debug, PartialEq, Eq, PartialOrd, Ord, Drop)]
+#[derive(PartialEq, Eq, PartialOrd, Ord, Drop)]
 pub struct KeyAt {
     pub scope: u32,
     pub key: Text,
@@ -30,7 +30,7 @@ impl KeyAt {
 }
 
 /// Answers, by their scopes and keys.
-#[derive(Debug, Drop)]
+#[derive(Drop)]
 pub struct KeyMemo {
     answers: BTreeMap<KeyAt, KeyAnswer>,
 }

@@ -15,7 +15,7 @@ use std::cmp::Ordering;
 type WrittenName<'a> = (u32, &'a str, u32, usize);
 
 /// A name of a scope.
-#[derive(Debug, Drop)]
+#[derive(Drop)]
 pub(crate) struct ChildName {
     parent: u32,
     name: Text,
@@ -25,7 +25,7 @@ pub(crate) struct ChildName {
 }
 
 /// The names of all scopes, by parent, then by name, then by scope.
-#[derive(Debug, Drop)]
+#[derive(Drop)]
 pub(crate) struct ChildNames {
     sorted: Vec<ChildName>,
     /// How many bytes the longest name has.

@@ -18,7 +18,7 @@ use std::cmp::Ordering;
 pub(crate) type Written<'a> = (&'a str, u32, u32, u32);
 
 /// A scope's first definition of a key.
-#[derive(Debug, Drop)]
+#[derive(Drop)]
 pub(crate) struct Definition {
     key: Text,
     pub scope: u32,
@@ -28,7 +28,7 @@ pub(crate) struct Definition {
 }
 
 /// The first definitions of all scopes, by key and then by scope.
-#[derive(Debug, Drop)]
+#[derive(Drop)]
 pub(crate) struct Definitions {
     sorted: Vec<Definition>,
 }

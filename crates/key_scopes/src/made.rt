@@ -25,7 +25,7 @@ use readers::Reader;
 use std::alloc::{AllocError, Global};
 
 /// The table of scopes, the nodes with their scopes, and the faults of names.
-#[derive(Debug, Drop)]
+#[derive(Drop)]
 pub struct ScopesMade {
     pub table: ScopeTable,
     pub nodes: List<PlanNode>,

@@ -10,7 +10,7 @@ use std::alloc::{AllocError, Global};
 use std::collections::BTreeSet;
 
 /// The names that a node has written, each once: those that can be used, and those that can't.
-#[derive(Debug, Drop)]
+#[derive(Drop)]
 pub(crate) struct Names<'a> {
     pub good: Vec<&'a str>,
     pub bad: Vec<&'a str>,

@@ -18,7 +18,7 @@ use plan_nodes::{Homes, fault_of, in_tables, place_of};
 use std::alloc::{AllocError, Global};
 
 /// The scopes, the scope of each node, the keys that are defined, and the faults of names.
-#[derive(Debug, Drop)]
+#[derive(Drop)]
 pub(crate) struct Numbering<'a> {
     pub scopes: List<Scope>,
     pub places: Vec<u32>,

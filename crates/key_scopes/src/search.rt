@@ -18,7 +18,7 @@ use crate::table::ScopeTable;
 
 // The way into a scope by one of its names, with which a key begins: the scope, where the name
 // stands among those of the scope, and what is left of the key behind the name and its dot.
-#[derive(Clone, Copy, Debug)]
+#[derive(Clone, Copy)]
 struct Step<'k> {
     child: u32,
     rank: usize,

@@ -9,7 +9,7 @@ use plan_nodes::place_of;
 use std::alloc::Global;
 
 /// For each scope the number just past those in it.
-#[derive(Debug, Drop)]
+#[derive(Drop)]
 pub(crate) struct Spans {
     ends: Vec<u32>,
 }

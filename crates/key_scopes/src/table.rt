@@ -10,7 +10,7 @@ use dita_doc::{List, Scope};
 use std::marker::Model;
 
 /// The scopes of a map, with the keys that are defined in them.
-#[derive(Debug, Drop)]
+#[derive(Drop)]
 pub struct ScopeTable {
     pub(crate) scopes: List<Scope>,
     pub(crate) spans: Spans,

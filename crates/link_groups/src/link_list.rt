@@ -22,14 +22,14 @@ use std::alloc::Global;
 use std::collections::BTreeSet;
 
 /// The links of a page, and the faults that were met.
-#[derive(Debug, Drop)]
+#[derive(Drop)]
 pub struct LinksMade {
     pub links: List<PageLink>,
     pub faults: List<Fault>,
 }
 
 // A link to a page.
-#[derive(Clone, Copy, Debug)]
+#[derive(Clone, Copy)]
 struct LinkTo {
     kind: LinkKind,
     page: u32,
@@ -37,7 +37,7 @@ struct LinkTo {
 
 /// The links of a page before they are written: to each other page once, by what comes first, and
 /// none to the page itself.
-#[derive(Debug, Drop)]
+#[derive(Drop)]
 pub struct LinkList {
     page: u32,
     seen: BTreeSet<u32>,

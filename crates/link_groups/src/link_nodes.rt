@@ -21,7 +21,7 @@ use std::collections::BTreeMap;
 
 /// A node that has a page: its place in the plan, the page, and what its `linking` allows. Nodes
 /// are ordered by their places.
-#[derive(Clone, Copy, Debug, PartialEq, Eq, PartialOrd, Ord)]
+#[derive(Clone, Copy, PartialEq, Eq, PartialOrd, Ord)]
 pub struct LinkNode {
     pub at: u32,
     pub page: u32,
@@ -41,7 +41,7 @@ impl LinkNode {
 }
 
 /// The nodes of a plan that were asked for their pages.
-#[derive(Debug, Drop)]
+#[derive(Drop)]
 pub struct LinkNodes {
     known: BTreeMap<u32, Option<LinkNode>>,
 }

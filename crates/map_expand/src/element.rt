@@ -12,7 +12,7 @@ use doc_elements::{is_dita, tokens_of};
 
 /// What an element makes: a node; nothing, and is passed over with its content; or nothing, and its
 /// content stands in its place.
-#[derive(Clone, Copy, Debug)]
+#[derive(Clone, Copy)]
 pub(crate) enum Makes {
     Node(PlanKind),
     Nothing,
@@ -20,7 +20,7 @@ pub(crate) enum Makes {
 }
 
 // The types of maps that an element has, and whether it has any types.
-#[derive(Clone, Copy, Debug)]
+#[derive(Clone, Copy)]
 struct MapTypes {
     any: bool,
     ditavalref: bool,

@@ -43,7 +43,7 @@ const NODE_LIMIT: usize = 65_536;
 
 /// The nodes that were made, their faults, and what is left to walk over, of which the last is the
 /// next.
-#[derive(Debug, Drop)]
+#[derive(Drop)]
 pub(crate) struct Expansion {
     nodes: List<PlanNode>,
     faults: List<Fault>,

@@ -25,7 +25,7 @@ use std::collections::BTreeMap;
 use std::sync::Arc;
 
 /// The first of some nodes: what it makes, and the place just past its subtree.
-#[derive(Clone, Copy, Debug)]
+#[derive(Clone, Copy)]
 pub(crate) struct Seen {
     pub makes: Makes,
     pub end: u32,
@@ -33,7 +33,7 @@ pub(crate) struct Seen {
 
 // A map: its document, where its root stands in it, and whether it stands around what is walked
 // over.
-#[derive(Debug, Drop)]
+#[derive(Drop)]
 struct MapDoc {
     name: Name,
     doc: Arc<Doc>,
@@ -42,7 +42,7 @@ struct MapDoc {
 }
 
 /// The maps that were asked for, and for each name which map stands under it, if one does.
-#[derive(Debug, Drop)]
+#[derive(Drop)]
 pub(crate) struct Maps {
     known: BTreeMap<Name, Option<usize>>,
     maps: Vec<MapDoc>,

@@ -13,7 +13,7 @@ use std::alloc::Global;
 use targets::{Named, named_of};
 
 /// What a topicref includes: its href, and what that names.
-#[derive(Debug, Drop)]
+#[derive(Drop)]
 pub(crate) struct Asked {
     pub href: Text,
     pub named: Named,

@@ -9,7 +9,7 @@ use dita_doc::PlanKind;
 /// Nodes of a map's document that stand side by side, from `place` to `end`, counted from the
 /// document's first node, and where the nodes that they make stand: below which node of the plan,
 /// how many maps are included around them, and whether a relationship table is around them.
-#[derive(Clone, Copy, Debug)]
+#[derive(Clone, Copy)]
 pub(crate) struct Walk {
     pub map: usize,
     pub place: u32,
@@ -20,7 +20,7 @@ pub(crate) struct Walk {
 }
 
 /// A walk, or the end of a map.
-#[derive(Clone, Copy, Debug)]
+#[derive(Clone, Copy)]
 pub(crate) enum Work {
     Walk(Walk),
     Leave(usize),

@@ -22,7 +22,7 @@ use reltable_links::Rows;
 use std::alloc::Global;
 
 /// The collections and rows of a plan, by pages, and the faults of the rows.
-#[derive(Debug, Drop)]
+#[derive(Drop)]
 pub struct NodeLinks {
     collections: Collections,
     rows: Rows,

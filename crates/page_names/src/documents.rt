@@ -15,7 +15,7 @@ use std::alloc::Global;
 use std::collections::BTreeMap;
 
 /// The documents that are used, in the order of their first uses, and what each is.
-#[derive(Debug, Drop)]
+#[derive(Drop)]
 pub(crate) struct Documents {
     pub names: List<Name>,
     kinds: BTreeMap<Name, DocKind>,

@@ -24,7 +24,7 @@ pub const PAGE_LIMIT: usize = 4096;
 
 /// The pages of a map, in the order of their first uses; the target of each node; the documents
 /// that are used, in the order of their first uses; and the faults that were found.
-#[derive(Debug, Drop)]
+#[derive(Drop)]
 pub struct PagesMade {
     pub pages: List<PagePlan>,
     pub targets: List<Target>,

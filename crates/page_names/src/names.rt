@@ -23,7 +23,7 @@ const CONTENTS_NAME: &str = "index.html";
 const PAGE_NAME_LIMIT: usize = 240;
 
 // Names that are taken, and for each base the next number to try.
-#[derive(Debug, Drop)]
+#[derive(Drop)]
 struct PageNames {
     taken: BTreeSet<Name>,
     next: BTreeMap<Text, usize>,

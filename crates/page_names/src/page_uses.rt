@@ -10,14 +10,14 @@ use std::alloc::{AllocError, Global};
 use std::collections::BTreeSet;
 
 /// A page before it has its name.
-#[derive(Debug, Drop)]
+#[derive(Drop)]
 pub(crate) struct Use {
     pub id: PageId,
     pub node: u32,
 }
 
 // What makes two pages different, in an order; the prefixes and suffixes stand in turn.
-#[derive(Debug, PartialEq, Eq, PartialOrd, Ord, Drop)]
+#[derive(PartialEq, Eq, PartialOrd, Ord, Drop)]
 struct PageKey {
     doc: Name,
     scope: u32,
@@ -26,7 +26,7 @@ struct PageKey {
 }
 
 /// The first use of each page, in order.
-#[derive(Debug, Drop)]
+#[derive(Drop)]
 pub(crate) struct PageUses {
     pub uses: Vec<Use>,
     seen: BTreeSet<PageKey>,

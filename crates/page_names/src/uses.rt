@@ -26,7 +26,7 @@ use readers::Keys;
 use std::alloc::Global;
 
 /// What the nodes of a map lead to and use, in order.
-#[derive(Debug, Drop)]
+#[derive(Drop)]
 pub(crate) struct Uses {
     pub pages: PageUses,
     pub targets: List<Target>,

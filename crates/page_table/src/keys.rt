@@ -9,7 +9,7 @@ use std::alloc::{AllocError, Global};
 
 // What sets pages of a document apart, and the document, which the pages of one document share; the
 // prefixes and suffixes stand in turn.
-#[derive(Debug, PartialEq, Eq, PartialOrd, Ord, Drop)]
+#[derive(PartialEq, Eq, PartialOrd, Ord, Drop)]
 pub(crate) struct PageKey {
     scope: u32,
     filters: List<Name>,

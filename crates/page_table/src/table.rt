@@ -16,14 +16,14 @@ use std::collections::BTreeMap;
 use std::collections::btree_map::Entry;
 
 // The first page of a document, and whether it has no other.
-#[derive(Clone, Copy, Debug)]
+#[derive(Clone, Copy)]
 struct DocPages {
     first: u32,
     alone: bool,
 }
 
 /// The pages of a plan: the first of each document, and each by what sets it apart.
-#[derive(Debug, Drop)]
+#[derive(Drop)]
 pub struct PageTable {
     docs: BTreeMap<Name, DocPages>,
     pages: BTreeMap<PageKey, u32>,

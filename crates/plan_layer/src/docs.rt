@@ -16,7 +16,7 @@ use std::sync::Arc;
 /// Documents with the pushes of a plan's documents into them, by their names; none for a name under
 /// which none is stored. Beside them the names of documents of which it was seen that no element
 /// acts.
-#[derive(Debug, Drop)]
+#[derive(Drop)]
 pub struct PushedDocs {
     docs: BTreeMap<Name, Option<Arc<Doc>>>,
     quiet: BTreeSet<Name>,

@@ -12,7 +12,7 @@ use std::collections::BTreeMap;
 use std::sync::Arc;
 
 /// Documents with the pushes into them, by their names; none for a name under which none is stored.
-#[derive(Debug, Drop)]
+#[derive(Drop)]
 pub struct PushedMemo {
     docs: BTreeMap<Name, Option<Arc<Doc>>>,
 }

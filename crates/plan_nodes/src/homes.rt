@@ -27,21 +27,21 @@ use std::marker::Model;
 use std::sync::Arc;
 
 // Where the element of a node stands: which of the documents, and the place in it.
-#[derive(Clone, Copy, Debug)]
+#[derive(Clone, Copy)]
 struct Home {
     doc: usize,
     place: u32,
 }
 
 // A document and the name under which it stands.
-#[derive(Debug, Drop)]
+#[derive(Drop)]
 struct NamedDoc {
     name: Name,
     doc: Arc<Doc>,
 }
 
 /// The documents in which the nodes of a map stand, and the element of each node.
-#[derive(Debug, Drop)]
+#[derive(Drop)]
 pub struct Homes {
     docs: Vec<NamedDoc>,
     homes: Vec<Option<Home>>,

@@ -18,7 +18,7 @@ use std::mem;
 const DEPTH_LIMIT: usize = 256;
 
 /// The nodes that some lines made, and what of them the next lines go on with.
-#[derive(Debug, Drop)]
+#[derive(Drop)]
 pub struct PyxMachine {
     nodes: Vec<Node>,
     // The places of the open elements, the innermost last.

@@ -19,7 +19,7 @@ use std::alloc::Global;
 const TEXT_LIMIT: u32 = 4_194_304;
 
 /// A reader of a text that comes in pieces.
-#[derive(Debug, Drop)]
+#[derive(Drop)]
 pub struct PyxReader {
     machine: PyxMachine,
     // The line that is not ended yet, without CRs.

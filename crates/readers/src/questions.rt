@@ -12,7 +12,7 @@ use std::sync::Arc;
 
 /// A question as a reader keeps it. A build puts most of those that have a form of their own, so that
 /// they take little room.
-#[derive(Debug, Drop)]
+#[derive(Drop)]
 pub enum Note {
     /// A document, as it was found.
     Document(Name, Option<Arc<Doc>>),
@@ -101,7 +101,7 @@ pub fn share(found: &Option<Arc<Doc>>) -> Result<Option<Arc<Doc>>, AllocError>
 }
 
 /// The questions in the order in which they were put.
-#[derive(Debug, Drop)]
+#[derive(Drop)]
 pub struct Questions {
     oldest_first: Vec<Note>,
 }

@@ -11,7 +11,7 @@ use std::collections::BTreeMap;
 use std::marker::Model;
 
 /// A topic of a document; the empty text names no topic.
-#[derive(Debug, PartialEq, Eq, PartialOrd, Ord, Drop)]
+#[derive(PartialEq, Eq, PartialOrd, Ord, Drop)]
 pub struct TopicAt {
     pub name: Name,
     pub topic: Text,
@@ -30,7 +30,7 @@ impl TopicAt {
 }
 
 /// Titles, by their topics.
-#[derive(Debug, Drop)]
+#[derive(Drop)]
 pub struct TitleTable {
     titles: BTreeMap<TopicAt, Text>,
 }

@@ -25,7 +25,7 @@ use std::alloc::Global;
 
 // A cell of a row: where it and its row stand, where the nodes below it end, and whether those
 // are a family.
-#[derive(Clone, Copy, Debug)]
+#[derive(Clone, Copy)]
 pub(crate) struct Cell {
     pub row: u32,
     pub at: u32,
@@ -43,7 +43,7 @@ impl Cell {
 }
 
 // The rows and cells of a plan, and all nodes below cells that lead to DITA documents, in order.
-#[derive(Debug, Drop)]
+#[derive(Drop)]
 pub(crate) struct Cells {
     pub rows: Vec<u32>,
     pub cells: Vec<Cell>,

@@ -16,7 +16,7 @@ use std::alloc::{AllocError, Global};
 use std::collections::BTreeMap;
 
 // Where a page stands in a row: one of its cells, and whether it stands in others too.
-#[derive(Clone, Copy, Debug)]
+#[derive(Clone, Copy)]
 pub(crate) struct Standing {
     pub row: u32,
     pub cell: u32,
@@ -54,7 +54,7 @@ impl Standing {
 }
 
 // The cells of rows, and where pages stand in them.
-#[derive(Debug, Drop)]
+#[derive(Drop)]
 pub(crate) struct Standings {
     // The cells of each row, in order.
     rows: BTreeMap<u32, Vec<Cell>>,

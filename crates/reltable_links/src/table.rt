@@ -25,7 +25,7 @@ use readers::Asker;
 use std::alloc::Global;
 
 /// The rows of a plan, by the pages that link in them.
-#[derive(Debug, Drop)]
+#[derive(Drop)]
 pub struct Rows {
     cells: Cells,
     standings: Standings,

@@ -14,7 +14,7 @@ use pyx_text::read_body;
 use std::alloc::Global;
 
 /// A put whose body is to come.
-#[derive(Debug, Drop)]
+#[derive(Drop)]
 pub enum Opening {
     Put(Name),
     /// A put that stores only if this version stands under the name.
@@ -42,7 +42,7 @@ impl Opening {
 }
 
 /// What a line asks: a whole request, or one with a body.
-#[derive(Debug, Drop)]
+#[derive(Drop)]
 pub enum Command {
     Whole(Request),
     Opens(Opening),

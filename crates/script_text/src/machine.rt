@@ -7,7 +7,7 @@ use dita_doc::{List, Request, Stop};
 use std::alloc::Global;
 
 /// A put, with the bytes of its body so far.
-#[derive(Debug, Drop)]
+#[derive(Drop)]
 pub struct Begun {
     session: u32,
     opening: Opening,
@@ -15,7 +15,7 @@ pub struct Begun {
 }
 
 /// The put that some lines began and did not end.
-#[derive(Debug, Drop)]
+#[derive(Drop)]
 pub struct ScriptMachine {
     begun: Option<Begun>,
 }

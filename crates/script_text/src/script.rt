@@ -9,7 +9,7 @@ ghost use Rattle.script_text.specs.Script as script_spec;
 use dita_doc::{List, Request};
 
 /// The steps of a script. A document that one is to store has the name that it is stored under.
-#[derive(Debug, Drop)]
+#[derive(Drop)]
 pub struct Script {
     /// The requests, each behind its session.
     pub steps: List<(u32, Request)>,

@@ -10,7 +10,7 @@ use dita_doc::{Name, NoMemory, Node};
 use std::alloc::Global;
 
 /// What a reference names.
-#[derive(Debug, Drop)]
+#[derive(Drop)]
 pub enum Named {
     /// A document of this name, which may not be stored.
     Document(Name),

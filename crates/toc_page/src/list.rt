@@ -9,14 +9,14 @@ use std::mem;
 
 // An item that is open: the place just past its subtree, and whether a list of items below it was
 // begun.
-#[derive(Clone, Copy, Debug)]
+#[derive(Clone, Copy)]
 struct OpenItem {
     end: u32,
     has_list: bool,
 }
 
 /// The items that are open, the outermost first, and whether the list of the page was begun.
-#[derive(Debug, Drop)]
+#[derive(Drop)]
 pub(crate) struct OpenItems {
     items: Vec<OpenItem>,
     has_list: bool,

@@ -19,7 +19,7 @@ use std::alloc::Global;
 use std::collections::BTreeMap;
 
 // The ids of a topic and of an element whose nearest topic is of this id.
-#[derive(Debug, PartialEq, Eq, PartialOrd, Ord, Drop)]
+#[derive(PartialEq, Eq, PartialOrd, Ord, Drop)]
 struct Fragment {
     topic: Text,
     element: Text,
@@ -27,7 +27,7 @@ struct Fragment {
 
 /// The place of each element that a fragment can name in a document: the first in document order
 /// that fits.
-#[derive(Debug, Drop)]
+#[derive(Drop)]
 pub struct TargetTable {
     first_topic: Option<u32>,
     topics: BTreeMap<Text, u32>,

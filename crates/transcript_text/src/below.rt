@@ -12,7 +12,7 @@ use crate::word::{
 use dita_doc::{FaultCode, PyxCode, is_utf8, split_at_first, split_at_last};
 
 /// What lines stand below an entry.
-#[derive(Clone, Copy, Debug)]
+#[derive(Clone, Copy)]
 pub enum Below {
     /// So many lines of a text.
     Texts(u64),

@@ -3,7 +3,7 @@
 use dita_doc::{Fault, List, Name, PlanStop};
 
 /// Where the bytes of a page are.
-#[derive(Clone, Copy, Debug, PartialEq, Eq)]
+#[derive(Clone, Copy, PartialEq, Eq)]
 pub enum PageMark {
     /// So many bytes were put into the outlet.
     Bytes(u64),
@@ -12,7 +12,7 @@ pub enum PageMark {
 }
 
 /// What a build gave.
-#[derive(Debug, Drop)]
+#[derive(Drop)]
 pub enum BuiltText {
     /// The pages, the contents page last, and the faults.
     Pages(List<(Name, PageMark)>, List<Fault>),

@@ -20,7 +20,7 @@ use dita_doc::{FactKey, List, Name, Text, is_utf8};
 use std::alloc::{AllocError, Global};
 
 /// What was read of a transcript.
-#[derive(Debug, Drop)]
+#[derive(Drop)]
 pub enum State {
     /// Nothing.
     Start,

@@ -3,7 +3,7 @@
 use dita_doc::{FactKey, List, Text};
 
 /// An entry of a transcript.
-#[derive(Debug, Drop)]
+#[derive(Drop)]
 pub struct EntryText {
     pub place: u64,
     pub session: u32,
@@ -15,7 +15,7 @@ pub struct EntryText {
 }
 
 /// A row of a transcript.
-#[derive(Debug, Drop)]
+#[derive(Drop)]
 pub struct RowText {
     pub serial: u64,
     pub key: FactKey,
@@ -25,7 +25,7 @@ pub struct RowText {
 
 /// A transcript: its entries, its rows, and how many entries there are and how many rows were made
 /// and dropped.
-#[derive(Debug, Drop)]
+#[derive(Drop)]
 pub struct Transcript {
     pub entries: List<EntryText>,
     pub rows: List<RowText>,

@@ -23,7 +23,7 @@ pub const ENTRY_LIMIT: u64 = 65_536;
 pub const TEXT_LIMIT: u64 = 67_108_864;
 
 /// A history, with what is stored after it.
-#[derive(Debug, Drop)]
+#[derive(Drop)]
 pub struct Store {
     sources: Arc<Sources>,
     entries: Vec<Entry>,

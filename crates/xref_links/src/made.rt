@@ -5,7 +5,7 @@ use std::alloc::Global;
 
 /// What the elements of a page's body add to the page, in document order: their anchors, the links
 /// that it lists, and their faults.
-#[derive(Debug, Drop)]
+#[derive(Drop)]
 pub struct AnchorsMade {
     pub anchors: List<Anchor>,
     pub links: List<PageLink>,
