@@ -1,6 +1,6 @@
 -- What the walk asks about, from one call to the next: the page stays the same, and what the reader was made for.
 use Rattle.std.specs.Borrow.{Bor}
-use Rattle.std.specs.Prelude.{◌≡◌, ◌<◌, ℕ, List, [], ◌∷◌, Some, get_or, length, slice_get}
+use Rattle.std.specs.Prelude.{◌≡◌, ◌<◌, ℕ, List, [], ◌∷◌, Some, Result, Ok, Err, OnOk, get_or, length, slice_get}
 use Rattle.std.proofs.Common.{ap, subst, sym, ◌∙◌}
 use Rattle.dita_doc.specs.Siblings.{document}
 use Rattle.dita_doc.specs.declared.doc.Doc.{Doc}
@@ -9,7 +9,9 @@ use Rattle.dita_doc.specs.declared.fault.Fault.{Fault}
 use Rattle.dita_doc.specs.declared.plan.Context.{Context}
 use Rattle.dita_doc.specs.declared.plan.PlanNode.{PlanNode}
 use Rattle.dita_doc.specs.declared.siblings.Siblings.{Siblings}
+use Rattle.dita_doc.specs.declared.stop.Stop.{Stop}
 use Rattle.doc_elements.specs.Walk.{element_of}
+use Rattle.doc_maker.specs.declared.maker.DocMaker.{DocMaker}
 use Rattle.readers.specs.Documents.{IsGiven}
 use Rattle.readers.specs.Founded.{Grows}
 use Rattle.readers.specs.Named.{named_tree, reused_by, reused_in}
@@ -24,13 +26,29 @@ use Rattle.conref_pull.specs.Setting.{IsSamePage}
 use Rattle.conref_pull.specs.declared.chain.Link.{Link}
 use Rattle.conref_pull.specs.declared.origin.Whole.{Whole}
 use Rattle.conref_pull.specs.declared.resolver.Resolver.{Resolver}
-use Rattle.conref_pull.proofs.AroundLaws.{page_judged, page_one}
+use Rattle.conref_pull.specs.declared.resolver.TooMany.{TooMany}
+pub use Rattle.conref_pull.proofs.AroundLaws.{page_judged, page_one}
 use Rattle.conref_pull.proofs.AskingLaws.{about_call, about_next, about_part, given_reused, link_given, whole_inside}
 pub use Rattle.conref_pull.proofs.AskingLaws.{about_same, among_same, given_some, links_later, none_among}
 use Rattle.conref_pull.proofs.LinkLaws.{given_links}
 pub use Rattle.conref_pull.proofs.OriginLaws.{among_then, inside_among, node_reused, origin_there}
 use Rattle.conref_pull.proofs.OriginLaws.{origin_among}
 pub use Rattle.conref_pull.proofs.SettingLaws.{page_faults, page_same, page_then}
+
+-- the page is the same behind a call, as it was before it
+pub page_on : {a b : Resolver} (result : Result (Unit {0}) (Stop TooMany)) (c : Resolver) → IsSamePage a b
+    → OnOk result (IsSamePage b c) → OnOk result (IsSamePage a c)
+page_on {a} {b} (Ok done) c before call = page_then a b c before call
+page_on (Err stop) c before call = tt
+
+-- behind an element that was opened, filled and closed
+pub page_around : {a b d : Resolver} (opener closer : DocMaker) → IsSamePage a b
+    → IsSamePage (record b { maker = opener }) d → IsSamePage a (record d { maker = closer })
+page_around opener closer before within = record {
+  context = within.context ∙ before.context;
+  rules = within.rules ∙ before.rules;
+  deepest = within.deepest ∙ before.deepest;
+}
 
 -- what a call does that asks about the page and about these documents, wherever the nodes of the map are these
 abbrev pub AsksOf : Stand → Resolver → List (List ℕ) → List Told → List Told → Type 0

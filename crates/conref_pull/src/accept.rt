@@ -26,11 +26,14 @@ use std::alloc::Global;
 pub(crate) const LINK_LIMIT: u32 = 32;
 
 impl<'a> Resolver<'a> {
-    ghost use Rattle.std.specs.Prelude.{◌≡◌, ◌<◌, ◌≤◌, [], ℕ, IfNone, IfOk, IfSome, IsSome, OnOk, length};
+    ghost use Rattle.std.specs.Prelude.{◌≡◌, ◌<◌, ◌≤◌, [], ℕ, Some, IfNone, IfOk, IfSome, IsSome, OnOk, codes, length, slice_get, true};
+    ghost use Rattle.std.specs.Arc.{arc_value};
     ghost use Rattle.std.specs.List.{list_any};
+    ghost use Rattle.dita_doc.specs.declared.doc.Node as doc;
     ghost use Rattle.doc_elements.specs.Walk as walk_spec;
     ghost use Rattle.doc_maker.specs.Building.{depth};
     ghost use Rattle.doc_maker.specs.Made.{building};
+    ghost use Rattle.map_spec.specs.Elements as elements_spec;
     ghost use Rattle.page_spec.specs.Content as content_spec;
     ghost use Rattle.conref_pull.specs.Accepting as accepting_spec;
     ghost use Rattle.conref_pull.specs.Found as found_spec;
@@ -39,6 +42,7 @@ impl<'a> Resolver<'a> {
     ghost use Rattle.conref_pull.specs.Setting as setting_spec;
     ghost use Rattle.conref_pull.specs.Step as step_spec;
     ghost use Rattle.conref_pull.specs.Tables.{AreTables, Documents};
+    ghost use Rattle.conref_pull.specs.declared.tables.PlaceTables.{PlaceTables};
 
     // Takes a target into an element that is resolved within so many others; none, with a fault, if
     // its type does not fit, its range has no end, it is being resolved already, or it would be too
@@ -78,6 +82,41 @@ impl<'a> Resolver<'a> {
             return Ok(None);
         };
         let from = target.node.end;
+        self.go_on(origin, element, found, links, from, to)
+    }
+
+    // Goes on within a target that fits the element, with a range behind it; none, with a fault, if
+    // it is being resolved already, or it would be too deep.
+    #[tactic(auto, using(crate::proofs::PutLaws::making))]
+    fn go_on(
+        &mut self,
+        origin: &Name,
+        element: &Node,
+        found: Found<'_>,
+        links: u32,
+        from: u32,
+        to: u32,
+    ) -> Result<Option<Link>, NoMemory>
+        ensures limit { IfOk result (λ link. IsSome link → links < 32) }
+        ensures known { (documents : Documents) (meant : content_spec.Found) (at : ℕ) (target : doc.Node)
+            (places : PlaceTables) → AreTables documents places
+            → found_spec.IsFound documents meant found.entry
+            → slice_get (arc_value found.entry.doc).nodes found.entry.place ≡ Some target → target.end ≡ from
+            → elements_spec.is_special meant.standing.whole.0 (walk_spec.element_of origin.now element.now)
+            ≡ true
+            → accepting_spec.IsRangeEnd from meant.standing.behind (content_spec.range_by meant.standing
+            (elements_spec.attribute (codes "conrefend") (walk_spec.element_of origin.now element.now)))
+            (Some to)
+            → setting_spec.IsDepth self.old at → links ≤ length self.old.path.items
+            → IfOk result (λ link. linked_spec.IsStep documents
+            (step_spec.step_with (setting_spec.path_within self.old links)
+            (walk_spec.element_of origin.now element.now) meant []
+            (content_spec.refused_by found.entry.value.now at (setting_spec.path_within self.old links)
+            (walk_spec.element_of origin.now element.now) meant)) self.old self.new places link) }
+        ensures doc { IfOk result (λ link. IfSome link (λ one. one.doc ≡ found.entry.doc)) }
+        ensures page { OnOk result (setting_spec.IsSamePage self.old self.new) }
+        ensures maker { OnOk result (IsSameMaker self.old self.new) }
+    {
         match self.refusal(&found, links) {
             Some(code) => {
                 self.push_fault(origin, element, code, found.value)?;

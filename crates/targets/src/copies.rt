@@ -36,8 +36,8 @@ pub fn copy_answer(alloc: Global, answer: &KeyAnswer) -> Result<KeyAnswer, NoMem
 {
     Ok(KeyAnswer {
         node: answer.node,
-        target: copy_target(alloc, &answer.target)?,
         label: answer.label.clone()?,
         faults: copy_faults(alloc, answer.faults.as_slice())?,
+        target: copy_target(alloc, &answer.target)?,
     })
 }

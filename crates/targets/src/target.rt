@@ -1,6 +1,7 @@
 //! What a value leads to.
 
-ghost use Rattle.std.specs.Prelude.{◌≡◌, IfOk, IfSome, option_map};
+ghost use Rattle.std.specs.Prelude.{◌≡◌, Err, IfOk, IfSome, OnErr, option_map};
+ghost use Rattle.dita_doc.specs.declared.stop.Stop.TheVariants as stops;
 ghost use Rattle.href_text.specs.Reference as reference_spec;
 ghost use Rattle.map_spec.specs.Target as target_spec;
 ghost use Rattle.targets.specs.Named as named_spec;
@@ -121,7 +122,8 @@ fn split_file(value: &str) -> (&str, Option<&str>)
 
 /// What was read, if it was: a reference or a name that can't be read is none.
 pub fn if_read<T: Drop>(read: Result<T, Stop<RefFault>>) -> Result<Option<T>, NoMemory>
-    ensures { IfOk result (λ value. named_spec.IsIfRead value read) }
+    ensures value { IfOk result (λ value. named_spec.IsIfRead value read) }
+    ensures memory { OnErr result (read ≡ Err stops.NoMemory) }
 {
     match read {
         Ok(value) => Ok(Some(value)),

@@ -1,16 +1,25 @@
-use Rattle.std.proofs.Common.{List, ℕ, Option, None, false, [], sym, ap, refl, subst, ◌∙◌}
+use Rattle.std.proofs.Common.{◌≡◌, List, ℕ, Option, None, false, [], sym, ap, refl, subst, ◌∙◌}
 use Rattle.std.specs.Borrow.{Bor}
 use Rattle.std.specs.Option.{option_copied}
 use Rattle.dita_doc.specs.declared.plan.PlanNode.{PlanNode}
 use Rattle.map_spec.specs.Keys.{key_answer}
+use Rattle.readers.specs.Documents.{AsksOnly, nothing}
 use Rattle.readers.specs.Founded.{StaysFounded, homes}
 use Rattle.readers.specs.Setting.{Stand}
-use Rattle.readers.proofs.GrowthLaws.{agrees_before, told_answer}
+use Rattle.readers.specs.Told.{Told}
+use Rattle.readers.proofs.GrowthLaws.{agrees_before, grows_trans, told_answer}
+use Rattle.conref_pull.specs.Asking.{Asks}
 use Rattle.conref_pull.specs.Found.{IsKeyed}
 use Rattle.conref_pull.specs.Setting.{setting_of}
 use Rattle.conref_pull.proofs.AskingLaws.{about_after, about_key, given_target}
 use Rattle.conref_pull.proofs.FindLaws.{keyed_none, keyed_some, target_there}
 use Rattle.conref_pull.proofs.find.find_by_key.Goals as goal
+
+-- the question for the key, where the nodes of the map are these
+key_asked : {all nodes : List PlanNode} {old new : List Told} → all ≡ nodes → StaysFounded (homes all) old new
+    → AsksOnly nothing [] old new → Asks nodes [] old new
+key_asked {nodes = nodes} {old} {new} same founded asks = about_key nodes old new
+    (subst (λ (all : List PlanNode). StaysFounded (homes all) old new) same founded) asks
 
 pub returns-in_default-clause-known : goal.returns-in_default-clause-known
 returns-in_default-clause-known g c = λ world rules agrees are.
@@ -46,9 +55,7 @@ pub returns-in_err-find_target-clause-asks : goal.returns-in_err-find_target-cla
 returns-in_err-find_target-clause-asks g c = λ nodes same.
     about_after nodes [] (g.A.Reader.told c.args.asker.now) (g.A.Reader.told c.key.new.self) _
     c.in_ok-node.ensures.grows
-    (about_key nodes _ _ (subst (λ (all : List PlanNode). StaysFounded (homes all)
-    (g.A.Reader.told c.args.asker.now) (g.A.Reader.told c.key.new.self)) same c.in_ok-node.ensures.founded)
-    c.in_ok-node.ensures.asks)
+    (key_asked same c.in_ok-node.ensures.founded c.in_ok-node.ensures.asks)
     (c.find_target.ensures.asks nodes
     (ap (λ (stand : Stand). stand.setting.nodes) c.in_ok-node.ensures.stand ∙ same)
     (given_target _ _ _ _ _ _ c.in_ok-node.ensures.told))
@@ -57,9 +64,29 @@ pub returns-clause-asks : goal.returns-clause-asks
 returns-clause-asks g c = λ nodes same.
     about_after nodes [] (g.A.Reader.told c.args.asker.now) (g.A.Reader.told c.key.new.self) _
     c.in_ok-node.ensures.grows
-    (about_key nodes _ _ (subst (λ (all : List PlanNode). StaysFounded (homes all)
-    (g.A.Reader.told c.args.asker.now) (g.A.Reader.told c.key.new.self)) same c.in_ok-node.ensures.founded)
-    c.in_ok-node.ensures.asks)
+    (key_asked same c.in_ok-node.ensures.founded c.in_ok-node.ensures.asks)
     (c.in_ok-find_target.ensures.asks nodes
     (ap (λ (stand : Stand). stand.setting.nodes) c.in_ok-node.ensures.stand ∙ same)
     (given_target _ _ _ _ _ _ c.in_ok-node.ensures.told))
+
+pub returns-in_err-node-clause-asks : goal.returns-in_err-node-clause-asks
+returns-in_err-node-clause-asks g c = λ nodes same. key_asked same c.key.ensures.founded c.key.ensures.asks
+
+pub returns-in_err-append_faults-clause-asks : goal.returns-in_err-append_faults-clause-asks
+returns-in_err-append_faults-clause-asks g c = λ nodes same.
+    key_asked same c.in_ok-node.ensures.founded c.in_ok-node.ensures.asks
+
+pub returns-clause-given : goal.returns-clause-given
+returns-clause-given g c = c.in_ok-find_target.ensures.given
+
+pub returns-in_err-find_target-clause-stand : goal.returns-in_err-find_target-clause-stand
+returns-in_err-find_target-clause-stand g c = c.find_target.ensures.stand ∙ c.in_ok-node.ensures.stand
+
+pub returns-clause-stand : goal.returns-clause-stand
+returns-clause-stand g c = c.in_ok-find_target.ensures.stand ∙ c.in_ok-node.ensures.stand
+
+pub returns-in_err-find_target-clause-grows : goal.returns-in_err-find_target-clause-grows
+returns-in_err-find_target-clause-grows g c = grows_trans _ _ _ c.in_ok-node.ensures.grows c.find_target.ensures.grows
+
+pub returns-clause-grows : goal.returns-clause-grows
+returns-clause-grows g c = grows_trans _ _ _ c.in_ok-node.ensures.grows c.in_ok-find_target.ensures.grows

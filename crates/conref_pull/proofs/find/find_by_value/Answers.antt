@@ -33,7 +33,7 @@ returns-in_default-3-clause-known g c = λ world rules element agrees are same.
     ∙ unjoined setting c.args.topic.now element c.in-Some.conref.now c.in-Some-2.reference
     (sym c.in_ok-reference.ensures ∙ c.in-Some-2.is) (sym c.if-is_same_topic.ensures)
     (ap (λ (d : List ℕ). if_read (joined d c.in-Some-2.reference.file)) same
-    ∙ sym (c.in_ok-name-2.ensures (joined c.args.origin.now c.in-Some-2.reference.file) c.join_name.ensures)
+    ∙ sym (c.in_ok-name-2.ensures.value (joined c.args.origin.now c.in-Some-2.reference.file) c.join_name.ensures)
     ∙ c.in_default-3.is)) are)
 
 pub returns-then-is_same_topic-clause-known : goal.returns-then-is_same_topic-clause-known
@@ -62,7 +62,7 @@ returns-clause-known g c = λ world rules element agrees are same.
     ∙ joined_to setting c.args.topic.now element c.in-Some.conref.now reference
     (sym c.in_ok-reference.ensures ∙ c.in-Some-2.is) c.in-Some-3.name (sym c.if-is_same_topic.ensures)
     (ap (λ (d : List ℕ). if_read (joined d reference.file)) same
-    ∙ sym (c.in_ok-name-2.ensures (joined c.args.origin.now reference.file) c.join_name.ensures)
+    ∙ sym (c.in_ok-name-2.ensures.value (joined c.args.origin.now reference.file) c.join_name.ensures)
     ∙ c.in-Some-3.is))
     (ap (λ (v : Option (Bor (List ℕ))). unwrap_or (option_copied v) []) c.in-Some.is)
     (c.find_in-2.ensures.known world c.args.context.now.page rules agrees are))
@@ -79,6 +79,6 @@ returns-clause-asks g c = λ nodes same.
     (value_among c.args.origin.now c.in-Some.conref.now c.in-Some-2.reference c.in-Some-3.name
     (option_copied c.args.conref) c.args.context.now.page.doc (ap option_copied c.in-Some.is)
     (sym c.in_ok-reference.ensures ∙ c.in-Some-2.is)
-    (sym (c.in_ok-name-2.ensures (joined c.args.origin.now c.in-Some-2.reference.file) c.join_name.ensures)
+    (sym (c.in_ok-name-2.ensures.value (joined c.args.origin.now c.in-Some-2.reference.file) c.join_name.ensures)
     ∙ c.in-Some-3.is))
     (c.find_in-2.ensures.asks nodes same)

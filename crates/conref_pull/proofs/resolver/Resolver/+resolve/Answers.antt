@@ -14,7 +14,7 @@ use Rattle.conref_pull.proofs.ElementWalkLaws.{asked_kept, asked_not, asked_took
 use Rattle.conref_pull.proofs.LinkLaws.{given_links, links_are}
 use Rattle.conref_pull.proofs.OpenedLaws.{kept_not, kept_put, taken_goes, taken_not, taken_put}
 use Rattle.conref_pull.proofs.WalkNodeLaws.{behind_among, place_nothing, place_puts, place_walks, put_there, sibling_text, siblings_end, siblings_ready, text_put}
-use Rattle.conref_pull.proofs.WalkAskLaws.{about_same, agrees_before, among_same, among_then, asks_behind, asks_call, asks_counted, asks_followed, asks_last, asks_next, asks_on, asks_part, asks_target, given_later, given_some, grows_same, grows_trans, inside_among, link_later, links_later, node_reused, none_among, origin_there, page_faults, page_same, page_then, reused_given}
+use Rattle.conref_pull.proofs.WalkAskLaws.{about_same, agrees_before, among_same, among_then, asks_behind, asks_call, asks_counted, asks_followed, asks_last, asks_next, asks_on, asks_part, asks_target, given_later, given_some, grows_same, grows_trans, inside_among, link_later, links_later, node_reused, none_among, origin_there, page_around, page_faults, page_judged, page_on, page_one, page_same, page_then, reused_given}
 use Rattle.conref_pull.proofs.WalkHrefLaws.{around_put, counted_put, left_named, maker_counted, maker_faults, maker_then, named_later, nodes_later, origin_later, origin_named, place_put, place_text, put_later, same_put, sibling_put, written_named}
 use Rattle.conref_pull.proofs.WalkLoopLaws.{first_within, node_next, node_stops, range_ends, range_goes_on, range_next, range_ready, range_stops, ranges_end, ranges_over, ranges_ready, rest_within, sibling_next, sibling_stops, splits}
 use Rattle.conref_pull.proofs.resolver.Resolver.+resolve.Goals as goal
@@ -133,15 +133,6 @@ range-returns-in_err-node_at-clause-asks g t c = λ nodes same given.
     (λ ns is. c.loop.invariant.asks ns is given) (λ ns is. c.node_at.ensures.asks ns is
     (reused_given c.deref-in-loop.ensures (given_later _ _ _ c.loop.invariant.grows given))) nodes same
 
-pub range-returns-in_default-clause-asks : goal.range-returns-in_default-clause-asks
-range-returns-in_default-clause-asks g t c = c.loop.invariant.asks
-
-pub range-returns-then-place-link-clause-asks : goal.range-returns-then-place-link-clause-asks
-range-returns-then-place-link-clause-asks g t c = c.loop.invariant.asks
-
-pub range-returns-clause-asks : goal.range-returns-clause-asks
-range-returns-clause-asks g t c = c.loop.invariant.asks
-
 pub ranges-loop-link-preserved : goal.ranges-loop-link-preserved
 ranges-loop-link-preserved g t c = record {
   page = page_then _ _ _ c.loop-link.invariant.page c.in_ok-range.ensures.page;
@@ -167,12 +158,6 @@ ranges-returns-in_err-range-clause-asks g t c = λ nodes same given.
     (λ ns is. c.loop-link.invariant.asks ns is given) (λ ns is. c.range.ensures.asks ns is (link_later
     c.loop-link.link-index c.loop-link.invariant.grows c.deref-link-items.ensures.value c.loop-link-test.true
     c.link-item.is given)) nodes same
-
-pub ranges-returns-then-count-at-clause-asks : goal.ranges-returns-then-count-at-clause-asks
-ranges-returns-then-count-at-clause-asks g t c = c.loop-link.invariant.asks
-
-pub ranges-returns-clause-asks : goal.ranges-returns-clause-asks
-ranges-returns-clause-asks g t c = c.loop-link.invariant.asks
 
 pub siblings-returns-in_err-element-in-Element-clause-asks : goal.siblings-returns-in_err-element-in-Element-clause-asks
 siblings-returns-in_err-element-in-Element-clause-asks g t c =
@@ -210,6 +195,35 @@ pub unchanged-returns-clause-asks : goal.unchanged-returns-clause-asks
 unchanged-returns-clause-asks g t c =
     asks_counted (g.A.Reader.stand c.args.asker.now) c.in_ok-count_one.ensures c.siblings.ensures.asks
 
+pub element-returns-then-chain-at-clause-grows : goal.element-returns-then-chain-at-clause-grows
+element-returns-then-chain-at-clause-grows g t c =
+    grows_trans _ _ _ c.in_ok-chain.ensures.grows c.unchanged-then-chain-at.ensures.grows
+
+pub element-returns-in_err-merged-clause-grows : goal.element-returns-in_err-merged-clause-grows
+element-returns-in_err-merged-clause-grows g t c = grows_trans _ _ _ c.in_ok-chain.ensures.grows c.merged.ensures.grows
+
+pub element-returns-clause-grows : goal.element-returns-clause-grows
+element-returns-clause-grows g t c = grows_trans _ _ _ c.in_ok-chain.ensures.grows
+    (grows_trans _ _ _ c.in_ok-merged.ensures.grows c.ranges-2.ensures.grows)
+
+pub element-returns-then-chain-at-clause-page : goal.element-returns-then-chain-at-clause-page
+element-returns-then-chain-at-clause-page g t c = page_on c.unchanged-then-chain-at.result c.unchanged-then-chain-at.new.self (page_then _ _ _
+    (page_faults c.args.self.now _ _ c.in_ok-is_excluded.ensures.state) c.in_ok-chain.ensures.page)
+    c.unchanged-then-chain-at.ensures.page
+
+pub element-returns-clause-page : goal.element-returns-clause-page
+element-returns-clause-page g t c = page_on c.ranges-2.result c.ranges-2.new.self (page_then _ _ _ (page_then _ _ _
+    (page_faults c.args.self.now _ _ c.in_ok-is_excluded.ensures.state) c.in_ok-chain.ensures.page)
+    c.in_ok-merged.ensures.page) c.ranges-2.ensures.page
+
+pub unchanged-returns-clause-page : goal.unchanged-returns-clause-page
+unchanged-returns-clause-page g t c = page_around c.open.new.self c.close.new.self
+    (page_one _ _ c.in_ok-count_one.ensures) c.in_ok-siblings.ensures.page
+
+pub merged-returns-clause-page : goal.merged-returns-clause-page
+merged-returns-clause-page g t c = page_around c.open.new.self c.close.new.self (page_judged _ c.args.self.now _
+    _ c.in_ok-count_one.ensures c.in_ok-is_excluded.ensures.state) c.in_ok-siblings.ensures.page
+
 -- The documents that hrefs name
 
 pub siblings-returns-in-End-clause-hrefs : goal.siblings-returns-in-End-clause-hrefs
@@ -223,21 +237,6 @@ pub node_at-returns-in-Some-node_of-clause-hrefs : goal.node_at-returns-in-Some-
 node_at-returns-in-Some-node_of-clause-hrefs g t c = λ all put.
     place_text _ c.args.doc.now c.in-Some-node_of.node.now c.put_chars.result _ _
     (c.put_chars.ensures.put c.args.place (sym c.in-Some-node_of.ensures)) put
-
-pub range-returns-in_default-clause-hrefs : goal.range-returns-in_default-clause-hrefs
-range-returns-in_default-clause-hrefs g t c = c.loop.invariant.hrefs
-
-pub range-returns-then-place-link-clause-hrefs : goal.range-returns-then-place-link-clause-hrefs
-range-returns-then-place-link-clause-hrefs g t c = c.loop.invariant.hrefs
-
-pub range-returns-clause-hrefs : goal.range-returns-clause-hrefs
-range-returns-clause-hrefs g t c = c.loop.invariant.hrefs
-
-pub ranges-returns-then-count-at-clause-hrefs : goal.ranges-returns-then-count-at-clause-hrefs
-ranges-returns-then-count-at-clause-hrefs g t c = c.loop-link.invariant.hrefs
-
-pub ranges-returns-clause-hrefs : goal.ranges-returns-clause-hrefs
-ranges-returns-clause-hrefs g t c = c.loop-link.invariant.hrefs
 
 pub element-returns-then-branch-clause-hrefs : goal.element-returns-then-branch-clause-hrefs
 element-returns-then-branch-clause-hrefs g t c = λ named held put.

@@ -3,7 +3,7 @@ use Rattle.std.specs.Option.{option_copied, unwrap_or}
 use Rattle.std.specs.Borrow.{Bor}
 use Rattle.dita_doc.specs.declared.doc.Doc.{Doc}
 use Rattle.doc_elements.specs.Walk.{element_of}
-use Rattle.conref_pull.proofs.AcceptedLaws.{accept_range, accept_refused, accept_taken, accept_type, special_is}
+use Rattle.conref_pull.proofs.AcceptedLaws.{accept_range, accept_type, special_is}
 use Rattle.conref_pull.proofs.RangeEndLaws.{range_as}
 use Rattle.conref_pull.proofs.resolver.Resolver.accept.Goals as goal
 
@@ -40,40 +40,16 @@ returns-in_default-2-clause-known c = λ documents meant at are is deep room.
     (c.in_ok-to.ensures.range documents meant are is here))
     c.in_ok-push_fault-2.ensures)
 
-pub returns-in_ok-push_fault-in-Some-refusal-clause-known :
-    goal.returns-in_ok-push_fault-in-Some-refusal-clause-known
-returns-in_ok-push_fault-in-Some-refusal-clause-known c = λ documents meant at are is deep room.
+pub returns-clause-known : goal.returns-clause-known
+returns-clause-known c = λ documents meant at are is deep room.
     (let element = element_of c.args.origin.now c.args.element.now in
     let here = subst (λ (d : Doc). slice_get d.nodes c.args.found.place ≡ Some c.in-Some.target.node.now) c.deref.ensures
     c.in-Some.ensures.here in
     let tables = c.in_ok-to.ensures.tables documents meant are is in
-    accept_refused documents meant c.args.found is at c.args.links element c.args.self.now
-    c.push_fault-in-Some-refusal.new.self c.range_end.new.places tables
-    (special_is documents meant c.args.found is at c.args.links element c.args.self.now
-    c.push_fault-in-Some-refusal.new.self c.range_end.new.places tables c.deref.result.now c.in-Some.target _ _
-    c.deref.ensures c.in-Some.ensures.whole
+    c.go_on.ensures.known documents meant at c.in-Some.target.node.now c.range_end.new.places tables is here refl
+    (special_is documents meant c.args.found is at c.args.links element c.args.self.now c.go_on.new.self
+    c.range_end.new.places tables c.deref.result.now c.in-Some.target _ _ c.deref.ensures c.in-Some.ensures.whole
     (c.is_special.ensures c.in-Some.target.origin.now c.args.origin.now) c.if-not-is_special.false)
-    c.in-Some.target.node.now.end c.in-Some-2.to
     (range_as meant.standing c.in-Some.target.node.now.end _ _ _ _ (sym c.value_of-end.ensures) (sym c.in-Some-2.is)
     (c.in_ok-to.ensures.range documents meant are is here))
-    deep room c.in-Some-refusal.code (sym c.refusal.ensures.code ∙ c.in-Some-refusal.is)
-    c.in_ok-push_fault-in-Some-refusal.ensures)
-
-pub returns-in_ok-enter-in-None-clause-known : goal.returns-in_ok-enter-in-None-clause-known
-returns-in_ok-enter-in-None-clause-known c = λ documents meant at are is deep room.
-    (let element = element_of c.args.origin.now c.args.element.now in
-    let here = subst (λ (d : Doc). slice_get d.nodes c.args.found.place ≡ Some c.in-Some.target.node.now) c.deref.ensures
-    c.in-Some.ensures.here in
-    let tables = c.in_ok-to.ensures.tables documents meant are is in
-    accept_taken documents meant c.args.found is at c.args.links element c.args.self.now
-    (record c.args.self.now { path = c.enter.new.path }) c.range_end.new.places tables
-    (special_is documents meant c.args.found is at c.args.links element c.args.self.now
-    (record c.args.self.now { path = c.enter.new.path }) c.range_end.new.places tables c.deref.result.now
-    c.in-Some.target _ _ c.deref.ensures c.in-Some.ensures.whole
-    (c.is_special.ensures c.in-Some.target.origin.now c.args.origin.now) c.if-not-is_special.false)
-    c.in-Some.target.node.now.end c.in-Some-2.to
-    (range_as meant.standing c.in-Some.target.node.now.end _ _ _ _ (sym c.value_of-end.ensures) (sym c.in-Some-2.is)
-    (c.in_ok-to.ensures.range documents meant are is here))
-    deep room c.in-Some.target.node.now c.in_ok-enter-in-None.field-0 here refl
-    (sym c.refusal.ensures.code ∙ c.in-None.is) c.in_ok-enter-in-None.ensures.link c.in_ok-enter-in-None.ensures.path
-    refl)
+    deep room)
