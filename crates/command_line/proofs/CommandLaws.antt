@@ -100,3 +100,13 @@ folder_if_not found words none read =
 pub adds : (old new : Command) (arg : Arg) (app : App) (rule : Rule) → app_of old ≡ app → AddsArg old arg new → arg.global ≡ false
     → rule_of arg ≡ rule → app_of new ≡ with_rule app rule
 adds old new arg app rule before added here is = added.shape here ∙ ap₂ with_rule before is
+
+-- a rule was added to a command that is known
+pub adds_rule : (old new : Command) (rule : Rule) (app : App) → app_of old ≡ app → app_of new ≡ with_rule (app_of old) rule
+    → app_of new ≡ with_rule app rule
+adds_rule old new rule app before is = is ∙ ap (λ a. with_rule a rule) before
+
+-- and two of them
+pub adds_two : (old new : Command) (rule next : Rule) (app : App) → app_of old ≡ app
+    → app_of new ≡ with_rule (with_rule (app_of old) rule) next → app_of new ≡ with_rule (with_rule app rule) next
+adds_two old new rule next app before is = is ∙ ap (λ a. with_rule (with_rule a rule) next) before

@@ -1,7 +1,7 @@
 //! The command of the program, argument by argument.
 
-ghost use Rattle.std.specs.Prelude.{◌≡◌, IfOk, false};
-ghost use Rattle.clap.specs.Simple.{app_of};
+ghost use Rattle.std.specs.Prelude.{◌≡◌, IfOk, codes, false};
+ghost use Rattle.clap.specs.Simple.{app_of, with_rule};
 ghost use Rattle.clap.specs.Walk.{rule_of};
 ghost use Rattle.clap.specs.declared.builder.value_parser.ValueParser.TheVariants as value_parsers;
 ghost use Rattle.command_line.specs.Command as spec;
@@ -20,25 +20,54 @@ pub fn command<'a>(alloc: Global) -> Result<Command<'a>, AllocError>
     ensures { IfOk result (λ command. spec.IsCommand (app_of command)) }
 {
     let workers = number(alloc, "workers", 1, 16, "4").help("Threads that work on one build");
+    let start = named(alloc).arg(mode(alloc))?.arg(workers)?;
+    let made = with_project(alloc, start)?;
+    let served = with_sessions(alloc, made)?;
+    with_folder(alloc, served)
+}
+
+// The command without arguments, which tells its version.
+fn named<'a>(alloc: Global) -> Command<'a>
+    ensures { app_of result ≡ spec.versioned (codes "dita_desk") }
+{
+    Command::new(alloc, "dita_desk")
+        .version(VERSION)
+        .about("Publishes documentation written in DITA 1.3")
+}
+
+// Adds the number from which a project is made, and its topics.
+fn with_project<'a>(alloc: Global, command: Command<'a>) -> Result<Command<'a>, AllocError>
+    ensures { IfOk result (λ made. app_of made ≡ with_rule (with_rule (app_of command.entry)
+        (spec.option (codes "number") (value_parsers.Unsigned 0 9223372036854775807) (codes "1")))
+        (spec.option (codes "topics") (value_parsers.Unsigned 2 4000) (codes "40"))) }
+{
     let seed = number(alloc, "number", 0, i64::MAX as u64, "1").help(
         "The number from which a project is made",
     );
     let topics = number(alloc, "topics", 2, 4000, "40").help("Topics of the project that is made");
+    command.arg(seed)?.arg(topics)
+}
+
+// Adds where sessions connect, and how many.
+fn with_sessions<'a>(alloc: Global, command: Command<'a>) -> Result<Command<'a>, AllocError>
+    ensures { IfOk result (λ made. app_of made ≡ with_rule (with_rule (app_of command.entry)
+        (spec.option (codes "port") (value_parsers.Unsigned 0 65535) (codes "7070")))
+        (spec.option (codes "connections") (value_parsers.Unsigned 1 1024) (codes "1"))) }
+{
     let port = number(alloc, "port", 0, 65535, "7070").help("The port to which sessions connect");
     let connections = number(alloc, "connections", 1, 1024, "1").help("Sessions that are served");
+    command.arg(port)?.arg(connections)
+}
+
+// Adds the folder of the pages.
+fn with_folder<'a>(alloc: Global, command: Command<'a>) -> Result<Command<'a>, AllocError>
+    ensures { IfOk result (λ made. app_of made ≡ with_rule (app_of command.entry)
+        (spec.option (codes "out") value_parsers.NonEmptyString spec.default_folder)) }
+{
     let out = option(alloc, "out", "DIR", ValueParser::NonEmptyString, "out").help(
         "The folder of the pages",
     );
-    Command::new(alloc, "dita_desk")
-        .version(VERSION)
-        .about("Publishes documentation written in DITA 1.3")
-        .arg(mode(alloc))?
-        .arg(workers)?
-        .arg(seed)?
-        .arg(topics)?
-        .arg(port)?
-        .arg(connections)?
-        .arg(out)
+    command.arg(out)
 }
 
 // The mode, which must be there.
