@@ -1,5 +1,5 @@
 -- Bytes of which some lines were read.
-use Rattle.std.specs.Prelude.{◌≡◌, ◌+◌, ◌<◌, ◌≤◌, ℕ, true, false, List, [], ◌∷◌, ◌++◌, length, take, drop, map, All}
+use Rattle.std.specs.Prelude.{◌≡◌, ◌+◌, ◌<◌, ◌≤◌, ℕ, true, false, List, [], ◌∷◌, ◌++◌, Result, Ok, Err, IfOk, IfErr, length, take, drop, map, All}
 use Rattle.std.specs.List.{flat_map}
 use Rattle.std.proofs.Common.{refl, sym, ap, subst, ◌∙◌, inl, inr, arith, append_assoc, append-nil, length-append}
 use Rattle.std.proofs.lemmas.Grind.{flat_map-append}
@@ -208,3 +208,28 @@ pub named : (stop : Stop BadTranscript) (bytes : List ℕ) (number : ℕ) → Is
     → IsFaultOf stop bytes
 named (Fault bad) bytes number is bad_there = subst (IsBadAt bytes) (sym is) bad_there
 named NoMemory bytes number is bad_there = tt
+
+-- that of a line that may not follow
+pub line_named : (stop : Stop BadTranscript) (state : State) (number : ℕ) (bytes rest text back : List ℕ)
+    → HasReadLines state number bytes rest → IsCutAt 10 rest text back → IsLine stop (number + 1)
+    → ((more : List (List ℕ)) → May state (text ∷ more) → stop ≡ NoMemory) → IsFaultOf stop bytes
+line_named (Fault bad) state number bytes rest text back has cut is none =
+    named (Fault bad) bytes (number + 1) is
+    (line_refused state number bytes rest text back has cut (λ more may. absurd (cc (none more may))))
+line_named NoMemory state number bytes rest text back has cut is none = tt
+
+-- what is given at the end
+pub given_read : (result : Result Transcript (Stop BadTranscript)) (state : State) (number : ℕ) (bytes rest : List ℕ)
+    → HasReadLines state number bytes rest → length rest ≡ 0 → IfOk result (λ transcript. state ≡ End transcript)
+    → IfOk result (λ transcript. IsRead transcript bytes)
+given_read (Ok transcript) state number bytes rest has empty is =
+    all_read transcript number bytes rest (subst (λ (s : State). HasReadLines s number bytes rest) is has) empty
+given_read (Err stop) state number bytes rest has empty is = tt
+
+pub given_refused : (result : Result Transcript (Stop BadTranscript)) (state : State) (number : ℕ) (bytes rest : List ℕ)
+    → HasReadLines state number bytes rest → length rest ≡ 0
+    → IfErr result (λ stop. (transcript : Transcript) → state ≡ End transcript → ⊥)
+    → IfErr result (λ stop. IsLine stop number) → IfErr result (λ stop. IsFaultOf stop bytes)
+given_refused (Ok transcript) state number bytes rest has empty none is = tt
+given_refused (Err stop) state number bytes rest has empty none is =
+    named stop bytes number is (end_refused state number bytes rest has empty none)

@@ -208,11 +208,11 @@ row_more entries rows opened later left now read given text has some fewer is fi
     })
 
 -- a line that may stand in a row is one of its lines
-record IsRowText (left serial : ℕ) (given : List ℕ) (more : List (List ℕ)) : Type 0 where
-  text : List ℕ
-  is : given ≡ bar text
-  fits : IsLineText text
-  rest : MayRowLines (left - 1) serial more
+pub record IsRowText (left serial : ℕ) (given : List ℕ) (more : List (List ℕ)) : Type 0 where
+  pub text : List ℕ
+  pub is : given ≡ bar text
+  pub fits : IsLineText text
+  pub rest : MayRowLines (left - 1) serial more
 
 row_text_of : (left serial : ℕ) (given : List ℕ) (more texts back : List (List ℕ)) → All IsLineText texts
     → length texts ≡ left → 0 < left → MayRows serial back → given ∷ more ≡ map bar texts ++ back
@@ -232,7 +232,7 @@ row_text_of left serial given more (text ∷ texts) back fit count some behind l
   };
 }
 
-may_row_text : (left serial : ℕ) (given : List ℕ) (more : List (List ℕ)) → MayRowLines left serial (given ∷ more)
+pub may_row_text : (left serial : ℕ) (given : List ℕ) (more : List (List ℕ)) → MayRowLines left serial (given ∷ more)
     → 0 < left → IsRowText left serial given more
 may_row_text left serial given more may some =
     row_text_of left serial given more may.texts may.back may.fit may.count some may.behind may.lines

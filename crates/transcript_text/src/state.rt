@@ -7,6 +7,7 @@ ghost use Rattle.std.specs.Str.{IsUtf8};
 ghost use Rattle.dita_doc.specs.Bytes.{Bytes};
 ghost use Rattle.dita_doc.specs.Bytes as bytes_spec;
 ghost use Rattle.dita_doc.specs.Cut as cut_spec;
+ghost use Rattle.dita_doc.specs.Lines as lines_spec;
 ghost use Rattle.transcript_text.specs.Below as below_spec;
 ghost use Rattle.transcript_text.specs.State as state_spec;
 ghost use Rattle.transcript_text.specs.Told as told_spec;
@@ -166,9 +167,19 @@ fn entry_text(
     if !fits(below, opened.lines.len(), text) {
         return Ok(None);
     }
-    let mut opened = opened;
-    opened.lines.push(Text::from_bytes(alloc, text)?)?;
-    Ok(Some(with_entry(entries, opened, below)?))
+    let longer = with_text(alloc, opened, text)?;
+    Ok(Some(with_entry(entries, longer, below)?))
+}
+
+// The entry with one more line.
+fn with_text(alloc: Global, opened: EntryText, text: &[u8]) -> Result<EntryText, AllocError>
+    requires { IsUtf8 text.now }
+    ensures { IfOk result (λ longer. longer
+        ≡ record opened { lines = opened.lines ++ text.now ∷ [] }) }
+{
+    let mut longer = opened;
+    longer.lines.push(Text::from_bytes(alloc, text)?)?;
+    Ok(longer)
 }
 
 // What stands behind the `|` of a line.
@@ -289,14 +300,36 @@ fn row_text(
         state_spec.MayRowLines left opened.serial (line.now ∷ more) → 0 < left →
         IfOk result (λ next. MatchOption next ⊥ (λ state. state_spec.May state more)) }
 {
-    let Some(text) = text_of(line) else {
+    let Some(text) = text_of_row(left, line) else {
         return Ok(None);
     };
-    if !is_utf8(text) || left == 0 {
-        return Ok(None);
+    let longer = with_line(opened, text)?;
+    Ok(Some(with_row(entries, rows, longer, left - 1)?))
+}
+
+// What stands behind the `|` of a line of a row of which so many lines are to come.
+fn text_of_row(left: u64, line: &[u8]) -> Option<&[u8]>
+    requires { cut_spec.Lacks bytes_spec.line_feed line.now }
+    ensures { MatchOption result
+        ((text : Bytes) → line.now ≡ told_spec.bar text → lines_spec.IsLineText text →
+        0 < left → ⊥)
+        (λ text. (line.now ≡ told_spec.bar text.now) × lines_spec.IsLineText text.now
+        × (0 < left)) }
+{
+    let text = text_of(line)?;
+    if left == 0 || !is_utf8(text) {
+        return None;
     }
-    let mut opened = opened;
-    opened.bytes.append(text)?;
-    opened.bytes.push(b'\n')?;
-    Ok(Some(with_row(entries, rows, opened, left - 1)?))
+    Some(text)
+}
+
+// The row with one more line of its bytes.
+fn with_line(opened: RowText, text: &[u8]) -> Result<RowText, AllocError>
+    ensures { IfOk result (λ longer. longer
+        ≡ record opened { bytes = opened.bytes ++ lines_spec.line text.now }) }
+{
+    let mut longer = opened;
+    longer.bytes.append(text)?;
+    longer.bytes.push(b'\n')?;
+    Ok(longer)
 }

@@ -1,40 +1,34 @@
-use Rattle.std.proofs.Common.{sym, List, ℕ, ◌∷◌}
+use Rattle.std.proofs.Common.{sym}
 use Rattle.std.proofs.lemmas.Bool.{eqb-true}
-use Rattle.transcript_text.specs.State.{May}
+use Rattle.std.proofs.lemmas.Result.{err_from_is_err_and}
 use Rattle.transcript_text.proofs.LineLaws.{some_left}
-use Rattle.transcript_text.proofs.ReadLaws.{line_read, line_refused, rest_refused, end_refused, all_read, named}
+use Rattle.transcript_text.proofs.ReadLaws.{line_read, line_named, rest_refused, named, given_read, given_refused}
 use Rattle.transcript_text.proofs.read.read_transcript.Goals as goal
 
-pub returns-in-None-clause-refused : goal.returns-in-None-clause-refused
-returns-in-None-clause-refused c =
-    let none = λ (more : List (List ℕ)) (may : May c.loop-line.state (c.in-Some.line.now ∷ more)). rw c.in-None.is at
-    (c.in_ok-next.ensures.complete more may) in
-    named _ _ _ c.bad_at.ensures
-    (line_refused c.loop-line.state c.loop-line.number _ _ _ _ c.loop-line.invariant c.in-Some.ensures none)
+pub returns-in_err-state-clause-refused : goal.returns-in_err-state-clause-refused
+returns-in_err-state-clause-refused c =
+    let stop = err_from_is_err_and c.from_residual.result c.from_residual.ensures.1 in
+    rw (stop.1, stop.2)
+    (line_named c.in_err-state.field-0.0 c.loop-line.state c.loop-line.number _ _ _ _ c.loop-line.invariant c.in-Some.ensures
+    c.in_err-state.ensures.named c.in_err-state.ensures.refused)
 
 pub loop-line-preserved : goal.loop-line-preserved
 loop-line-preserved c =
-    line_read c.loop-line.state c.in-Some-2.next c.loop-line.number _ _ c.in-Some.line.now _ c.loop-line.invariant
-    c.in-Some.ensures
-    (λ read has. rw c.in-Some-2.is at (c.in_ok-next.ensures.sound read has))
-    (λ more may. rw c.in-Some-2.is at (c.in_ok-next.ensures.complete more may))
+    line_read c.loop-line.state c.in_ok-state.state c.loop-line.number _ _ c.in-Some.line.now _ c.loop-line.invariant
+    c.in-Some.ensures c.in_ok-state.ensures.sound c.in_ok-state.ensures.complete
 
 pub returns-then-not-is_empty-clause-refused : goal.returns-then-not-is_empty-clause-refused
 returns-then-not-is_empty-clause-refused c =
-    named _ _ _ c.bad_at-then-not-is_empty.ensures
+    named _ _ _ c.bad_at.ensures
     (rest_refused c.loop-line.state c.loop-line.number _ _ c.loop-line.invariant c.in_default.ensures
     (some_left _ c.if-not-is_empty.ensures))
 
-pub returns-in-End-clause-read : goal.returns-in-End-clause-read
-returns-in-End-clause-read c =
-    let has = rw c.in-End.is at c.loop-line.invariant in
-    all_read c.in-End.transcript c.loop-line.number c.args.bytes.now _ has
-    (eqb-true _ _ (sym c.if-not-is_empty.ensures))
+pub returns-clause-read : goal.returns-clause-read
+returns-clause-read c =
+    given_read c.whole.result c.loop-line.state c.loop-line.number _ _ c.loop-line.invariant
+    (eqb-true _ _ (sym c.if-not-is_empty.ensures)) c.whole.ensures.read
 
-pub returns : goal.returns
-returns c = record {
-  read = tt;
-  refused = named _ _ _ c.bad_at-in_default-state.ensures
-      (end_refused c.loop-line.state c.loop-line.number _ _ c.loop-line.invariant
-      (eqb-true _ _ (sym c.if-not-is_empty.ensures)) c.in_default-state.not-End);
-}
+pub returns-clause-refused : goal.returns-clause-refused
+returns-clause-refused c =
+    given_refused c.whole.result c.loop-line.state c.loop-line.number _ _ c.loop-line.invariant
+    (eqb-true _ _ (sym c.if-not-is_empty.ensures)) c.whole.ensures.refused c.whole.ensures.named

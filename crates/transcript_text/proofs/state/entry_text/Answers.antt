@@ -1,10 +1,11 @@
-use Rattle.std.proofs.Common.{ap, ◌∙◌, ◌++◌, ◌∷◌, [], ℕ, List, length, length-append}
+use Rattle.std.proofs.Common.{ap, ◌∙◌, ◌∷◌, [], length, length-append}
+use Rattle.transcript_text.specs.declared.transcript.EntryText.{EntryText}
 use Rattle.transcript_text.proofs.StateLaws.{entry_no_bar, entry_no_fit, entry_more, entry_may_more}
 use Rattle.transcript_text.proofs.Utf8Laws.{fits_utf8}
 use Rattle.transcript_text.proofs.state.entry_text.Goals as goal
 
-pub from_bytes-requires : goal.from_bytes-requires
-from_bytes-requires c = fits_utf8 c.args.below c.len.result c.in-Some.text.now c.if-not-fits.ensures
+pub with_text-requires : goal.with_text-requires
+with_text-requires c = fits_utf8 c.args.below c.len.result c.in-Some.text.now c.if-not-fits.ensures
 
 pub returns-in_default-clause-complete : goal.returns-in_default-clause-complete
 returns-in_default-clause-complete c =
@@ -18,15 +19,12 @@ returns-then-not-fits-clause-complete c = λ more may less.
 pub returns-clause-sound : goal.returns-clause-sound
 returns-clause-sound c = λ read has less.
     let fits = rw c.len.ensures.length at c.if-not-fits.ensures in
-    let pushed = c.in_ok-push.ensures
-    ∙ ap (λ (text : List ℕ). c.args.opened.lines ++ text ∷ []) c.in_ok-from_bytes.ensures in
     c.in_ok-with_entry.ensures.sound _
     (entry_more c.args.entries c.args.opened _ c.args.below read c.args.line.now c.in-Some.text.now has less
-    c.in-Some.ensures fits
-    (ap (λ (lines : List (List ℕ)). record c.args.opened { lines = lines }) pushed))
+    c.in-Some.ensures fits c.in_ok-longer.ensures)
 
 pub returns-clause-complete : goal.returns-clause-complete
 returns-clause-complete c = λ more may less.
     c.in_ok-with_entry.ensures.complete more (entry_may_more c.args.below _ _ c.args.line.now more may less
-    (ap (length {A = List ℕ}) c.in_ok-push.ensures
-    ∙ length-append c.args.opened.lines (c.in_ok-from_bytes.field-0 ∷ [])))
+    (ap (λ (entry : EntryText). length entry.lines) c.in_ok-longer.ensures
+    ∙ length-append c.args.opened.lines (c.in-Some.text.now ∷ [])))
