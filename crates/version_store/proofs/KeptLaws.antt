@@ -1,4 +1,5 @@
 -- What is kept after one more request.
+use Rattle.std.specs.Prelude.{Result, Ok, Err, OnErr}
 use Rattle.std.proofs.Common.{◌≡◌, ℕ, ◌+◌, List, [], ◌∷◌, ◌++◌, length, map, sym, ap, ◌∙◌, arith, subst, length-append}
 use Rattle.std.proofs.lemmas.List.{map_push}
 use Rattle.dita_doc.specs.Request.{text_size}
@@ -61,3 +62,8 @@ kept_grown state after size more entry_limit text_limit kept entries grown entry
     (kept_more state after size more (kept_of entries entry_limit text_limit) (entry_seen entry) is
     (subst (λ (k : Kept). Fits k request) (sym view) fits)
     (answered ∙ ap (λ (k : Kept). reply_now k request) (sym view)) changed large)
+
+-- what holds anyway holds if a call fails
+pub on_err_too : {T E P : Type 0} (result : Result T E) → P → OnErr result P
+on_err_too (Ok x) p = tt
+on_err_too (Err e) p = p

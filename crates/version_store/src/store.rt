@@ -1,11 +1,13 @@
 //! The history of all that was asked, with what is stored after it.
 
-ghost use Rattle.std.specs.Prelude.{◌≡◌, ◌<◌, ◌≤◌, Some, IfOk, IfErr, OnOk, OnErr, length};
+ghost use Rattle.std.specs.Prelude.{◌≡◌, ◌<◌, ◌≤◌, ◌∷◌, [], ◌++◌, Some, IfOk, IfErr, OnOk, OnErr, length};
 ghost use Rattle.std.specs.Arc.{arc_value};
 ghost use Rattle.std.specs.List.{slice_get};
+ghost use Rattle.dita_doc.specs.Desk as desk_spec;
 ghost use Rattle.dita_doc.specs.History as history_spec;
 ghost use Rattle.dita_doc.specs.Request as request_spec;
 ghost use Rattle.dita_doc.specs.Seen as seen_spec;
+ghost use Rattle.version_store.specs.Change as change_spec;
 ghost use Rattle.version_store.specs.Kept as kept_spec;
 
 use crate::change::change;
@@ -193,13 +195,33 @@ impl Store {
     {
         let size = text_bytes(&entry.request);
         let place = self.entries();
-        // With this room the push takes no memory: it can't fail once the sources have changed.
-        self.entries.reserve(1)?;
-        change(&mut self.sources, &entry.request, &entry.reply)?;
-        self.entries.push(entry)?;
+        append(&mut self.entries, &mut self.sources, entry)?;
         self.text += size;
         Ok(place)
     }
+}
+
+// Puts an entry at the end, and stores or removes what it says. Without memory nothing changes.
+fn append(
+    entries: &mut Vec<Entry>,
+    sources: &mut Arc<Sources>,
+    entry: Entry,
+) -> Result<(), AllocError>
+    requires text { change_spec.StoresText
+        (seen_spec.request_seen entry.request) (seen_spec.reply_seen entry.reply) }
+    requires origin { seen_spec.HasOwnOrigin entry.request }
+    ensures entries { OnOk result (entries.new.items ≡ entries.old.items ++ entry ∷ []) }
+    ensures sources { OnOk result (arc_value sources.new
+        ≡ desk_spec.after_reply (arc_value sources.old)
+        (seen_spec.request_seen entry.request) (seen_spec.reply_seen entry.reply)) }
+    ensures err { OnErr result ((entries.new.items ≡ entries.old.items)
+        × (arc_value sources.new ≡ arc_value sources.old)) }
+{
+    // With this room the push takes no memory: it can't fail once the sources have changed.
+    entries.reserve(1)?;
+    change(sources, &entry.request, &entry.reply)?;
+    entries.push(entry)?;
+    Ok(())
 }
 
 // The bytes of a request's names and body.
