@@ -1,6 +1,6 @@
 //! Commands: the words of a line behind its session.
 
-ghost use Rattle.std.specs.Prelude.{◌≡◌, IfOk};
+ghost use Rattle.std.specs.Prelude.{◌≡◌, ◌∷◌, [], IfOk};
 ghost use Rattle.dita_doc.specs.Bytes as bytes_spec;
 ghost use Rattle.dita_doc.specs.Gives.{GivesSeen};
 ghost use Rattle.dita_doc.specs.Seen as seen_spec;
@@ -143,12 +143,29 @@ fn read_build(alloc: Global, words: &str) -> Result<Command, Stop<ScriptCode>>
         return Err(Stop::Fault(ScriptCode::BadCommand));
     };
     if has_no_word(rest) {
-        let map = read_name(alloc, map)?;
-        return Ok(Command::Whole(Request::Build(map, None)));
+        return read_build_of_all(alloc, map);
     }
     let Some(val) = only_word(rest) else {
         return Err(Stop::Fault(ScriptCode::BadCommand));
     };
+    read_build_by_val(alloc, map, val)
+}
+
+// A build without a DITAVAL.
+fn read_build_of_all(alloc: Global, map: &str) -> Result<Command, Stop<ScriptCode>>
+    ensures command { GivesSeen command_spec.command_seen result
+        (script_spec.build_by (map.now ∷ [])) }
+    ensures own { IfOk result command_spec.HasOwn }
+{
+    let map = read_name(alloc, map)?;
+    Ok(Command::Whole(Request::Build(map, None)))
+}
+
+fn read_build_by_val(alloc: Global, map: &str, val: &str) -> Result<Command, Stop<ScriptCode>>
+    ensures command { GivesSeen command_spec.command_seen result
+        (script_spec.build_by (map.now ∷ val.now ∷ [])) }
+    ensures own { IfOk result command_spec.HasOwn }
+{
     let map = read_name(alloc, map)?;
     let val = read_name(alloc, val)?;
     Ok(Command::Whole(Request::Build(map, Some(val))))

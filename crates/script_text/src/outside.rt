@@ -1,5 +1,9 @@
 //! The lines outside bodies.
 
+ghost use Rattle.std.specs.Prelude.{◌∷◌, IfOk, IfSome};
+ghost use Rattle.dita_doc.specs.Bytes as bytes_spec;
+ghost use Rattle.dita_doc.specs.Gives.{GivesSeen};
+ghost use Rattle.script_text.specs.Command as command_spec;
 ghost use Rattle.script_text.specs.Script as script_spec;
 
 use crate::command::{Command, read_command};
@@ -48,11 +52,25 @@ impl LineReader for SessionLines {
         let Some((word, words)) = split_word(line) else {
             return Ok(None);
         };
-        let session = read_session(word)?;
-        let command = read_command(alloc, words)?;
-        if count >= REQUEST_LIMIT {
-            return Err(Stop::Fault(ScriptCode::TooManyRequests));
-        }
-        Ok(Some((session, command)))
+        read_asked(alloc, count, word, words)
     }
+}
+
+// What the words behind a session's word ask, behind so many requests.
+fn read_asked(
+    alloc: Global,
+    count: usize,
+    word: &str,
+    words: &str,
+) -> Result<Option<(u32, Command)>, Stop<ScriptCode>>
+    ensures asked { GivesSeen command_spec.asked_seen result
+        (script_spec.asked_by count (word.now ∷ bytes_spec.spaced_words words.now)) }
+    ensures own { IfOk result (λ asked. IfSome asked (λ asked. command_spec.HasOwn asked.1)) }
+{
+    let session = read_session(word)?;
+    let command = read_command(alloc, words)?;
+    if count >= REQUEST_LIMIT {
+        return Err(Stop::Fault(ScriptCode::TooManyRequests));
+    }
+    Ok(Some((session, command)))
 }
