@@ -5,6 +5,8 @@ use Rattle.std.specs.BTreeMap.{insert_entry, is_at}
 use Rattle.std.specs.Cmp.Lexicographic.{slice_cmp}
 use Rattle.std.specs.Map.{lookup}
 use Rattle.std.specs.Ordering.{nat_cmp}
+use Rattle.std.specs.declared.alloc.Global.{Global}
+use Rattle.std.specs.declared.sync.Arc.{Arc}
 use Rattle.std.proofs.Common.{refl, sym, ap, subst, ◌∙◌, arith, append-nil, get_or, length-append}
 use Rattle.std.proofs.lemmas.List.{map-append, take_more}
 use Rattle.std.proofs.lemmas.Option.{slice_get_past}
@@ -25,7 +27,7 @@ use Rattle.plan_nodes.specs.HomeDocs.{AreHomesOf, AreKnown, AreWithin, IsDocOf, 
 use Rattle.plan_nodes.specs.declared.homes.Home.{Home}
 use Rattle.plan_nodes.specs.declared.homes.NamedDoc.{NamedDoc}
 use Rattle.plan_nodes.proofs.ElementLaws.{element_found, element_here, of_node}
-use Rattle.plan_nodes.proofs.ListLaws.{get_more}
+use Rattle.plan_nodes.proofs.ListLaws.{get_more, get_pushed}
 use Rattle.plan_nodes.proofs.MemoLaws.{IsEach, each_found, each_kept, each_put}
 
 document_more : (docs more : List NamedDoc) (place : Option ℕ) → IsWithin (length docs) place
@@ -80,6 +82,23 @@ place_found world docs name entries place is known = record {
   known = known;
   here = each_found (IsKnown world docs) (AreKnown world docs) (known_each world docs) name entries place is known;
 }
+
+-- the place of a document that was put behind the others
+pub known_put : (world : World) (old new : List NamedDoc) (name copy : List ℕ) (doc : Arc Doc Global) (at : ℕ)
+    → copy ≡ name → at ≡ length old → new ≡ old ++ record { name = copy; doc = doc } ∷ []
+    → world name ≡ Some (tree_of (arc_value doc).nodes) → IsKnown world new name (Some at)
+known_put world old new name copy doc at same count put found =
+    let one : NamedDoc = record { name = copy; doc = doc } in
+    let all = old ++ one ∷ [] in
+    record {
+      within = rw put (omega (arith, count, length-append old (one ∷ [])));
+      is =
+          ap (λ docs. option_map written_of (slice_get docs at)) put
+          ∙ ap (λ place. option_map written_of (slice_get all place)) count
+          ∙ ap (option_map written_of) (get_pushed old one)
+          ∙ ap (λ n. Some (written_in n (tree_of (arc_value doc).nodes))) same
+          ∙ sym (ap (option_map (written_in name)) found);
+    }
 
 -- a document was put behind the others, and its place into the table
 pub place_put : (world : World) (old new : List NamedDoc) (name key : List ℕ) (place : Option ℕ)

@@ -1,5 +1,5 @@
 -- The elements of documents that were told were told.
-use Rattle.std.specs.Prelude.{◌≡◌, ◌-◌, ◌+◌, ◌==◌, ◌⊎◌, ℕ, zero, suc, Bool, true, false, List, [], ◌∷◌, ◌++◌, Option, Some, None, IsTrue, map, nat_lt, slice_get, if◌then◌else◌}
+use Rattle.std.specs.Prelude.{◌≡◌, ◌-◌, ◌+◌, ◌==◌, ◌⊎◌, ℕ, zero, suc, Bool, true, false, List, [], ◌∷◌, ◌++◌, Option, Some, None, Result, Ok, Err, IsTrue, OnOk, map, nat_lt, slice_get, if◌then◌else◌}
 use Rattle.std.specs.Arc.{arc_value}
 use Rattle.std.specs.List.{flat_map}
 use Rattle.std.specs.declared.alloc.Global.{Global}
@@ -50,7 +50,7 @@ docs_push told [] named are here = (here, tt)
 docs_push told (first ∷ docs) named are here = (are.0, docs_push told docs named are.1 here)
 
 -- a document was asked for, and put behind the others if it was found
-pub docs_told : (old new : List Told) (docs all : List NamedDoc) (name : List ℕ) (found : Option (Arc Doc Global))
+docs_told : (old new : List Told) (docs all : List NamedDoc) (name : List ℕ) (found : Option (Arc Doc Global))
     → new ≡ document name (tree_found found) ∷ old → all ≡ with_found docs name found → AreToldDocs old docs
     → AreToldDocs new all
 docs_told old new docs all name None is put told =
@@ -59,6 +59,13 @@ docs_told old new docs all name (Some doc) is put told =
     let t : Told = document name (Some (tree_of (arc_value doc).nodes)) in
     subst (AreToldDocs new) (sym put) (docs_push new docs (record { name = name; doc = doc })
     (docs_later old new docs (grows_one t old new is) told) (was_told t old new is))
+
+-- the same if putting it may fail
+pub docs_told_if : {X E : Type 0} (result : Result X E) (old new : List Told) (docs all : List NamedDoc)
+    (name : List ℕ) (found : Option (Arc Doc Global)) → new ≡ document name (tree_found found) ∷ old
+    → OnOk result (all ≡ with_found docs name found) → AreToldDocs old docs → OnOk result (AreToldDocs new all)
+docs_told_if (Ok value) old new docs all name found is put told = docs_told old new docs all name found is put told
+docs_told_if (Err error) old new docs all name found is put told = tt
 
 -- What an element gives is among what the elements of its document give
 

@@ -1,10 +1,11 @@
--- What closes most claims of a walk over nodes whose documents are asked for.
+-- What was told on a walk over nodes whose documents are asked for.
 use Rattle.std.proofs.Common.{◌≡◌, ◌<◌, ℕ, zero, suc, List, [], ◌∷◌, IsTrue, length, get_or, sym, subst, arith}
 use Rattle.dita_doc.specs.declared.plan.PlanNode.{PlanNode}
-use Rattle.readers.specs.Founded.{homes, is_among}
-use Rattle.readers.proofs.DocumentLaws.{asking}
-use Rattle.readers.proofs.FoundedLaws.{among_behind, among_first, founding}
-use Rattle.readers.proofs.GrowthLaws.{growing}
+use Rattle.readers.specs.Documents.{AsksOnly, nothing}
+use Rattle.readers.specs.Founded.{Grows, StaysFounded, homes, is_among}
+use Rattle.readers.specs.Told.{Told}
+use Rattle.readers.proofs.DocumentLaws.{asks_after, asks_one}
+use Rattle.readers.proofs.FoundedLaws.{among_behind, among_first, stays_after, stays_one}
 
 -- the document of each node is among those of all
 pub home_among : (nodes : List PlanNode) (at : ℕ) (node : PlanNode) → at < length nodes → node ≡ get_or nodes at node
@@ -15,4 +16,15 @@ home_among (first ∷ nodes) zero node within is =
 home_among (first ∷ nodes) (suc at) node within is =
     among_behind first.doc (homes nodes) node.doc (home_among nodes at node (omega arith) is)
 
-pub ruleset walking = (growing, founding, asking, home_among)
+-- the document of one node more is asked about
+module _ (nodes : List PlanNode) (at : ℕ) (node : PlanNode) (within : at < length nodes)
+    (is : node ≡ get_or nodes at node) (start before now : List Told) (grows : Grows start before) where
+  pub stays_walking : StaysFounded (homes nodes) start before → StaysFounded (node.doc ∷ []) before now
+      → StaysFounded (homes nodes) start now
+  stays_walking founded one = stays_after (homes nodes) start before now grows founded
+      (stays_one node.doc (homes nodes) before now (home_among nodes at node within is) one)
+
+  pub asks_walking : AsksOnly nothing (homes nodes) start before → AsksOnly nothing (node.doc ∷ []) before now
+      → AsksOnly nothing (homes nodes) start now
+  asks_walking asks one = asks_after nothing (homes nodes) start before now grows asks
+      (asks_one nothing node.doc (homes nodes) before now (home_among nodes at node within is) one)

@@ -119,7 +119,6 @@ impl Homes {
 }
 
 // What `Homes::of` says, but of the reader's own world.
-#[tactic(auto, using(crate::proofs::Walking::walking))]
 fn homes_of<R: Reader>(alloc: Global, reader: &mut R, nodes: &[PlanNode]) -> Result<Homes, NoMemory>
     ensures known { (world : World) → Agrees world (R.told reader.new)
         → IfOk result (λ homes. homes ≡ map (cascade_spec.whole_at world) nodes.now) }
@@ -192,6 +191,23 @@ fn doc_of<R: Reader>(
         return Ok(*doc);
     }
     let found = reader.doc(alloc, name)?;
+    keep_doc(known, docs, name, found)
+}
+
+// Puts what was found under a name behind the documents, and its place into the table.
+fn keep_doc(
+    known: &mut BTreeMap<Name, Option<usize>>,
+    docs: &mut Vec<NamedDoc>,
+    name: &Name,
+    found: Option<Arc<Doc>>,
+) -> Result<Option<usize>, NoMemory>
+    ensures known { (world : World) → world name.now ≡ told_spec.tree_found found
+        → home_docs_spec.AreKnown world docs.old.items known.old.entries
+        → IfOk result (λ place. home_docs_spec.IsDocOf world docs.old.items docs.new.items
+        known.new.entries name.now place) }
+    ensures put { OnOk result (docs.new.items
+        ≡ told_docs_spec.with_found docs.old.items name.now found) }
+{
     let doc = put_doc(docs, name, found)?;
     known.insert(name.clone()?, doc)?;
     Ok(doc)

@@ -1,6 +1,9 @@
-use Rattle.readers.proofs.GrowthLaws.{told_answer}
-use Rattle.plan_nodes.proofs.HomeLaws.{place_found, place_put}
-use Rattle.plan_nodes.proofs.ToldLaws.{docs_told}
+use Rattle.std.proofs.Common.{refl}
+use Rattle.readers.proofs.DocumentLaws.{asks_same}
+use Rattle.readers.proofs.FoundedLaws.{stays_same}
+use Rattle.readers.proofs.GrowthLaws.{grows_same, told_answer}
+use Rattle.plan_nodes.proofs.HomeLaws.{place_found}
+use Rattle.plan_nodes.proofs.ToldLaws.{docs_told_if}
 use Rattle.plan_nodes.proofs.homes.doc_of.Goals as goal
 
 pub returns-in-Some-clause-known : goal.returns-in-Some-clause-known
@@ -8,14 +11,37 @@ returns-in-Some-clause-known g c = λ world agrees known.
     place_found world c.args.docs.now.items c.args.name.now c.args.known.now.entries c.in-Some.doc.now
     c.in-Some.ensures.value known
 
+pub returns-in-Some-clause-founded : goal.returns-in-Some-clause-founded
+returns-in-Some-clause-founded g c = stays_same _ _ _ refl
+
+pub returns-in-Some-clause-asks : goal.returns-in-Some-clause-asks
+returns-in-Some-clause-asks g c = asks_same _ _ _ _ refl
+
+pub returns-in-Some-clause-grows : goal.returns-in-Some-clause-grows
+returns-in-Some-clause-grows g c = grows_same _
+
+pub returns-in_err-found-clause-founded : goal.returns-in_err-found-clause-founded
+returns-in_err-found-clause-founded g c = c.in_err-found.ensures.founded
+
+pub returns-in_err-found-clause-asks : goal.returns-in_err-found-clause-asks
+returns-in_err-found-clause-asks g c = c.in_err-found.ensures.asks
+
+pub returns-in_err-found-clause-grows : goal.returns-in_err-found-clause-grows
+returns-in_err-found-clause-grows g c = c.in_err-found.ensures.grows
+
 pub returns-clause-known : goal.returns-clause-known
-returns-clause-known g c = λ world agrees known.
-    place_put world c.args.docs.now.items c.put_doc.new.docs.items c.args.name.now c.in_ok-clone.field-0
-    c.in_ok-doc.doc c.args.known.now.entries c.insert.new.self.entries c.in_ok-doc.ensures.longer
-    c.in_ok-clone.ensures.cases c.in_ok-insert.ensures.entries known
-    (c.in_ok-doc.ensures.known world (told_answer world _ _ _ c.in_ok-found.ensures.told agrees))
+returns-clause-known g c = λ world agrees.
+    c.keep_doc.ensures.known world (told_answer world _ _ _ c.in_ok-found.ensures.told agrees)
 
 pub returns-clause-given : goal.returns-clause-given
-returns-clause-given g c = λ told.
-    docs_told _ _ c.args.docs.now.items c.put_doc.new.docs.items c.args.name.now c.in_ok-found.found
-    c.in_ok-found.ensures.told c.in_ok-doc.ensures.put told
+returns-clause-given g c = docs_told_if c.keep_doc.result _ _ c.args.docs.now.items c.keep_doc.new.docs.items
+    c.args.name.now c.in_ok-found.found c.in_ok-found.ensures.told c.keep_doc.ensures.put
+
+pub returns-clause-founded : goal.returns-clause-founded
+returns-clause-founded g c = c.in_ok-found.ensures.founded
+
+pub returns-clause-asks : goal.returns-clause-asks
+returns-clause-asks g c = c.in_ok-found.ensures.asks
+
+pub returns-clause-grows : goal.returns-clause-grows
+returns-clause-grows g c = c.in_ok-found.ensures.grows
