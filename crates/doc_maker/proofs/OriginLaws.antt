@@ -15,6 +15,9 @@ use Rattle.doc_maker.specs.Origins.{ArePlaces, EachOnce, IsAbsent, Longer, place
 pub longer_same : (names : List (List ℕ)) → Longer names names
 longer_same names = record { more = []; is = sym (append-nil names) }
 
+pub longer_equal : (names longer : List (List ℕ)) → longer ≡ names → Longer names longer
+longer_equal names longer is = record { more = []; is = is ∙ sym (append-nil names) }
+
 pub longer_more : (names longer longest : List (List ℕ)) → Longer names longer → Longer longer longest
     → Longer names longest
 longer_more names longer longest one two = record {

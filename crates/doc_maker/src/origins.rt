@@ -1,6 +1,6 @@
 //! The documents in which nodes were written.
 
-ghost use Rattle.std.specs.Prelude.{◌≡◌, [], slice_get, Some, IfNone, IfOk, IfSome, OnErr};
+ghost use Rattle.std.specs.Prelude.{◌≡◌, [], ◌∷◌, ◌++◌, length, slice_get, Some, IfNone, IfOk, IfSome, OnErr, OnOk};
 ghost use Rattle.doc_maker.specs.Origins as spec;
 
 use dita_doc::{List, Name, NoMemory};
@@ -75,12 +75,8 @@ impl Origins {
         ensures grows { spec.Longer self.old self.new }
         ensures failed { OnErr result (self.new ≡ self.old) }
     {
-        if self.names.len() >= ORIGIN_LIMIT {
-            return Err(NoMemory);
-        }
-        let place = self.names.len() as u32;
         let key = name.clone()?;
-        self.names.push(name.clone()?)?;
+        let place = push_name(&mut self.names, name)?;
         match self.places.insert(key, place) {
             Ok(_) => {}
             Err(_) => {
@@ -98,4 +94,18 @@ impl Origins {
         let Origins { names, .. } = self;
         List::from_vec(names)
     }
+}
+
+// Puts a name behind the others, if there is room for its place, and gives this place.
+fn push_name(names: &mut Vec<Name>, name: &Name) -> Result<u32, NoMemory>
+    ensures place { IfOk result (λ place. place ≡ length names.old.items) }
+    ensures pushed { OnOk result (names.new.items ≡ names.old.items ++ name.now ∷ []) }
+    ensures failed { OnErr result (names.new.items ≡ names.old.items) }
+{
+    if names.len() >= ORIGIN_LIMIT {
+        return Err(NoMemory);
+    }
+    let place = names.len() as u32;
+    names.push(name.clone()?)?;
+    Ok(place)
 }
