@@ -1,11 +1,13 @@
 -- A table of what fragments name, with one more element.
 use Rattle.std.specs.Prelude.{◌≡◌, ◌==◌, ◌&&◌, ◌||◌, ◌+◌, ℕ, Bool, true, false, not, List, [], ◌∷◌, ◌++◌, Option, Some, None, bytes_eq, codes, find, is_some, length, option_map, unwrap_or, Result, Ok, Err, OnOk, if◌then◌else◌}
 use Rattle.std.specs.BTreeMap as tree
-use Rattle.std.specs.Cmp.{tied_then}
+use Rattle.std.specs.BTreeMap.{BTreeMap}
+use Rattle.std.specs.Cmp.{IsTotalOrder, eq_by_cmp_equiv, tied_then}
 use Rattle.std.specs.List.{list_any}
+use Rattle.std.specs.Map.{lookup}
 use Rattle.std.specs.Option.{option_map_or, option_or}
 use Rattle.std.specs.Ordering.{is_eq}
-use Rattle.std.proofs.Common.{refl, sym, subst, ap, ◌∙◌, append_assoc, arith}
+use Rattle.std.proofs.Common.{Ordering, cond, refl, sym, subst, ap, ◌∙◌, append_assoc, arith}
 use Rattle.std.proofs.lemmas.Bool.{eqb-true}
 use Rattle.std.proofs.lemmas.Bool.Decides.{same_from_decides}
 use Rattle.std.proofs.lemmas.List.{append-nil}
@@ -412,3 +414,24 @@ way_element table middle new at past nearest inner rest all element inside more 
       inside = λ none. way.inside (before_more way.done (one ∷ []) (first_topic way.done) refl
           (before_more seen held (first_topic seen) refl none));
     }
+
+-- A place for a key, unless it has one
+
+-- keys that are the same in an order stand for the same place
+pub same_found : {K : Type 0} (R : K → K → Ordering) → IsTotalOrder R → (places : BTreeMap K ℕ) (key other : K)
+    → is_eq (R key other) ≡ true → tree.get R places other ≡ tree.get R places key
+same_found R total places key other same = walk places.entries
+  where
+    walk : (entries : List (_ × ℕ)) → lookup (tree.is_at (R other)) entries ≡ lookup (tree.is_at (R key)) entries
+    walk [] = refl
+    walk (entry ∷ entries) = rw ((eq_by_cmp_equiv total).congr key other entry.0 same, walk entries) refl
+
+-- an entry keeps its value, or takes this place
+pub first_stays : (of_key of_other new : Option ℕ) (is : Bool) (value place : ℕ) → value ≡ unwrap_or of_key place
+    → new ≡ cond is (Some value) of_other → (is ≡ true → of_other ≡ of_key) → new ≡ or_at of_other is place
+first_stays of_key None new true value place kept put same =
+    put ∙ ap Some (kept ∙ ap (λ found. unwrap_or found place) (sym (same refl)))
+first_stays of_key (Some other) new true value place kept put same =
+    put ∙ ap Some (kept ∙ ap (λ found. unwrap_or found place) (sym (same refl)))
+first_stays of_key None new false value place kept put same = put
+first_stays of_key (Some other) new false value place kept put same = put
