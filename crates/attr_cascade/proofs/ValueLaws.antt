@@ -1,7 +1,7 @@
 -- The values of nodes one after the other.
 use Rattle.std.specs.Prelude.{◌≡◌, ◌+◌, ◌<◌, ◌≤◌, ℕ, zero, suc, Bool, false, List, [], ◌∷◌, ◌++◌, Option, Some, None, map, length, take, drop, unwrap_or}
 use Rattle.std.specs.Borrow.{Bor}
-use Rattle.attr_cascade.specs.Nearest.{Value, nearest_at, nearest_of, seen, value_at}
+use Rattle.attr_cascade.specs.Nearest.{nearest_at, nearest_of, seen, value_at}
 use Rattle.attr_cascade.proofs.NearestLaws.{nearest_there}
 use Rattle.std.specs.List.{filter_map}
 use Rattle.std.specs.Option.{option_to_list}
@@ -111,29 +111,29 @@ tables_push world nodes names name old new table are is more = rw more (pushed n
     pushed (n ∷ ns) [] all = absurd all
     pushed (n ∷ ns) (t ∷ ts) all = (all.0, pushed ns ts all.1)
 
--- one more value of which the nearest counts
-pub put_next : (front old new : List Attribute) (name given default : List ℕ) (value near : Option (List ℕ))
-    → old ≡ front → value ≡ near → given ≡ default
-    → new ≡ old ++ record { name = name; value = unwrap_or value given } ∷ []
-    → new ≡ front ++ record { name = name; value = unwrap_or near default } ∷ []
-put_next front old new name given default value near before same by is =
-    let made : Option (List ℕ) → List ℕ → Attribute = λ (v : Option (List ℕ)) (d : List ℕ). record { name = name; value = unwrap_or v d } in
-    is ∙ ap (λ all. all ++ made value given ∷ []) before ∙ ap (λ v. front ++ made v given ∷ []) same
-    ∙ ap (λ d. front ++ made near d ∷ []) by
+near_value : (world : World) (name : List ℕ) (nodes : List PlanNode) (at : ℕ) (slice items : List (Option (Bor (List ℕ))))
+    → at < length nodes → seen items ≡ nearest_of world name nodes → slice ≡ items
+    → value_at (seen slice) at ≡ nearest_at world name nodes at
+near_value world name nodes at slice items within are same =
+    ap (λ all. value_at (seen all) at) same ∙ ap (λ all. value_at all at) are ∙ nearest_there world name nodes at within
 
-pub near_value : (world : World) (name : List ℕ) (nodes : List PlanNode) (at : ℕ)
-    (slice items : List (Option (Bor (List ℕ)))) (value : Value) → at < length nodes
-    → seen items ≡ nearest_of world name nodes → slice ≡ items → value ≡ value_at (seen slice) at
-    → value ≡ nearest_at world name nodes at
-near_value world name nodes at slice items value within are same is =
-    is ∙ ap (λ all. value_at (seen all) at) same ∙ ap (λ all. value_at all at) are
-    ∙ nearest_there world name nodes at within
+-- one more of those of which the nearest counts
+pub put_next : (world : World) (name : List ℕ) (nodes : List PlanNode) (at : ℕ) (front old new : List Attribute)
+    (given default : List ℕ) (slice items : List (Option (Bor (List ℕ)))) → at < length nodes
+    → seen items ≡ nearest_of world name nodes → slice ≡ items → given ≡ default → old ≡ front
+    → new ≡ old ++ record { name = name; value = unwrap_or (value_at (seen slice) at) given } ∷ []
+    → new ≡ front ++ record { name = name; value = unwrap_or (nearest_at world name nodes at) default } ∷ []
+put_next world name nodes at front old new given default slice items within are same by before is =
+    let made : Option (List ℕ) → List ℕ → Attribute = λ (v : Option (List ℕ)) (d : List ℕ). record { name = name; value = unwrap_or v d } in
+    is ∙ ap (λ all. all ++ made (value_at (seen slice) at) given ∷ []) before
+    ∙ ap (λ v. front ++ made v given ∷ []) (near_value world name nodes at slice items within are same)
+    ∙ ap (λ d. front ++ made (nearest_at world name nodes at) d ∷ []) by
 
 -- whether a node stands in a relationship table, as it was told
-pub told_there : (nodes : List PlanNode) (at : ℕ) (slice items : List Bool) (told : Bool) → at < length nodes
-    → items ≡ tables_around nodes → slice ≡ items → told ≡ told_at slice at → told ≡ is_in_table_at nodes at
-told_there nodes at slice items told within are same is =
-    is ∙ ap (λ all. told_at all at) (same ∙ are)
+pub told_there : (nodes : List PlanNode) (at : ℕ) (slice : List Bool) (told : Bool) → at < length nodes
+    → slice ≡ tables_around nodes → told ≡ told_at slice at → told ≡ is_in_table_at nodes at
+told_there nodes at slice told within are is =
+    is ∙ ap (λ all. told_at all at) are
     ∙ ap (λ some. told_at (map (is_in_table_at nodes) (places some)) at) (sym (take_all (length nodes) nodes (omega arith)))
     ∙ ap (λ found. unwrap_or found false) (known_at (is_in_table_at nodes) nodes at (length nodes) within (omega arith))
 
@@ -145,8 +145,8 @@ nodes_end world nodes at made all past told =
     ∙ sym (ap (λ rest. made ++ cascaded_from world nodes at rest) (drop_all at nodes past))
     ∙ told
 
-pub with_values : (node copy : PlanNode) (made values : List Attribute) → copy ≡ record node { cascaded = made }
-    → made ≡ values → copy ≡ record node { cascaded = values }
+-- a copy of a node that was given its values
+pub with_values : (node copy : PlanNode) (made values : List Attribute) → copy ≡ node → made ≡ values
+    → record copy { cascaded = made } ≡ record node { cascaded = values }
 with_values node copy made values is same =
-    let here : List Attribute → PlanNode = λ (all : List Attribute). record node { cascaded = all } in
-    is ∙ ap here same
+    ap (λ (n : PlanNode). record n { cascaded = made }) is ∙ ap (λ (all : List Attribute). record node { cascaded = all }) same

@@ -1,7 +1,6 @@
 //! The values of each node.
 
 ghost use Rattle.std.specs.Prelude.{◌≡◌, ◌++◌, ◌<◌, [], ◌∷◌, length, map, unwrap_or, codes, IfOk, OnOk, if◌then◌else◌};
-ghost use Rattle.std.specs.Option.{option_copied};
 ghost use Rattle.attr_cascade.specs.Nearest as nearest_spec;
 ghost use Rattle.attr_cascade.specs.Tokens as tokens_spec;
 ghost use Rattle.attr_cascade.specs.Values as spec;
@@ -80,12 +79,27 @@ fn cascade_in(alloc: Global, homes: &Homes, nodes: &[PlanNode]) -> Result<List<P
 {
     let inside = in_tables(alloc, nodes)?;
     let nearest = Nearest::of(alloc, homes, nodes)?;
-    let tables = token_tables(alloc, homes, nodes, &nearest)?;
+    let mut tables = Vec::new(alloc);
+    put_tables(alloc, &mut tables, homes, nodes, &nearest)?;
+    copies_with_values(alloc, nodes, &nearest, &tables, &inside)
+}
+
+// Copies of the nodes, each with its values.
+fn copies_with_values(
+    alloc: Global,
+    nodes: &[PlanNode],
+    nearest: &Nearest<'_>,
+    tables: &[TokenTable<'_>],
+    inside: &[bool],
+) -> Result<List<PlanNode>, NoMemory>
+    ensures { (world : World) → nearest_spec.AreNearest world nodes.now nearest.now
+        → tokens_spec.AreTables world nodes.now verdict_spec.conditional_names tables.now
+        → inside.now ≡ preorder_spec.tables_around nodes.now
+        → IfOk result (λ made. made ≡ cascade_spec.cascaded world nodes.now) }
+{
     let mut made = List::new(alloc);
     for (at, node) in nodes.iter().enumerate() {
-        let in_table = is_within(&inside, at);
-        let values = values_at(alloc, &nearest, &tables, at, in_table)?;
-        made.push(node_with(alloc, node, values)?)?;
+        made.push(with_values(alloc, node, nearest, tables, at, is_within(inside, at))?)?;
     }
     Ok(made)
 }
@@ -96,40 +110,50 @@ fn is_within(inside: &[bool], at: usize) -> bool
     inside.get(at).copied().unwrap_or(false)
 }
 
-// A copy of a node with these values.
-fn node_with(
+// A copy of the node at this place, with its values.
+fn with_values(
     alloc: Global,
     node: &PlanNode,
-    values: List<Attribute>,
+    nearest: &Nearest<'_>,
+    tables: &[TokenTable<'_>],
+    at: usize,
+    in_table: bool,
 ) -> Result<PlanNode, AllocError>
-    ensures { IfOk result (λ copy. copy ≡ record node.now { cascaded = values }) }
+    ensures { (world : World) (nodes : tokens_spec.Nodes) → at < length nodes
+        → nearest_spec.AreNearest world nodes nearest.now
+        → tokens_spec.AreTables world nodes verdict_spec.conditional_names tables.now
+        → in_table ≡ preorder_spec.is_in_table_at nodes at
+        → IfOk result (λ copy. copy ≡ record node.now {
+          cascaded = cascade_spec.cascaded_on world (cascade_spec.walk nodes at);
+        }) }
 {
+    let values = values_at(alloc, nearest, tables, at, in_table)?;
     let mut copy = copy_node(alloc, node)?;
     copy.cascaded = values;
     Ok(copy)
 }
 
-// The tokens of each conditional attribute, in the order in which their values come.
-fn token_tables<'a>(
+// Puts the tokens of each conditional attribute, in the order in which their values come, behind
+// no others.
+fn put_tables<'a>(
     alloc: Global,
+    tables: &mut Vec<TokenTable<'a>>,
     homes: &'a Homes,
     nodes: &[PlanNode],
     nearest: &Nearest<'_>,
-) -> Result<Vec<TokenTable<'a>>, NoMemory>
+) -> Result<(), NoMemory>
     ensures { (world : World) → homes.now ≡ map (cascade_spec.whole_at world) nodes.now
         → preorder_spec.HasParentsBefore nodes.now
-        → nearest_spec.AreNearest world nodes.now nearest.now
-        → IfOk result (λ tables. tokens_spec.AreTables world nodes.now
-        verdict_spec.conditional_names tables.items) }
+        → nearest_spec.AreNearest world nodes.now nearest.now → tables.old.items ≡ []
+        → OnOk result (tokens_spec.AreTables world nodes.now
+        verdict_spec.conditional_names tables.new.items) }
 {
-    let mut tables = Vec::new(alloc);
-    put_table(alloc, &mut tables, homes, nodes, nearest, "audience")?;
-    put_table(alloc, &mut tables, homes, nodes, nearest, "platform")?;
-    put_table(alloc, &mut tables, homes, nodes, nearest, "product")?;
-    put_table(alloc, &mut tables, homes, nodes, nearest, "otherprops")?;
-    put_table(alloc, &mut tables, homes, nodes, nearest, "props")?;
-    put_table(alloc, &mut tables, homes, nodes, nearest, "deliveryTarget")?;
-    Ok(tables)
+    put_table(alloc, tables, homes, nodes, nearest, "audience")?;
+    put_table(alloc, tables, homes, nodes, nearest, "platform")?;
+    put_table(alloc, tables, homes, nodes, nearest, "product")?;
+    put_table(alloc, tables, homes, nodes, nearest, "otherprops")?;
+    put_table(alloc, tables, homes, nodes, nearest, "props")?;
+    put_table(alloc, tables, homes, nodes, nearest, "deliveryTarget")
 }
 
 // Puts the tokens of a conditional attribute behind the others.
@@ -168,66 +192,41 @@ fn values_at(
         → IfOk result (λ values. values
         ≡ cascade_spec.cascaded_on world (cascade_spec.walk nodes at)) }
 {
-    let mut values = nearest_written(alloc, nearest, at, in_table)?;
+    let mut values = List::new(alloc);
+    put_nearest(alloc, &mut values, nearest, at, in_table)?;
     for table in tables {
         put_tokens(alloc, &mut values, table, at)?;
     }
     Ok(values)
 }
 
-// The values of which the nearest counts. In a relationship table nothing stands in the contents,
-// if nothing else is said.
-fn nearest_written(
+// Puts the values of which the nearest counts behind no others. In a relationship table nothing
+// stands in the contents, if nothing else is said.
+fn put_nearest(
     alloc: Global,
+    values: &mut List<Attribute>,
     nearest: &Nearest<'_>,
     at: usize,
     in_table: bool,
-) -> Result<List<Attribute>, AllocError>
+) -> Result<(), AllocError>
     ensures { (world : World) (nodes : tokens_spec.Nodes) → at < length nodes
         → nearest_spec.AreNearest world nodes nearest.now
-        → in_table ≡ preorder_spec.is_in_table_at nodes at
-        → IfOk result (λ values. values
-        ≡ spec.nearest_on world (cascade_spec.walk nodes at)) }
+        → in_table ≡ preorder_spec.is_in_table_at nodes at → values.old ≡ []
+        → OnOk result (values.new ≡ spec.nearest_on world (cascade_spec.walk nodes at)) }
 {
-    let toc = toc_in(in_table);
-    let mut values = List::new(alloc);
+    put(alloc, values, "linking", &nearest.linking, at, "normal")?;
+    put(alloc, values, "toc", &nearest.toc, at, toc_in(in_table))?;
+    put(alloc, values, "format", &nearest.format, at, "dita")?;
+    put(alloc, values, "scope", &nearest.scope, at, "local")?;
     put(
         alloc,
-        &mut values,
-        "linking",
-        nearest_at(&nearest.linking, at),
-        "normal",
-    )?;
-    put(alloc, &mut values, "toc", nearest_at(&nearest.toc, at), toc)?;
-    put(
-        alloc,
-        &mut values,
-        "format",
-        nearest_at(&nearest.format, at),
-        "dita",
-    )?;
-    put(
-        alloc,
-        &mut values,
-        "scope",
-        nearest_at(&nearest.scope, at),
-        "local",
-    )?;
-    put(
-        alloc,
-        &mut values,
+        values,
         "processing-role",
-        nearest_at(&nearest.role, at),
+        &nearest.role,
+        at,
         "normal",
     )?;
-    put(
-        alloc,
-        &mut values,
-        "cascade",
-        nearest_at(&nearest.cascade, at),
-        "merge",
-    )?;
-    Ok(values)
+    put(alloc, values, "cascade", &nearest.cascade, at, "merge")
 }
 
 // What holds without a value of `toc`.
@@ -237,20 +236,22 @@ fn toc_in(in_table: bool) -> &'static str
     if in_table { "no" } else { "yes" }
 }
 
-// Puts the value of an attribute behind the others, or what holds without one.
+// Puts the nearest value of an attribute at a node behind the others, or what holds without one.
 fn put(
     alloc: Global,
     values: &mut List<Attribute>,
     name: &str,
-    value: Option<&str>,
+    nearest: &[Option<&str>],
+    at: usize,
     default: &str,
 ) -> Result<(), AllocError>
     ensures { OnOk result (values.new ≡ values.old ++ record {
       name = name.now;
-      value = unwrap_or (option_copied value.entry) default.now;
+      value = unwrap_or (nearest_spec.value_at (nearest_spec.seen nearest.now) at) default.now;
     } ∷ []) }
 {
-    values.push(attribute(alloc, name, value.unwrap_or(default))?)
+    let value = nearest_at(nearest, at).unwrap_or(default);
+    values.push(attribute(alloc, name, value)?)
 }
 
 // Puts the tokens at a node behind the other values, if it has some.
