@@ -70,6 +70,19 @@ excluded_at world rules head parent end = excluded_through rules (judged_spec.wh
 abbrev run : World → List Rule → List PlanNode → Sieve → Sieve
 run world rules nodes sieve = all_passed (element_at world) rules nodes sieve
 
+-- a node that is excluded, behind the root, is passed over with all below it
+pub pass_excluded : (rules : List Rule) (element : Option Element) (node : PlanNode) (old : Sieve) (places : List ℕ)
+    (faults : List Fault) (at count : ℕ) → at ≡ length old.places → old.next ≤ at → 0 < at
+    → is_excluded rules element ≡ true → count ≡ length old.kept → places ≡ old.places ++ count ∷ []
+    → faults ≡ old.faults ++ faults_of element
+    → record { places = places; kept = old.kept; faults = faults; next = node.end } ≡ passed rules element node old
+pass_excluded rules element node old places faults at count at_is past below out count_is more told =
+    let not_inside : nat_lt (length old.places) old.next ≡ false =
+    is_not_less (length old.places) old.next (subst (λ n. old.next ≤ n) at_is past) in
+    let not_first : nat_lt 0 (length old.places) ≡ true =
+    is_less 0 (length old.places) (subst (λ n. 0 < n) at_is below) in
+    rw (told, more, count_is, not_inside, not_first, out) refl
+
 -- the node at a place is the next
 pub pass_next : (world : World) (rules : List Rule) (nodes : List PlanNode) (at : ℕ) (node : PlanNode)
     (element : Option Element) (before after : Sieve) → at < length nodes → node ≡ get_or nodes at node
