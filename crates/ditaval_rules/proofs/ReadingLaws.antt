@@ -1,5 +1,5 @@
 -- One `prop` more, and all of them.
-use Rattle.std.specs.Prelude.{◌≡◌, ℕ, true, false, not, List, [], ◌∷◌, ◌++◌, Option, Some, Ok, codes}
+use Rattle.std.specs.Prelude.{◌≡◌, ℕ, true, false, not, List, [], ◌∷◌, ◌++◌, Option, None, Some, Ok, codes}
 use Rattle.std.specs.List.{list_any}
 use Rattle.std.specs.Option.{option_copied}
 use Rattle.std.specs.BTreeSet.{contains, Updates, IsUnchanged}
@@ -24,6 +24,12 @@ pub rule_by_action : (prop : Prop) (value : Option (List ℕ)) (action : Action)
     → value ≡ value_of (codes "action") prop.attributes → Some action ≡ action_named value
     → rule_of prop ≡ Some (rule_with prop.attributes action)
 rule_by_action prop value action is named =
+    ap (rule_by prop.attributes) (ap action_named (sym is) ∙ sym named)
+
+-- a `prop` has none if its action is none
+pub none_by_action : (prop : Prop) (value : Option (List ℕ)) → value ≡ value_of (codes "action") prop.attributes
+    → None ≡ action_named value → rule_of prop ≡ None
+none_by_action prop value is named =
     ap (rule_by prop.attributes) (ap action_named (sym is) ∙ sym named)
 
 -- the key of its rule
@@ -71,6 +77,18 @@ module _ (name : List ℕ) (prop : Prop) (old new : Reading) (key : Subject) (ru
         faults = rw (is, one) faults;
         seen = rw rules (set_same old.seen new.seen old.rules seen same);
       }
+
+-- a `prop` without a rule is a fault
+pub reads_bad : (name : List ℕ) (prop : Prop) (old new : Reading) → rule_of prop ≡ None
+    → IsSubjectsOf old.seen old.rules → new.rules ≡ old.rules → new.seen ≡ old.seen
+    → new.faults
+    ≡ old.faults ++ fault_at name prop.line faults.BadAction (value_of (codes "action") prop.attributes) ∷ []
+    → HasRead name prop old new
+reads_bad name prop old new is subjects rules seen faults = record {
+  rules = rw (is, append-nil old.rules) rules;
+  faults = rw is faults;
+  seen = rw (rules, seen) subjects;
+}
 
 -- A reading that has come as far as these `prop`s
 

@@ -1,6 +1,6 @@
 //! The reading of one `prop` after another.
 
-ghost use Rattle.std.specs.Prelude.{◌≡◌, [], IfOk, OnOk};
+ghost use Rattle.std.specs.Prelude.{◌≡◌, ◌++◌, [], ◌∷◌, IfOk, OnOk};
 ghost use Rattle.std.specs.Option.{option_copied};
 ghost use Rattle.ditaval_rules.specs.Reading as spec;
 ghost use Rattle.ditaval_rules.specs.Rules as rules_spec;
@@ -52,39 +52,39 @@ impl<'a> Reading<'a> {
     {
         let value = prop.value_of("action");
         let Some(action) = action_in(value) else {
-            let bad = fault_at(alloc, name, prop.line, FaultCode::BadAction, value)?;
-            self.faults.push(bad)?;
-            return Ok(());
+            let code = FaultCode::BadAction;
+            return push_fault(alloc, &mut self.faults, name, prop, code, value);
         };
         let att = prop.value_of("att");
         let val = val_beside(att, prop);
-        if self.seen.insert((att, val))? {
-            self.rules.push(new_rule(alloc, att, val, action)?)?;
-        } else {
-            let twice = fault_at(alloc, name, prop.line, FaultCode::DitavalTwice, att)?;
-            self.faults.push(twice)?;
+        if !self.seen.insert((att, val))? {
+            let code = FaultCode::DitavalTwice;
+            return push_fault(alloc, &mut self.faults, name, prop, code, att);
         }
+        self.rules.push(new_rule(alloc, att, val, action)?)?;
         Ok(())
     }
 }
 
-// A fault of an element of the document of this name.
-fn fault_at(
+// Puts a fault of a `prop` of the document of this name behind the others.
+fn push_fault(
     alloc: Global,
+    faults: &mut List<Fault>,
     name: &Name,
-    line: u32,
+    prop: &Node,
     code: FaultCode,
     detail: Option<&str>,
-) -> Result<Fault, NoMemory>
-    ensures { IfOk result (λ fault. fault
-        ≡ rules_spec.fault_at name.now line code (option_copied detail.entry)) }
+) -> Result<(), NoMemory>
+    ensures { OnOk result (faults.new ≡ faults.old
+        ++ rules_spec.fault_at name.now prop.now.line code (option_copied detail.entry) ∷ []) }
 {
-    Ok(Fault {
+    faults.push(Fault {
         name: name.clone()?,
-        line,
+        line: prop.line,
         code,
         detail: Text::from_str(alloc, detail.unwrap_or(""))?,
-    })
+    })?;
+    Ok(())
 }
 
 fn new_rule(
