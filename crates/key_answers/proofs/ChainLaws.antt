@@ -1,5 +1,5 @@
 -- The steps of a chain of definitions, and the answer at its end.
-use Rattle.std.specs.Prelude.{◌≡◌, ◌-◌, ◌==◌, ◌++◌, ◌||◌, ℕ, suc, Bool, true, false, List, [], ◌∷◌, Option, Some, None, codes, cond, length, slice_get}
+use Rattle.std.specs.Prelude.{◌≡◌, ◌-◌, ◌==◌, ◌++◌, ◌||◌, ℕ, suc, Bool, true, false, List, [], ◌∷◌, Option, Some, None, Result, Ok, Err, IfOk, codes, cond, length, slice_get}
 use Rattle.std.specs.List.{list_any}
 use Rattle.std.specs.Ordering.{is_eq, nat_cmp}
 use Rattle.std.proofs.Common.{refl, sym, ap, ◌∙◌, arith}
@@ -9,6 +9,7 @@ use Rattle.dita_doc.specs.declared.fault.Fault.{Fault}
 use Rattle.dita_doc.specs.declared.fault.FaultCode.TheVariants as codes_of
 use Rattle.dita_doc.specs.declared.plan.PlanNode.{PlanNode}
 use Rattle.dita_doc.specs.declared.plan.Target.{Target}
+use Rattle.dita_doc.specs.declared.stop.NoMemory.{NoMemory}
 use Rattle.map_spec.specs.Keys.{Chain, answer_of_chain, attribute_of, chain_at, chain_from, fault_of_place, key_of, label_or, last_of, met_again, target_of_chain, text_of_chain, undefined_at, untitled_at}
 use Rattle.map_spec.specs.Scopes.{found, node_fault, scope_at}
 use Rattle.map_spec.specs.Titles.{first_text}
@@ -160,3 +161,18 @@ answer_made world nodes key chain first target text label untitled all begins ta
     ∙ ap (λ l. made (target_of_chain world nodes chain.met) l all) (label_is ∙ ap (label_or key) whole)
     ∙ ap (λ f. made (target_of_chain world nodes chain.met) (label_or key (text_of_chain world nodes chain.met)) f)
     (all_is ∙ ap (λ f. chain.faults ++ f) (untitled_is ∙ ap (untitled_at nodes first key) whole)))
+
+-- the same of what was made, if there was memory
+pub answer_given : (world : World) (nodes : List PlanNode) (key : List ℕ) (chain : Chain) (first : ℕ) (target : Target)
+    (text : List ℕ) (result : Result KeyAnswer NoMemory) → Some first ≡ slice_get chain.met 0
+    → target ≡ target_of_chain world nodes chain.met → text ≡ first_text (texts_with world nodes chain.met target)
+    → IfOk result (λ answer. answer ≡ record {
+      node = Some first;
+      target = target;
+      label = label_or key text;
+      faults = chain.faults ++ untitled_at nodes first key text;
+    })
+    → IfOk result (λ answer. answer ≡ answer_of_chain world nodes key chain)
+answer_given world nodes key chain first target text (Err stop) begins target_is text_is is = tt
+answer_given world nodes key chain first target text (Ok answer) begins target_is text_is is =
+    is ∙ answer_made world nodes key chain first target text _ _ _ begins target_is text_is refl refl refl

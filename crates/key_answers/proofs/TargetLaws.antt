@@ -1,14 +1,16 @@
 -- The target of a definition's href: that of the world, and one whose document may be asked about.
-use Rattle.std.specs.Prelude.{◌≡◌, ◌+◌, ◌-◌, ◌==◌, ℕ, Bool, true, false, List, [], Option, Some, None, codes, map, nat_lt, option_map, slice_get, unwrap_or, if◌then◌else◌}
+use Rattle.std.specs.Prelude.{◌≡◌, ◌+◌, ◌-◌, ◌==◌, ℕ, Bool, true, false, List, [], Option, Some, None, Result, Ok, Err, IfOk, codes, map, nat_lt, option_map, slice_get, unwrap_or, if◌then◌else◌}
 use Rattle.std.specs.Option.{option_and_then, option_map_or, option_to_list}
 use Rattle.std.proofs.Common.{refl, sym, ap, subst, ◌∙◌}
 use Rattle.std.proofs.lemmas.Option.{slice_get-map}
 use Rattle.dita_doc.specs.ClassValue.{value_of}
 use Rattle.dita_doc.specs.Tree as tree
 use Rattle.dita_doc.specs.Tree.{Content}
+use Rattle.dita_doc.specs.declared.content.KeyAnswer.{KeyAnswer}
 use Rattle.dita_doc.specs.declared.plan.PlanNode.{PlanNode}
 use Rattle.dita_doc.specs.declared.plan.Target.{Target}
 use Rattle.dita_doc.specs.declared.plan.Target.TheVariants as targets
+use Rattle.dita_doc.specs.declared.stop.NoMemory.{NoMemory}
 use Rattle.map_spec.specs.Cascade as cascade
 use Rattle.map_spec.specs.Cascade.{attribute_at, cascaded_on, cascaded_value, walk}
 use Rattle.map_spec.specs.Elements.{attribute}
@@ -197,3 +199,11 @@ target_allowed roots told new homes nodes met target is are grows =
     are_allowed_before roots told new (option_to_list (local_name target)) grows
     (subst (λ t. AreAllowed roots told (option_to_list (local_name t))) (sym is)
     (last_given roots told homes nodes met are))
+
+pub answer_allowed : (roots : List (List ℕ)) (told new : List Told) (homes : List (Option Whole))
+    (nodes : List PlanNode) (met : List ℕ) (target : Target) (result : Result KeyAnswer NoMemory)
+    → IfOk result (λ answer. answer.target ≡ target) → target ≡ last_target homes nodes met → AreTold told homes
+    → Grows told new → IfOk result (λ answer. AreAllowed roots new (option_to_list (local_name answer.target)))
+answer_allowed roots told new homes nodes met target (Err stop) same is are grows = tt
+answer_allowed roots told new homes nodes met target (Ok answer) same is are grows =
+    target_allowed roots told new homes nodes met answer.target (same ∙ is) are grows

@@ -1,6 +1,6 @@
 //! What a key gives.
 
-ghost use Rattle.std.specs.Prelude.{◌≡◌, ◌++◌, ℕ, List, [], map, slice_get, IfOk};
+ghost use Rattle.std.specs.Prelude.{◌≡◌, ◌++◌, ℕ, List, [], Some, map, slice_get, IfOk};
 ghost use Rattle.std.specs.Option.{option_to_list};
 ghost use Rattle.key_answers.specs.Seen as spec;
 ghost use Rattle.key_scopes.specs.Made as made_spec;
@@ -190,6 +190,27 @@ fn answer_of<T: Titles>(
     };
     let target = last_target(alloc, defined, &met)?;
     let text = label_of(alloc, asker, defined, &met, &target)?;
+    made_of(alloc, defined, first, key, faults, target, text)
+}
+
+// The answer of a chain that begins with this definition, of its faults, its target and its text.
+fn made_of(
+    alloc: Global,
+    defined: Defined<'_>,
+    first: u32,
+    key: &str,
+    faults: List<Fault>,
+    target: Target,
+    text: Text,
+) -> Result<KeyAnswer, NoMemory>
+    ensures is { IfOk result (λ answer. answer ≡ record {
+      node = Some first;
+      target = target;
+      label = keys_spec.label_or key.now text;
+      faults = faults ++ keys_spec.untitled_at defined.entry.nodes.now first key.now text;
+    }) }
+    ensures target { IfOk result (λ answer. answer.target ≡ target) }
+{
     let untitled = untitled_at(alloc, defined, first, key, &text)?;
     Ok(KeyAnswer {
         node: Some(first),
