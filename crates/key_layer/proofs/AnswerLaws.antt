@@ -84,6 +84,11 @@ answer_moved told nodes at scope key answer copy of_scope of_key same is =
     subst (λ a. IsAnswer told nodes a copy) (ap₂ (λ s k. record { scope = s; key = k }) of_scope of_key)
     (subst (IsAnswer told nodes at) (sym same) is)
 
+-- the answer that was found
+pub answer_held : (told : List Told) (nodes : List PlanNode) (at : KeyAt) (found : Option KeyAnswer)
+    (answer : KeyAnswer) → found ≡ Some answer → IfSome found (IsAnswer told nodes at) → IsAnswer told nodes at answer
+answer_held told nodes at found answer is held = subst (λ o. IfSome o (IsAnswer told nodes at)) is held
+
 -- what a search gave, as a reference to the answer
 pub found_held : (P : KeyAnswer → Type 0) (found : Option (Bor KeyAnswer)) (answer : Option KeyAnswer)
     → option_copied found ≡ answer → IfSome answer P → IfSome found (λ a. P a.now)

@@ -3,3 +3,4 @@ pub mod BelowLaws
 pub mod PassingLaws
 pub mod ReadyLaws
 pub mod Rules
+pub mod TellingLaws

@@ -92,7 +92,8 @@ module _ (setting : Setting) (start : List Told) where
       passes_sought name below below' (told_onto setting start notes) _ passed
       (ap (told_onto setting start) is ∙ ap (λ n. sought n ∷ told_onto setting start notes) same)
 
-  settled_to : (t : Told) (put note : Note) (older notes notes' : List Note) → notes ≡ put ∷ older
+  -- the question that was put is written over
+  pub settled_to : (t : Told) (put note : Note) (older notes notes' : List Note) → notes ≡ put ∷ older
       → told_of setting note ≡ t → notes' ≡ note ∷ drop 1 notes
       → told_onto setting start notes' ≡ t ∷ told_onto setting start older
   settled_to t put note older notes notes' was tells is =

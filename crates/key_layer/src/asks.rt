@@ -12,7 +12,6 @@ use key_answers::answer_key;
 use readers::{Note, Since, Titles};
 use std::alloc::Global;
 use std::sync::Arc;
-use targets::copy_answer;
 
 impl<'r, 'q, 'm, 'n, T: Titles, S: Since> KeyLayer<'r, 'q, 'm, 'n, T, S> {
     pub(crate) fn ask_doc(
@@ -122,8 +121,6 @@ impl<'r, 'q, 'm, 'n, T: Titles, S: Since> KeyLayer<'r, 'q, 'm, 'n, T, S> {
             self.new.nodes.now at answer) }
     {
         let answer = self.ask_key(alloc, at.scope, &at.key)?;
-        let copy = copy_answer(alloc, &answer)?;
-        self.memo.put(at, copy)?;
-        Ok(answer)
+        self.memo.keep(alloc, at, answer)
     }
 }

@@ -1,6 +1,6 @@
 //! The calls of the layer as a reader.
 
-ghost use Rattle.std.specs.Prelude.{◌≡◌, IfOk};
+ghost use Rattle.std.specs.Prelude.{◌≡◌, ◌∷◌, ◌⊎◌, IfOk, OnOk};
 ghost use Rattle.readers.specs.Noted as noted_spec;
 ghost use Rattle.readers.specs.Setting.{Setting};
 ghost use Rattle.readers.specs.Told as told_spec;
@@ -8,7 +8,7 @@ ghost use Rattle.readers.specs.Told as told_spec;
 use crate::layer::KeyLayer;
 use crate::memo::KeyAt;
 use dita_doc::{Doc, DocKind, KeyAnswer, Name, NoMemory, Text};
-use readers::{Keys, Note, Reader, Since, Titles};
+use readers::{Keys, Note, Questions, Reader, Since, Titles};
 use std::alloc::Global;
 use std::sync::Arc;
 use targets::copy_answer;
@@ -62,17 +62,40 @@ impl<'r, 'q, 'm, 'n, T: Titles, S: Since> Titles for KeyLayer<'r, 'q, 'm, 'n, T,
 impl<'r, 'q, 'm, 'n, T: Titles, S: Since> Keys for KeyLayer<'r, 'q, 'm, 'n, T, S> {
     fn key(&mut self, alloc: Global, scope: u32, key: &Text) -> Result<KeyAnswer, NoMemory> {
         let at = KeyAt::new(scope, key)?;
-        if let Some(known) = self.memo.find(&at) {
-            let answer = copy_answer(alloc, known)?;
-            let note = key_note(alloc, scope, key, &answer)?;
-            self.asked.begin(note)?;
-            return Ok(answer);
+        if let Some(answer) = self.memo.recall(alloc, &at)? {
+            let (note, answer) = noted(alloc, scope, key, answer)?;
+            return tell(self.asked, note, answer);
         }
         let answer = self.make_answer(alloc, at)?;
-        let note = key_note(alloc, scope, key, &answer)?;
+        let (note, answer) = noted(alloc, scope, key, answer)?;
         self.asked.settle(note);
         Ok(answer)
     }
+}
+
+// An answer, behind the question for its key.
+fn noted(
+    alloc: Global,
+    scope: u32,
+    key: &Text,
+    answer: KeyAnswer,
+) -> Result<(Note, KeyAnswer), NoMemory>
+    ensures note { IfOk result (λ both. (setting : Setting) → noted_spec.told_of setting both.0
+        ≡ told_spec.key setting.nodes scope key.now answer) }
+    ensures answer { IfOk result (λ both. both.1 ≡ answer) }
+{
+    let note = key_note(alloc, scope, key, &answer)?;
+    Ok((note, answer))
+}
+
+// Gives the answer once its question has been put.
+fn tell(asked: &mut Questions, note: Note, answer: KeyAnswer) -> Result<KeyAnswer, NoMemory>
+    ensures ok { OnOk result (asked.new ≡ note ∷ asked.old) }
+    ensures either { (asked.new ≡ asked.old) ⊎ (asked.new ≡ note ∷ asked.old) }
+    ensures answer { IfOk result (λ told. told ≡ answer) }
+{
+    asked.begin(note)?;
+    Ok(answer)
 }
 
 // The question for a key, with a copy of its answer.

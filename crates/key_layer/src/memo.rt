@@ -9,6 +9,7 @@ use dita_doc::{KeyAnswer, NoMemory, Text};
 use std::alloc::Global;
 use std::collections::BTreeMap;
 use std::marker::Model;
+use targets::copy_answer;
 
 /// A key in the scope of this place.
 #[derive(PartialEq, Eq, PartialOrd, Ord, Drop)]
@@ -71,5 +72,41 @@ impl KeyMemo {
     {
         let _ = self.answers.insert(at, answer)?;
         Ok(())
+    }
+
+    // A copy of the answer to a key, if it is there.
+    pub(crate) fn recall(&self, alloc: Global, at: &KeyAt) -> Result<Option<KeyAnswer>, NoMemory>
+        ensures { (told : List Told) (nodes : List PlanNode) → AreAnswers told nodes self.now
+            → IfOk result (λ found. IfSome found (IsAnswer told nodes at.now)) }
+    {
+        match self.find(at) {
+            Some(known) => Ok(Some(copy_answer(alloc, known)?)),
+            None => Ok(None),
+        }
+    }
+
+    // Puts a copy of the answer to a key, and gives the answer back.
+    pub(crate) fn keep(
+        &mut self,
+        alloc: Global,
+        at: KeyAt,
+        answer: KeyAnswer,
+    ) -> Result<KeyAnswer, NoMemory>
+        ensures answers { (told : List Told) (nodes : List PlanNode)
+            → AreAnswers told nodes self.old → IsAnswer told nodes at answer
+            → AreAnswers told nodes self.new }
+        ensures same { IfOk result (λ kept. kept ≡ answer) }
+    {
+        self.put_copy(alloc, at, &answer)?;
+        Ok(answer)
+    }
+
+    fn put_copy(&mut self, alloc: Global, at: KeyAt, answer: &KeyAnswer) -> Result<(), NoMemory>
+        ensures { (told : List Told) (nodes : List PlanNode)
+            → AreAnswers told nodes self.old → IsAnswer told nodes at answer.now
+            → AreAnswers told nodes self.new }
+    {
+        let copy = copy_answer(alloc, answer)?;
+        self.put(at, copy)
     }
 }

@@ -1,7 +1,10 @@
 use Rattle.std.proofs.Common.{refl}
-use Rattle.readers.proofs.GrowthLaws.{told_answer}
+use Rattle.readers.proofs.DocumentLaws.{asks_told}
+use Rattle.readers.proofs.FoundedLaws.{stays_told}
+use Rattle.readers.proofs.GrowthLaws.{grows_one, told_answer}
 use Rattle.readers.proofs.LayerLaws.{plain_settled}
 use Rattle.key_layer.proofs.PassingLaws.{note_passed}
+use Rattle.key_layer.proofs.TellingLaws.{told_settled}
 use Rattle.key_layer.specs.Ready.{made_for}
 use Rattle.key_layer.proofs.calls.KeyLayerTitles.title.Goals as goal
 
@@ -16,3 +19,17 @@ invariant_of-self-clause-passed g c = note_passed _ _ _ _ _ _ _ _ _ _ c.ask_titl
     c.in_ok-text.ensures.ok refl
     (c.in_ok-note.ensures (made_for c.ask_title.new.self.nodes.now g.S.Since.stand.setting)) c.settle.ensures
     c.in_ok-text.ensures.below
+
+pub returns-clause-told : goal.returns-clause-told
+returns-clause-told g c = told_settled g.S.Since.stand.setting g.S.Since.told _ _ _ _ _ _ _ _
+    c.in_ok-text.ensures.nodes (c.in_ok-note.ensures (made_for c.args.self.now.nodes.now g.S.Since.stand.setting))
+    c.in_ok-text.ensures.ok c.settle.ensures
+
+pub returns-clause-founded : goal.returns-clause-founded
+returns-clause-founded g c = stays_told _ _ _ _ refl (returns-clause-told g c)
+
+pub returns-clause-asks : goal.returns-clause-asks
+returns-clause-asks g c = asks_told _ _ _ _ _ refl (returns-clause-told g c)
+
+pub returns-clause-grows : goal.returns-clause-grows
+returns-clause-grows g c = grows_one _ _ _ (returns-clause-told g c)
