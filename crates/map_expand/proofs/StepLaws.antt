@@ -1,5 +1,5 @@
 -- The first node of a walk is gone over, and a walk or a map ends.
-use Rattle.std.specs.Prelude.{◌≡◌, ◌<◌, ◌||◌, ℕ, zero, suc, Bool, true, false, List, [], ◌∷◌, ◌++◌, Some, length, get_or, bytes_eq, slice_get}
+use Rattle.std.specs.Prelude.{◌≡◌, ◌<◌, ◌||◌, ℕ, zero, suc, Bool, true, false, List, [], ◌∷◌, ◌++◌, None, Some, length, get_or, bytes_eq, slice_get}
 use Rattle.std.specs.List.{list_any}
 use Rattle.std.proofs.Common.{refl, sym, ap, ◌∙◌, arith, set, subst}
 use Rattle.std.proofs.lemmas.Bool.{false≢true}
@@ -33,6 +33,9 @@ some_at : (nodes : List doc.Node) (at : ℕ) → at < length nodes → (node : d
 some_at [] at within = absurd (omega arith)
 some_at (node ∷ nodes) zero within = (node, refl)
 some_at (node ∷ nodes) (suc at) within = some_at nodes at (omega arith)
+
+pub none_some : {A : Type 0} {a : A} → None ≡ Some a → ⊥
+none_some same = cc
 
 -- the node at the begin of a walk
 pub node_there : (home : Home) (walk : Walk) → AreSiblings home walk.place walk.end → walk.place < walk.end

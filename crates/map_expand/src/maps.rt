@@ -215,9 +215,9 @@ impl Maps {
             (homes_spec.home_at (homes_spec.homes self.now.maps.items) walk.map)
             walk found.0.now found.1.now) }
     {
-        let found = self.maps.get(walk.map)?;
-        let node = found.doc.nodes.as_slice().get(walk.place as usize)?;
-        Some((&found.name, node))
+        let map = self.maps.get(walk.map)?;
+        let node = map.doc.nodes.as_slice().get(walk.place as usize)?;
+        Some((&map.name, node))
     }
 }
 

@@ -36,3 +36,13 @@ returns-clause-made c = λ world node root here is placed.
     (sym c.requires.around ∙ sym c.is_around.ensures ∙ c.if-is_around.false) c.requires.named)
     (c.enter.ensures.made world root is placed (omega (arith, c.requires.level))
     (omega (arith, c.requires.level, c.requires.count)))
+
+pub returns-clause-few : goal.returns-clause-few
+returns-clause-few c = c.enter.ensures.few
+
+pub returns-clause-less : goal.returns-clause-less
+returns-clause-less c = c.enter.ensures.less
+
+pub returns-clause-ready : goal.returns-clause-ready
+returns-clause-ready c = λ told ready.
+    c.enter.ensures.ready told ready (sym c.is_around.ensures ∙ c.if-is_around.false) (omega (arith, c.requires.level))

@@ -85,3 +85,63 @@ returns-in_ok-append_fault-in-None-clause-made g c = λ world agrees node here.
     ∙ rest_found world homes new (length c.args.self.now.nodes) c.args.self.now.left.items at c.args.place c.args.walk.level
     node name None (map_in world name) (so_far c.args.self.now) c.find.ensures.homes c.requires.ready.work
     c.requires.within (sym none)
+
+pub returns-in-Some-clause-few : goal.returns-in-Some-clause-few
+returns-in-Some-clause-few g c = c.include_map.ensures.few
+
+pub returns-in-Some-clause-less : goal.returns-in-Some-clause-less
+returns-in-Some-clause-less g c = c.include_map.ensures.less
+
+pub returns-in-Some-clause-stand : goal.returns-in-Some-clause-stand
+returns-in-Some-clause-stand g c = c.in_ok-map.ensures.stand
+
+pub returns-in-Some-clause-grows : goal.returns-in-Some-clause-grows
+returns-in-Some-clause-grows g c = c.in_ok-map.ensures.grows
+
+pub returns-in-Some-clause-founded : goal.returns-in-Some-clause-founded
+returns-in-Some-clause-founded g c = c.in_ok-map.ensures.founded
+
+pub returns-in-Some-clause-asks : goal.returns-in-Some-clause-asks
+returns-in-Some-clause-asks g c = c.in_ok-map.ensures.asks
+
+pub returns-in_ok-append_fault-in-None-clause-few : goal.returns-in_ok-append_fault-in-None-clause-few
+returns-in_ok-append_fault-in-None-clause-few g c = c.requires.count
+
+pub returns-in_ok-append_fault-in-None-clause-less : goal.returns-in_ok-append_fault-in-None-clause-less
+returns-in_ok-append_fault-in-None-clause-less g c = omega arith
+
+pub returns-in_ok-append_fault-in-None-clause-stand : goal.returns-in_ok-append_fault-in-None-clause-stand
+returns-in_ok-append_fault-in-None-clause-stand g c = c.in_ok-map.ensures.stand
+
+pub returns-in_ok-append_fault-in-None-clause-grows : goal.returns-in_ok-append_fault-in-None-clause-grows
+returns-in_ok-append_fault-in-None-clause-grows g c = c.in_ok-map.ensures.grows
+
+pub returns-in_ok-append_fault-in-None-clause-founded : goal.returns-in_ok-append_fault-in-None-clause-founded
+returns-in_ok-append_fault-in-None-clause-founded g c = c.in_ok-map.ensures.founded
+
+pub returns-in_ok-append_fault-in-None-clause-asks : goal.returns-in_ok-append_fault-in-None-clause-asks
+returns-in_ok-append_fault-in-None-clause-asks g c = c.in_ok-map.ensures.asks
+
+pub returns-in_err-append_fault-in-None-clause-stand : goal.returns-in_err-append_fault-in-None-clause-stand
+returns-in_err-append_fault-in-None-clause-stand g c = c.in_ok-map.ensures.stand
+
+pub returns-in_err-append_fault-in-None-clause-grows : goal.returns-in_err-append_fault-in-None-clause-grows
+returns-in_err-append_fault-in-None-clause-grows g c = c.in_ok-map.ensures.grows
+
+pub returns-in_err-append_fault-in-None-clause-founded : goal.returns-in_err-append_fault-in-None-clause-founded
+returns-in_err-append_fault-in-None-clause-founded g c = c.in_ok-map.ensures.founded
+
+pub returns-in_err-append_fault-in-None-clause-asks : goal.returns-in_err-append_fault-in-None-clause-asks
+returns-in_err-append_fault-in-None-clause-asks g c = c.in_ok-map.ensures.asks
+
+pub returns-in_err-map-clause-stand : goal.returns-in_err-map-clause-stand
+returns-in_err-map-clause-stand g c = c.find.ensures.stand
+
+pub returns-in_err-map-clause-grows : goal.returns-in_err-map-clause-grows
+returns-in_err-map-clause-grows g c = c.find.ensures.grows
+
+pub returns-in_err-map-clause-founded : goal.returns-in_err-map-clause-founded
+returns-in_err-map-clause-founded g c = c.find.ensures.founded
+
+pub returns-in_err-map-clause-asks : goal.returns-in_err-map-clause-asks
+returns-in_err-map-clause-asks g c = c.find.ensures.asks

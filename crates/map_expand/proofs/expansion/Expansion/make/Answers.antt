@@ -1,4 +1,4 @@
-use Rattle.std.proofs.Common.{◌≡◌, ◌∷◌, ◌++◌, [], arith, length, refl, subst, ap, ◌∙◌, None, Some}
+use Rattle.std.proofs.Common.{◌≡◌, ◌∷◌, ◌++◌, [], arith, length, refl, subst, ap, ◌∙◌, None, Some, sym}
 use Rattle.std.proofs.lemmas.List.{length_push}
 use Rattle.dita_doc.specs.declared.plan.PlanKind.TheVariants as kinds
 use Rattle.doc_elements.specs.Walk.{element_of}
@@ -19,6 +19,7 @@ use Rattle.map_expand.proofs.TellingLaws.{asked_first}
 use Rattle.readers.proofs.DocumentLaws.{asks_same}
 use Rattle.readers.proofs.FoundedLaws.{stays_same}
 use Rattle.readers.proofs.GrowthLaws.{grows_same}
+use Rattle.map_expand.proofs.StepLaws.{node_there, none_some}
 use Rattle.map_expand.proofs.expansion.Expansion.make.Goals as goal
 
 pub returns-in-Err-clause-made : goal.returns-in-Err-clause-made
@@ -231,3 +232,19 @@ returns-in-None-clause-founded g c = stays_same _ _ _ refl
 
 pub returns-in-None-clause-asks : goal.returns-in-None-clause-asks
 returns-in-None-clause-asks g c = asks_same _ _ _ _ refl
+
+pub returns-in_default-clause-few : goal.returns-in_default-clause-few
+returns-in_default-clause-few g c =
+    let walk = c.args.walk in
+    let there = node_there (home_at (homes_of c.args.maps.now) walk.map) walk c.requires.fits.on.siblings
+    (omega (arith, c.requires.some, c.requires.ends)) in
+    absurd (none_some (sym c.in_default.ensures ∙ there.1))
+
+pub returns-in_default-clause-less : goal.returns-in_default-clause-less
+returns-in_default-clause-less g c = omega arith
+
+pub returns-in_default-clause-ready : goal.returns-in_default-clause-ready
+returns-in_default-clause-ready g c = c.requires.ready
+
+pub returns-in-None-clause-few : goal.returns-in-None-clause-few
+returns-in-None-clause-few g c = c.in-Ok.ensures.few

@@ -1,13 +1,19 @@
-use Rattle.std.proofs.Common.{◌≡◌, arith, length, sym, subst, ap, ◌∙◌, ◌++◌, ◌∷◌, []}
+use Rattle.std.proofs.Common.{◌≡◌, ◌≤◌, arith, length, refl, sym, subst, ap, ◌∙◌, ◌++◌, ◌∷◌, []}
 use Rattle.doc_elements.specs.Walk.{element_of}
 use Rattle.map_spec.specs.Elements.{class_faults}
+use Rattle.map_spec.specs.Included.{node_limit}
 use Rattle.map_spec.specs.Written.{Element}
+use Rattle.readers.proofs.DocumentLaws.{asks_same}
+use Rattle.readers.proofs.FoundedLaws.{stays_same}
+use Rattle.readers.proofs.GrowthLaws.{grows_same}
 use Rattle.readers.specs.Founded as founded
 use Rattle.map_expand.specs.AskedFor.{AreAsked}
 use Rattle.map_expand.specs.Going.{homes_of, Goes, so_far}
 use Rattle.map_expand.specs.Homes.{home_at}
 use Rattle.map_expand.specs.Making.{Makes, WalkFits, behind, content, path_of}
 use Rattle.map_expand.specs.declared.work.Work.TheVariants as works
+use Rattle.map_expand.proofs.AskedLaws.{on_ok_more}
+use Rattle.map_expand.proofs.LeftLaws.{behind_less, content_less}
 use Rattle.map_expand.proofs.MakeLaws.{ready_pushed}
 use Rattle.map_expand.proofs.StepLaws.{node_there, stepped_content, stepped_node, stepped_nothing}
 use Rattle.map_expand.proofs.expansion.Expansion.step.Goals as goal
@@ -107,3 +113,130 @@ returns-in_ok-open-in-Content-clause-made g c = λ world agrees.
     stepped_content world homes old.left.items c.push.new.self.items walk end left c.open.new.self.left.items old.nodes
     c.open.new.self.nodes old.faults (class_faults element) c.open.new.self.faults opened.left opened.nodes
     (opened.faults first.0 first.1) both
+
+pub make-requires-clause-some : goal.make-requires-clause-some
+make-requires-clause-some g c = c.in-Some.ensures.begins
+
+pub make-requires-clause-ends : goal.make-requires-clause-ends
+make-requires-clause-ends g c = c.in-Some.ensures.ends
+
+pub make-requires-clause-fits : goal.make-requires-clause-fits
+make-requires-clause-fits g c = c.requires.fits
+
+pub make-requires-clause-inside : goal.make-requires-clause-inside
+make-requires-clause-inside g c = c.in-Some.ensures.seen.inside
+
+pub returns-in_default-clause-few : goal.returns-in_default-clause-few
+returns-in_default-clause-few g c = c.requires.few
+
+pub returns-in_default-clause-less : goal.returns-in_default-clause-less
+returns-in_default-clause-less g c = omega arith
+
+pub returns-in_default-clause-ready : goal.returns-in_default-clause-ready
+returns-in_default-clause-ready g c = c.requires.ready
+
+pub returns-in-Nothing-clause-few : goal.returns-in-Nothing-clause-few
+returns-in-Nothing-clause-few g c = c.requires.few
+
+pub returns-in_ok-open-in-Content-clause-few : goal.returns-in_ok-open-in-Content-clause-few
+returns-in_ok-open-in-Content-clause-few g c =
+    subst (λ n. length n ≤ node_limit) (sym c.in_ok-open-in-Content.ensures.nodes) c.requires.few
+
+pub returns-in-Node-clause-few : goal.returns-in-Node-clause-few
+returns-in-Node-clause-few g c = c.make.ensures.few
+
+pub returns-in-Node-clause-ready : goal.returns-in-Node-clause-ready
+returns-in-Node-clause-ready g c = c.make.ensures.ready
+
+pub returns-in-Node-clause-stand : goal.returns-in-Node-clause-stand
+returns-in-Node-clause-stand g c = c.make.ensures.stand
+
+pub returns-in-Node-clause-grows : goal.returns-in-Node-clause-grows
+returns-in-Node-clause-grows g c = c.make.ensures.grows
+
+pub returns-in-Node-clause-founded : goal.returns-in-Node-clause-founded
+returns-in-Node-clause-founded g c = c.make.ensures.founded
+
+pub returns-in-Node-clause-asks : goal.returns-in-Node-clause-asks
+returns-in-Node-clause-asks g c = c.make.ensures.asks
+
+pub returns-in-Node-clause-less : goal.returns-in-Node-clause-less
+returns-in-Node-clause-less g c =
+    let less = behind_less c.args.self.now.nodes c.args.self.now.left.items c.push.new.self.items c.args.walk c.in-Some.seen.end
+    (c.in_ok-push.ensures.items ∙ ap (λ w. c.args.self.now.left.items ++ works.Walk w ∷ []) c.behind.ensures)
+    c.in-Some.ensures.begins c.in-Some.ensures.ends in
+    on_ok_more c.make.result (λ more. omega (arith, more, less)) c.make.ensures.less
+
+pub returns-in-Nothing-clause-less : goal.returns-in-Nothing-clause-less
+returns-in-Nothing-clause-less g c =
+    behind_less c.args.self.now.nodes c.args.self.now.left.items c.push.new.self.items c.args.walk c.in-Some.seen.end
+    (c.in_ok-push.ensures.items ∙ ap (λ w. c.args.self.now.left.items ++ works.Walk w ∷ []) c.behind.ensures)
+    c.in-Some.ensures.begins c.in-Some.ensures.ends
+
+pub returns-in_ok-open-in-Content-clause-less : goal.returns-in_ok-open-in-Content-clause-less
+returns-in_ok-open-in-Content-clause-less g c =
+    let opened = c.in_ok-open-in-Content.ensures in
+    content_less c.args.self.now.nodes c.args.self.now.left.items c.push.new.self.items c.args.walk c.in-Some.seen.end
+    (c.in_ok-push.ensures.items ∙ ap (λ w. c.args.self.now.left.items ++ works.Walk w ∷ []) c.behind.ensures)
+    c.in-Some.ensures.begins c.in-Some.ensures.ends
+    c.open.new.self.nodes c.open.new.self.left.items opened.nodes opened.left
+
+pub returns-in_default-clause-stand : goal.returns-in_default-clause-stand
+returns-in_default-clause-stand g c = refl
+
+pub returns-in_default-clause-grows : goal.returns-in_default-clause-grows
+returns-in_default-clause-grows g c = grows_same _
+
+pub returns-in_default-clause-founded : goal.returns-in_default-clause-founded
+returns-in_default-clause-founded g c = stays_same _ _ _ refl
+
+pub returns-in_default-clause-asks : goal.returns-in_default-clause-asks
+returns-in_default-clause-asks g c = asks_same _ _ _ _ refl
+
+pub returns-in_err-push-clause-stand : goal.returns-in_err-push-clause-stand
+returns-in_err-push-clause-stand g c = refl
+
+pub returns-in_err-push-clause-grows : goal.returns-in_err-push-clause-grows
+returns-in_err-push-clause-grows g c = grows_same _
+
+pub returns-in_err-push-clause-founded : goal.returns-in_err-push-clause-founded
+returns-in_err-push-clause-founded g c = stays_same _ _ _ refl
+
+pub returns-in_err-push-clause-asks : goal.returns-in_err-push-clause-asks
+returns-in_err-push-clause-asks g c = asks_same _ _ _ _ refl
+
+pub returns-in-Nothing-clause-stand : goal.returns-in-Nothing-clause-stand
+returns-in-Nothing-clause-stand g c = refl
+
+pub returns-in-Nothing-clause-grows : goal.returns-in-Nothing-clause-grows
+returns-in-Nothing-clause-grows g c = grows_same _
+
+pub returns-in-Nothing-clause-founded : goal.returns-in-Nothing-clause-founded
+returns-in-Nothing-clause-founded g c = stays_same _ _ _ refl
+
+pub returns-in-Nothing-clause-asks : goal.returns-in-Nothing-clause-asks
+returns-in-Nothing-clause-asks g c = asks_same _ _ _ _ refl
+
+pub returns-in_err-open-in-Content-clause-stand : goal.returns-in_err-open-in-Content-clause-stand
+returns-in_err-open-in-Content-clause-stand g c = refl
+
+pub returns-in_err-open-in-Content-clause-grows : goal.returns-in_err-open-in-Content-clause-grows
+returns-in_err-open-in-Content-clause-grows g c = grows_same _
+
+pub returns-in_err-open-in-Content-clause-founded : goal.returns-in_err-open-in-Content-clause-founded
+returns-in_err-open-in-Content-clause-founded g c = stays_same _ _ _ refl
+
+pub returns-in_err-open-in-Content-clause-asks : goal.returns-in_err-open-in-Content-clause-asks
+returns-in_err-open-in-Content-clause-asks g c = asks_same _ _ _ _ refl
+
+pub returns-in_ok-open-in-Content-clause-stand : goal.returns-in_ok-open-in-Content-clause-stand
+returns-in_ok-open-in-Content-clause-stand g c = refl
+
+pub returns-in_ok-open-in-Content-clause-grows : goal.returns-in_ok-open-in-Content-clause-grows
+returns-in_ok-open-in-Content-clause-grows g c = grows_same _
+
+pub returns-in_ok-open-in-Content-clause-founded : goal.returns-in_ok-open-in-Content-clause-founded
+returns-in_ok-open-in-Content-clause-founded g c = stays_same _ _ _ refl
+
+pub returns-in_ok-open-in-Content-clause-asks : goal.returns-in_ok-open-in-Content-clause-asks
+returns-in_ok-open-in-Content-clause-asks g c = asks_same _ _ _ _ refl
