@@ -1,8 +1,9 @@
 -- What a reference leads to, by the values that its node carries.
-use Rattle.std.specs.Prelude.{◌≡◌, ◌++◌, ℕ, Bool, true, false, List, [], Option, Some, None, Result, Ok, Err, IfOk, map, option_map, slice_get, codes, if◌then◌else◌}
+use Rattle.std.specs.Prelude.{◌≡◌, ◌++◌, ℕ, Bool, true, false, List, [], Option, Some, None, Result, Ok, Err, IfOk, is_some, map, option_map, slice_get, codes, if◌then◌else◌}
 use Rattle.std.specs.Option.{option_and_then, option_map_or}
 use Rattle.std.proofs.Common.{refl, sym, ap, subst, ◌∙◌, append-nil, append_assoc}
 use Rattle.std.proofs.lemmas.Option.{slice_get-map}
+use Rattle.dita_doc.specs.declared.content.KeyAnswer.{KeyAnswer}
 use Rattle.dita_doc.specs.declared.fault.Fault.{Fault}
 use Rattle.dita_doc.specs.declared.fault.FaultCode.TheVariants as faults
 use Rattle.dita_doc.specs.declared.plan.PlanNode.{PlanNode}
@@ -11,7 +12,7 @@ use Rattle.map_spec.specs.Cascade.{attribute_at, whole_at}
 use Rattle.map_spec.specs.Elements.{attribute}
 use Rattle.map_spec.specs.Included.{is_reference}
 use Rattle.dita_doc.specs.declared.stop.NoMemory.{NoMemory}
-use Rattle.map_spec.specs.Pages.{Aim, aim_at, aim_of, aim_with, fault_of_value, ignored_at, no_aim, with_more}
+use Rattle.map_spec.specs.Pages.{Aim, aim_at, aim_by_href, aim_by_key, aim_of, aim_with, fault_of_value, ignored_at, no_aim, undefined_key, with_more}
 use Rattle.map_spec.specs.Written.{Whole}
 use Rattle.plan_nodes.specs.Home as home
 use Rattle.reader_spec.specs.World.{World}
@@ -50,6 +51,27 @@ pub aim_is : (aim other : Aim) (target : Target) (old new : List Fault) → aim 
 aim_is aim other target old new same is = subst (λ a. IsAim a target old new) same is
 
 -- By a key
+
+-- what its definition gives, else what stands beside it
+module _ (world : World) (node : PlanNode) (around : List PlanNode) (key : List ℕ) (href : Option (List ℕ)) (answer : KeyAnswer)
+    (old middle : List Fault) (met : middle ≡ old ++ answer.faults) where
+  pub defined_aim : is_some answer.node ≡ true
+      → IsAim (aim_by_key world node around key href answer) answer.target old middle
+  defined_aim defined = rw defined (record { leads = refl; faults = met })
+
+  pub undefined_aim : (result : Result Target NoMemory) (new : List Fault) → is_some answer.node ≡ false
+      → IfOk result (λ target. IsAim (with_more (undefined_key node key href) (aim_by_href world node around href))
+      target middle new)
+      → IfOk result (λ target. IsAim (aim_by_key world node around key href answer) target old new)
+  undefined_aim (Ok target) new undefined is =
+      let beside = undefined_key node key href in
+      let behind = (aim_by_href world node around href).faults in
+      rw undefined (record {
+        leads = is.leads;
+        faults = is.faults ∙ ap (λ fs. fs ++ (beside ++ behind)) met ∙ append_assoc old answer.faults (beside ++ behind)
+            ∙ ap (λ fs. old ++ fs) (sym (append_assoc answer.faults beside behind));
+      })
+  undefined_aim (Err stop) new undefined is = tt
 
 -- by the two attributes of the element
 by_attributes : (world : World) (nodes : List PlanNode) (at : ℕ) (node : PlanNode) (keyref : Option (List ℕ))
