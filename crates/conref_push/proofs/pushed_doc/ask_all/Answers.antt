@@ -1,6 +1,10 @@
 use Rattle.std.proofs.Common.{◌∙◌, ap, sym}
-use Rattle.readers.proofs.GrowthLaws.{agrees_before, told_answer}
+use Rattle.readers.proofs.DocumentLaws.{asks_one}
+use Rattle.readers.proofs.FoundedLaws.{among_first, stays_one}
+use Rattle.readers.proofs.GrowthLaws.{agrees_before, grows_trans, told_answer}
+use Rattle.readers.specs.Documents.{nothing}
 use Rattle.readers.specs.Told.{tree_found}
+use Rattle.conref_push.specs.Into.{docs_of, froms}
 use Rattle.conref_push.proofs.AskedLaws.{given_asked}
 use Rattle.conref_push.proofs.SourceLaws.{asks_docs, stays_docs}
 use Rattle.conref_push.proofs.pushed_doc.ask_all.Goals as goal
@@ -35,3 +39,47 @@ returns-clause-given g c = (
       c.of.ensures.grows,
   c.in_ok-sources.ensures.given,
 )
+
+pub returns-in_err-found-clause-stand : goal.returns-in_err-found-clause-stand
+returns-in_err-found-clause-stand g c = c.doc.ensures.stand
+
+pub returns-in_err-found-clause-founded : goal.returns-in_err-found-clause-founded
+returns-in_err-found-clause-founded g c = stays_one c.args.doc.now (docs_of c.args.doc.now c.args.pushes.now) _ _
+    (among_first c.args.doc.now (froms c.args.pushes.now)) c.doc.ensures.founded
+
+pub returns-in_err-found-clause-asks : goal.returns-in_err-found-clause-asks
+returns-in_err-found-clause-asks g c = asks_one nothing c.args.doc.now (docs_of c.args.doc.now c.args.pushes.now) _ _
+    (among_first c.args.doc.now (froms c.args.pushes.now)) c.doc.ensures.asks
+
+pub returns-in_err-found-clause-grows : goal.returns-in_err-found-clause-grows
+returns-in_err-found-clause-grows g c = c.doc.ensures.grows
+
+pub returns-in_default-clause-stand : goal.returns-in_default-clause-stand
+returns-in_default-clause-stand g c = c.doc.ensures.stand
+
+pub returns-in_default-clause-founded : goal.returns-in_default-clause-founded
+returns-in_default-clause-founded g c = stays_one c.args.doc.now (docs_of c.args.doc.now c.args.pushes.now) _ _
+    (among_first c.args.doc.now (froms c.args.pushes.now)) c.doc.ensures.founded
+
+pub returns-in_default-clause-asks : goal.returns-in_default-clause-asks
+returns-in_default-clause-asks g c = asks_one nothing c.args.doc.now (docs_of c.args.doc.now c.args.pushes.now) _ _
+    (among_first c.args.doc.now (froms c.args.pushes.now)) c.doc.ensures.asks
+
+pub returns-in_default-clause-grows : goal.returns-in_default-clause-grows
+returns-in_default-clause-grows g c = c.doc.ensures.grows
+
+pub returns-in_default-clause-known : goal.returns-in_default-clause-known
+returns-in_default-clause-known g c = λ world agrees.
+    sym (told_answer world _ _ _ c.in_ok-found.ensures.told agrees ∙ ap tree_found c.in_default.is)
+
+pub returns-in_err-sources-clause-stand : goal.returns-in_err-sources-clause-stand
+returns-in_err-sources-clause-stand g c = c.of.ensures.stand ∙ c.in_ok-found.ensures.stand
+
+pub returns-in_err-sources-clause-grows : goal.returns-in_err-sources-clause-grows
+returns-in_err-sources-clause-grows g c = grows_trans _ _ _ c.in_ok-found.ensures.grows c.of.ensures.grows
+
+pub returns-clause-stand : goal.returns-clause-stand
+returns-clause-stand g c = c.of.ensures.stand ∙ c.in_ok-found.ensures.stand
+
+pub returns-clause-grows : goal.returns-clause-grows
+returns-clause-grows g c = grows_trans _ _ _ c.in_ok-found.ensures.grows c.of.ensures.grows

@@ -57,3 +57,24 @@ pub returns-clause-known : goal.returns-clause-known
 returns-clause-known g c = λ world agrees.
     sources_all world c.args.pushes.now c.loop-push.push-index c.loop-push.sources c.loop-push-test.false
     (c.loop-push.invariant.known world agrees)
+
+pub returns-in_err-ask-clause-stand : goal.returns-in_err-ask-clause-stand
+returns-in_err-ask-clause-stand g c = c.in_err-ask.ensures.stand ∙ c.loop-push.invariant.stand
+
+pub returns-in_err-ask-clause-grows : goal.returns-in_err-ask-clause-grows
+returns-in_err-ask-clause-grows g c = grows_trans _ _ _ c.loop-push.invariant.grows c.in_err-ask.ensures.grows
+
+pub returns-clause-given : goal.returns-clause-given
+returns-clause-given g c = c.loop-push.invariant.given
+
+pub returns-clause-stand : goal.returns-clause-stand
+returns-clause-stand g c = c.loop-push.invariant.stand
+
+pub returns-clause-founded : goal.returns-clause-founded
+returns-clause-founded g c = c.loop-push.invariant.founded
+
+pub returns-clause-asks : goal.returns-clause-asks
+returns-clause-asks g c = c.loop-push.invariant.asks
+
+pub returns-clause-grows : goal.returns-clause-grows
+returns-clause-grows g c = c.loop-push.invariant.grows

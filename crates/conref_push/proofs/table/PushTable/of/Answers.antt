@@ -66,3 +66,22 @@ pub returns-clause-allowed : goal.returns-clause-allowed
 returns-clause-allowed g c = λ roots founded.
     allowed_all roots _ c.args.documents.now c.loop-name.name-index c.loop-name-test.false
     (c.loop-name.invariant.allowed roots founded)
+
+pub returns-in_err-put_document-clause-stand : goal.returns-in_err-put_document-clause-stand
+returns-in_err-put_document-clause-stand g c = c.in_err-put_document.ensures.stand ∙ c.loop-name.invariant.stand
+
+pub returns-in_err-put_document-clause-grows : goal.returns-in_err-put_document-clause-grows
+returns-in_err-put_document-clause-grows g c =
+    grows_trans _ _ _ c.loop-name.invariant.grows c.in_err-put_document.ensures.grows
+
+pub returns-clause-stand : goal.returns-clause-stand
+returns-clause-stand g c = c.loop-name.invariant.stand
+
+pub returns-clause-founded : goal.returns-clause-founded
+returns-clause-founded g c = c.loop-name.invariant.founded
+
+pub returns-clause-asks : goal.returns-clause-asks
+returns-clause-asks g c = c.loop-name.invariant.asks
+
+pub returns-clause-grows : goal.returns-clause-grows
+returns-clause-grows g c = c.loop-name.invariant.grows

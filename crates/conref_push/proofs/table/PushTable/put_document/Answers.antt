@@ -1,10 +1,13 @@
-use Rattle.std.proofs.Common.{◌∷◌, ◌∙◌, Some, ap, sym}
+use Rattle.std.proofs.Common.{◌∷◌, ◌∙◌, [], Some, ap, sym}
 use Rattle.dita_doc.specs.Tree.{tree_of}
 use Rattle.dita_doc.specs.declared.doc.Doc.{Doc}
 use Rattle.page_spec.specs.Pushes.{all_pushes}
-use Rattle.readers.proofs.GrowthLaws.{agrees_before, grows_same, told_answer}
+use Rattle.readers.proofs.DocumentLaws.{asks_one}
+use Rattle.readers.proofs.FoundedLaws.{among_first}
+use Rattle.readers.proofs.GrowthLaws.{agrees_before, grows_same, grows_trans, told_answer}
 use Rattle.readers.specs.Told.{document, tree_found}
 use Rattle.topic_find.proofs.TableLaws.{on_ok}
+use Rattle.conref_push.specs.Aimed.{push_targets}
 use Rattle.conref_push.specs.Table.{acts_among}
 use Rattle.conref_push.proofs.AimLaws.{asks_put, stays_put}
 use Rattle.conref_push.proofs.AllowedLaws.{asked_allowed, on_any}
@@ -50,3 +53,35 @@ returns-in-Some-clause-allowed g c = λ roots founded.
 pub returns-in-None-clause-allowed : goal.returns-in-None-clause-allowed
 returns-in-None-clause-allowed g c = λ roots founded.
     asked_allowed roots c.args.name.now _ _ _ _ c.in_ok-doc.ensures.told (grows_same _) founded
+
+pub returns-in_err-doc-clause-stand : goal.returns-in_err-doc-clause-stand
+returns-in_err-doc-clause-stand g c = c.doc.ensures.stand
+
+pub returns-in_err-doc-clause-founded : goal.returns-in_err-doc-clause-founded
+returns-in_err-doc-clause-founded g c = c.doc.ensures.founded
+
+pub returns-in_err-doc-clause-asks : goal.returns-in_err-doc-clause-asks
+returns-in_err-doc-clause-asks g c = asks_one push_targets c.args.name.now (c.args.name.now ∷ []) _ _
+    (among_first c.args.name.now []) c.doc.ensures.asks
+
+pub returns-in_err-doc-clause-grows : goal.returns-in_err-doc-clause-grows
+returns-in_err-doc-clause-grows g c = c.doc.ensures.grows
+
+pub returns-in-None-clause-stand : goal.returns-in-None-clause-stand
+returns-in-None-clause-stand g c = c.doc.ensures.stand
+
+pub returns-in-None-clause-founded : goal.returns-in-None-clause-founded
+returns-in-None-clause-founded g c = c.doc.ensures.founded
+
+pub returns-in-None-clause-asks : goal.returns-in-None-clause-asks
+returns-in-None-clause-asks g c = asks_one push_targets c.args.name.now (c.args.name.now ∷ []) _ _
+    (among_first c.args.name.now []) c.doc.ensures.asks
+
+pub returns-in-None-clause-grows : goal.returns-in-None-clause-grows
+returns-in-None-clause-grows g c = c.doc.ensures.grows
+
+pub returns-in-Some-clause-stand : goal.returns-in-Some-clause-stand
+returns-in-Some-clause-stand g c = c.put_all.ensures.stand ∙ c.in_ok-doc.ensures.stand
+
+pub returns-in-Some-clause-grows : goal.returns-in-Some-clause-grows
+returns-in-Some-clause-grows g c = grows_trans _ _ _ c.in_ok-doc.ensures.grows c.put_all.ensures.grows

@@ -19,3 +19,39 @@ returns-in-None-clause-known g c = λ world all acting agrees gathered.
     (sym c.in-None.is ∙ c.in_ok-target.ensures.known world agrees gathered.docs)
     (c.in_ok-target.ensures.docs world agrees gathered.docs) c.in_ok-target.ensures.replaced tabled gathered.replaced)
     (c.put_fault.ensures all acting gathered.tabled)
+
+pub returns-in_err-target-clause-stand : goal.returns-in_err-target-clause-stand
+returns-in_err-target-clause-stand g c = c.find.ensures.stand
+
+pub returns-in_err-target-clause-founded : goal.returns-in_err-target-clause-founded
+returns-in_err-target-clause-founded g c = c.find.ensures.founded
+
+pub returns-in_err-target-clause-asks : goal.returns-in_err-target-clause-asks
+returns-in_err-target-clause-asks g c = c.find.ensures.asks
+
+pub returns-in_err-target-clause-grows : goal.returns-in_err-target-clause-grows
+returns-in_err-target-clause-grows g c = c.find.ensures.grows
+
+pub returns-in-Some-clause-stand : goal.returns-in-Some-clause-stand
+returns-in-Some-clause-stand g c = c.find.ensures.stand
+
+pub returns-in-Some-clause-founded : goal.returns-in-Some-clause-founded
+returns-in-Some-clause-founded g c = c.find.ensures.founded
+
+pub returns-in-Some-clause-asks : goal.returns-in-Some-clause-asks
+returns-in-Some-clause-asks g c = c.find.ensures.asks
+
+pub returns-in-Some-clause-grows : goal.returns-in-Some-clause-grows
+returns-in-Some-clause-grows g c = c.find.ensures.grows
+
+pub returns-in-None-clause-stand : goal.returns-in-None-clause-stand
+returns-in-None-clause-stand g c = c.find.ensures.stand
+
+pub returns-in-None-clause-founded : goal.returns-in-None-clause-founded
+returns-in-None-clause-founded g c = c.find.ensures.founded
+
+pub returns-in-None-clause-asks : goal.returns-in-None-clause-asks
+returns-in-None-clause-asks g c = c.find.ensures.asks
+
+pub returns-in-None-clause-grows : goal.returns-in-None-clause-grows
+returns-in-None-clause-grows g c = c.find.ensures.grows
