@@ -2,6 +2,8 @@ pub mod Rules
 pub mod CarryLaws
 pub mod PassLaws
 pub mod BelowLaws
+mod AskedLaws
+mod CallLaws
 mod MadeLaws
 mod KeptLaws
 mod QuietLaws

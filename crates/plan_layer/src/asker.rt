@@ -2,7 +2,7 @@
 
 use crate::layer::PlanLayer;
 use crate::made::{GivesTouched, TellsPushes, kept_pushed, made_pushed, with_pushes};
-use crate::notes::{page_note, pushes_note};
+use crate::notes::{page_note, pushes_known};
 use conref_push::{PushTable, acts_in};
 use dita_doc::{Context, Doc, Name, NoMemory, PushList};
 use readers::{Asker, Keys, Since, share};
@@ -13,7 +13,7 @@ impl<'r, 'q, 'm, 'd, 'n, K: Keys, S: Since> TellsPushes for PlanLayer<'r, 'q, 'm
     fn tell_pushes(&mut self, alloc: Global, name: &Name) -> Result<PushList, NoMemory> {
         let answer = self.table.pushes_into(alloc, name)?;
         // The question is kept with an answer of its own.
-        let note = pushes_note(alloc, name, self.table.pushes_into(alloc, name)?)?;
+        let note = pushes_known(alloc, self.table, name)?;
         self.asked.begin(note)?;
         Ok(answer)
     }

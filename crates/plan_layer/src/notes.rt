@@ -1,17 +1,33 @@
 //! Questions for pushes and for pages, with their answers.
 
-ghost use Rattle.std.specs.Prelude.{◌≡◌, IfOk};
+ghost use Rattle.std.specs.Prelude.{◌≡◌, ℕ, List, IfOk};
+ghost use Rattle.conref_push.specs.Table.{IsPushTable};
+ghost use Rattle.page_spec.specs.Pushes as pushes_spec;
+ghost use Rattle.reader_spec.specs.World.{World};
 ghost use Rattle.readers.specs.Noted as noted_spec;
 ghost use Rattle.readers.specs.Setting.{Setting};
 ghost use Rattle.readers.specs.Told as told_spec;
 
+use conref_push::PushTable;
 use dita_doc::{Answered, Asked, Context, Name, NoMemory, PageId, PushList, Question};
 use plan_nodes::{copy_affixes, copy_names};
 use readers::Note;
 use std::alloc::{AllocError, Global};
 
+// The question for the pushes into a document, with what a table answers.
+pub(crate) fn pushes_known(alloc: Global, table: &PushTable, name: &Name) -> Result<Note, NoMemory>
+    ensures { (world : World) (documents : List (List ℕ)) → IsPushTable world documents table.now
+        → IfOk result (λ note. (setting : Setting) → noted_spec.told_of setting note
+        ≡ told_spec.pushes setting.documents name.now
+        (pushes_spec.pushes_into world documents name.now)) }
+{
+    let answer = table.pushes_into(alloc, name)?;
+    let note = pushes_note(alloc, name, answer)?;
+    Ok(note)
+}
+
 // The question for the pushes into a document.
-pub(crate) fn pushes_note(alloc: Global, name: &Name, answer: PushList) -> Result<Note, NoMemory>
+fn pushes_note(alloc: Global, name: &Name, answer: PushList) -> Result<Note, NoMemory>
     ensures { IfOk result (λ note. (setting : Setting) → noted_spec.told_of setting note
         ≡ told_spec.pushes setting.documents name.now answer) }
 {
