@@ -71,7 +71,7 @@ fn image_href(
     if !shows_href(standing) {
         return Ok(None);
     }
-    href_outside(page, target)
+    href_outside(page, &target)
 }
 
 // Whether the page shows the href of an element of its form.

@@ -48,16 +48,16 @@ pub(crate) fn lead_of<'a, A: Asker>(
     page: Page<'a>,
     asker: &mut A,
     standing: Standing<'a>,
-    target: Target,
+    target: &Target,
     faults: &mut List<Fault>,
 ) -> Result<Lead, NoMemory>
     requires { spec.IsPlaced page standing }
     ensures known { (here : Here) → Agrees here.world (A.told asker.new)
         → spec.IsHere (A.stand asker.old) page.entry here → IfOk result (λ lead. spec.IsLead here
-        (anchors_spec.lead_of here (spec.element_of page.entry standing.entry) target) lead
+        (anchors_spec.lead_of here (spec.element_of page.entry standing.entry) target.now) lead
         faults.old faults.new) }
     ensures stand { A.stand asker.new ≡ A.stand asker.old }
-    ensures founded { StaysFounded (names_spec.names_of target) (A.told asker.old)
+    ensures founded { StaysFounded (names_spec.names_of target.now) (A.told asker.old)
         (A.told asker.new) }
     ensures asks { AsksOnly documents_spec.nothing [] (A.told asker.old) (A.told asker.new) }
     ensures grows { Grows (A.told asker.old) (A.told asker.new) }
@@ -66,7 +66,7 @@ pub(crate) fn lead_of<'a, A: Asker>(
         Target::Local(name, reference) => {
             let topic = reference.topic.as_str();
             let id = reference.element.as_str();
-            lead_to(page, asker, standing, &name, topic, id, faults)
+            lead_to(page, asker, standing, name, topic, id, faults)
         }
         target => Ok(Lead {
             href: href_outside(page, target)?,
@@ -139,17 +139,18 @@ fn page_numbered(plan: &Plan, number: u32) -> Option<&PagePlan>
 }
 
 // The href of what is no document of ours.
-pub(crate) fn href_outside(page: Page<'_>, target: Target) -> Result<Option<Text>, NoMemory>
-    ensures { IfOk result (λ href. href ≡ spec.href_outside page.entry.context.now.name target) }
+pub(crate) fn href_outside(page: Page<'_>, target: &Target) -> Result<Option<Text>, NoMemory>
+    ensures { IfOk result (λ href. href
+        ≡ spec.href_outside page.entry.context.now.name target.now) }
 {
     match target {
         Target::Nothing | Target::Local(..) => Ok(None),
         Target::File(name, rest) => {
-            let mut href = relative(page.alloc, &page.context.name, &name)?;
+            let mut href = relative(page.alloc, &page.context.name, name)?;
             href.append(rest.as_str())?;
             Ok(Some(href))
         }
-        Target::Other(value) => Ok(Some(value)),
+        Target::Other(value) => Ok(Some(value.clone()?)),
     }
 }
 

@@ -39,7 +39,7 @@ pub(crate) fn add_keyed<'a, A: Asker>(
     asker: &mut A,
     types: Types,
     standing: Standing<'a>,
-    keyed: Keyed<'a>,
+    keyed: &Keyed<'a>,
     made: &mut AnchorsMade,
 ) -> Result<(), NoMemory>
     requires { spec.IsPlaced page standing }
@@ -48,19 +48,19 @@ pub(crate) fn add_keyed<'a, A: Asker>(
         → types.is_link ≡ anchors_spec.is_link (spec.element_of page.entry standing.entry)
         → anchors_spec.defined_key here (spec.element_of page.entry standing.entry) ≡ Some answer
         → spec.IsGiven (anchors_spec.keyref_of (spec.element_of page.entry standing.entry)) answer
-        keyed.entry
+        keyed.now
         → OnOk result (spec.HasMore made.old made.new
         (anchors_spec.linked_added here (spec.alone page.entry standing.entry)
         (anchors_spec.linked_by_key here (spec.element_of page.entry standing.entry) answer))) }
     ensures stand { A.stand asker.new ≡ A.stand asker.old }
-    ensures founded { StaysFounded (names_spec.names_of keyed.entry.target) (A.told asker.old)
+    ensures founded { StaysFounded (names_spec.names_of keyed.now.target) (A.told asker.old)
         (A.told asker.new) }
     ensures asks { AsksOnly documents_spec.nothing [] (A.told asker.old) (A.told asker.new) }
     ensures grows { Grows (A.told asker.old) (A.told asker.new) }
 {
-    let Keyed { id, target, label } = keyed;
-    let lead = lead_by_key(page, asker, standing, id, target, &mut made.faults)?;
-    let label = own_label(page.alloc, types, standing)?.unwrap_or(label);
+    let faults = &mut made.faults;
+    let lead = lead_by_key(page, asker, standing, keyed.id, &keyed.target, faults)?;
+    let label = label_or(page.alloc, types, standing, &keyed.label)?;
     add_linked(types, standing, lead, true, label, made)
 }
 
@@ -71,16 +71,16 @@ fn lead_by_key<'a, A: Asker>(
     asker: &mut A,
     standing: Standing<'a>,
     id: Option<&'a str>,
-    target: Target,
+    target: &Target,
     faults: &mut List<Fault>,
 ) -> Result<Lead, NoMemory>
     requires { spec.IsPlaced page standing }
     ensures known { (here : Here) → Agrees here.world (A.told asker.new)
         → spec.IsHere (A.stand asker.old) page.entry here → IfOk result (λ lead. spec.IsLead here
         (anchors_spec.lead_by_key here (spec.element_of page.entry standing.entry)
-        (option_copied id.entry) target) lead faults.old faults.new) }
+        (option_copied id.entry) target.now) lead faults.old faults.new) }
     ensures stand { A.stand asker.new ≡ A.stand asker.old }
-    ensures founded { StaysFounded (names_spec.names_of target) (A.told asker.old)
+    ensures founded { StaysFounded (names_spec.names_of target.now) (A.told asker.old)
         (A.told asker.new) }
     ensures asks { AsksOnly documents_spec.nothing [] (A.told asker.old) (A.told asker.new) }
     ensures grows { Grows (A.told asker.old) (A.told asker.new) }
@@ -90,7 +90,7 @@ fn lead_by_key<'a, A: Asker>(
     };
     match target {
         Target::Local(name, reference) => {
-            lead_to_id(page, asker, standing, &name, reference, id, faults)
+            lead_to_id(page, asker, standing, name, reference, id, faults)
         }
         target => lead_of(page, asker, standing, target, faults),
     }
@@ -103,7 +103,7 @@ fn lead_to_id<'a, A: Asker>(
     asker: &mut A,
     standing: Standing<'a>,
     name: &Name,
-    reference: Reference,
+    reference: &Reference,
     id: &str,
     faults: &mut List<Fault>,
 ) -> Result<Lead, NoMemory>
@@ -111,7 +111,7 @@ fn lead_to_id<'a, A: Asker>(
     ensures known { (here : Here) → Agrees here.world (A.told asker.new)
         → spec.IsHere (A.stand asker.old) page.entry here → IfOk result (λ lead. spec.IsLead here
         (anchors_spec.lead_to here (spec.element_of page.entry standing.entry) name.now
-        (anchors_spec.topic_or_first here name.now reference.topic) id.now) lead
+        (anchors_spec.topic_or_first here name.now reference.now.topic) id.now) lead
         faults.old faults.new) }
     ensures stand { A.stand asker.new ≡ A.stand asker.old }
     ensures founded { StaysFounded (name.now ∷ []) (A.told asker.old) (A.told asker.new) }
@@ -128,20 +128,19 @@ fn topic_or_first<A: Asker>(
     alloc: Global,
     asker: &mut A,
     name: &Name,
-    reference: Reference,
+    reference: &Reference,
 ) -> Result<Text, NoMemory>
     ensures known { (here : Here) → Agrees here.world (A.told asker.new) → IfOk result (λ topic.
-        topic ≡ anchors_spec.topic_or_first here name.now reference.topic) }
+        topic ≡ anchors_spec.topic_or_first here name.now reference.now.topic) }
     ensures stand { A.stand asker.new ≡ A.stand asker.old }
     ensures founded { StaysFounded (name.now ∷ []) (A.told asker.old) (A.told asker.new) }
     ensures asks { AsksOnly documents_spec.nothing [] (A.told asker.old) (A.told asker.new) }
     ensures grows { Grows (A.told asker.old) (A.told asker.new) }
 {
-    let Reference { topic, .. } = reference;
-    if topic.is_empty() {
+    if reference.topic.is_empty() {
         return asker.first(alloc, name);
     }
-    Ok(topic)
+    Ok(reference.topic.clone()?)
 }
 
 // Adds what a cross reference or a link adds that is read by its href.
@@ -201,7 +200,7 @@ fn add_read<'a, A: Asker>(
     ensures grows { Grows (A.told asker.old) (A.told asker.new) }
 {
     let label = label_of(page.alloc, asker, types, standing, &target)?;
-    let lead = lead_of(page, asker, standing, target, &mut made.faults)?;
+    let lead = lead_of(page, asker, standing, &target, &mut made.faults)?;
     let holds = is_reference(standing.node);
     add_linked(types, standing, lead, holds, label, made)
 }
@@ -259,6 +258,22 @@ fn own_label(alloc: Global, types: Types, standing: Standing<'_>) -> Result<Opti
     match first_child(standing.inside, "topic/linktext") {
         Some((_, inside)) => Ok(Some(plain_text(alloc, inside)?)),
         None => Ok(None),
+    }
+}
+
+// The text of a link's own linktext, or else another.
+fn label_or(
+    alloc: Global,
+    types: Types,
+    standing: Standing<'_>,
+    other: &Text,
+) -> Result<Text, NoMemory>
+    ensures { (page : page_spec.Page) → IfOk result (λ label. label
+        ≡ spec.label_with types.is_link (spec.inside_of page standing.entry) other.now) }
+{
+    match own_label(alloc, types, standing)? {
+        Some(label) => Ok(label),
+        None => Ok(other.clone()?),
     }
 }
 

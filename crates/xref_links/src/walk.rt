@@ -228,7 +228,7 @@ fn add_behind<'a, A: Asker>(
         return add_image(page, standing, target_of(keyed), made);
     }
     match keyed {
-        Some(keyed) => add_keyed(page, asker, types, standing, keyed, made),
+        Some(keyed) => add_keyed(page, asker, types, standing, &keyed, made),
         None => add_unkeyed(page, asker, types, standing, made),
     }
 }

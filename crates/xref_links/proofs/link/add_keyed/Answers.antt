@@ -15,11 +15,11 @@ returns-clause-known g c = λ here answer agrees is typed defined given.
       anchors = c.args.made.now.anchors;
       links = c.args.made.now.links;
       faults = c.lead_by_key.new.faults;
-    }) c.add_linked.new.made c.in_ok-lead.lead true c.unwrap_or-label.result typed
+    }) c.add_linked.new.made c.in_ok-lead.lead true c.in_ok-label.label typed
     (holds_keyed here page standing answer defined)
-    (c.unwrap_or-label.ensures ∙ c.in_ok-own_label.ensures page c.args.keyed.label
+    (c.in_ok-label.ensures page
     ∙ ap (label_with c.args.types.is_link (inside_of page standing)) given.label)
     refl refl refl
-    (given_lead here page standing answer c.args.keyed c.in_ok-lead.lead c.args.made.now.faults
+    (given_lead here page standing answer c.args.keyed.now c.in_ok-lead.lead c.args.made.now.faults
     c.lead_by_key.new.faults given (c.in_ok-lead.ensures.known here agrees is)))
     c.add_linked.ensures

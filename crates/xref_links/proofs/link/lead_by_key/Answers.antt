@@ -7,7 +7,7 @@ use Rattle.xref_links.proofs.link.lead_by_key.Goals as goal
 pub returns-in_default-clause-known : goal.returns-in_default-clause-known
 returns-in_default-clause-known g c = λ here agrees is.
     lead_as here _ _ c.lead_of.result c.args.faults.now c.lead_of.new.faults
-    (by_no_id here (element_of c.args.page c.args.standing) (option_copied c.args.id) c.args.target
+    (by_no_id here (element_of c.args.page c.args.standing) (option_copied c.args.id) c.args.target.now
     (ap option_copied c.in_default.is))
     (c.lead_of.ensures.known here agrees is)
 
@@ -15,9 +15,9 @@ pub returns-in-Local-clause-known : goal.returns-in-Local-clause-known
 returns-in-Local-clause-known g c = λ here agrees is.
     lead_as here _ _ c.lead_to_id.result c.args.faults.now c.lead_to_id.new.faults
     (by_id here (element_of c.args.page c.args.standing) (option_copied c.args.id) c.in-Some.id.now c.in-Local.name
-    c.in-Local.reference c.args.target (ap option_copied c.in-Some.is) c.in-Local.is)
+    c.in-Local.reference c.args.target.now (ap option_copied c.in-Some.is) c.in-Local.is)
     (c.lead_to_id.ensures.known here agrees is)
 
 pub returns-in-Local-clause-founded : goal.returns-in-Local-clause-founded
 returns-in-Local-clause-founded g c =
-    local_founded c.args.target c.in-Local.name c.in-Local.reference _ _ c.in-Local.is c.lead_to_id.ensures.founded
+    local_founded c.args.target.now c.in-Local.name c.in-Local.reference _ _ c.in-Local.is c.lead_to_id.ensures.founded
