@@ -21,18 +21,27 @@ fn refuses<T: Drop>(answer: Result<T, Stop<RefFault>>, fault: RefFault) -> bool 
     }
 }
 
+// Whether a value has these parts.
+fn has_parts(
+    alloc: Global,
+    value: &str,
+    file: &str,
+    topic: &str,
+    element: &str,
+) -> Result<bool, AllocError> {
+    let parts = read(alloc, value)?.map_err(|_| AllocError)?;
+    Ok(
+        parts.file.as_str() == file
+            && parts.topic.as_str() == topic
+            && parts.element.as_str() == element,
+    )
+}
+
 #[test]
 fn a_value_is_read_in_its_parts(rt: HostRuntime) -> Result<(), Fail> {
-    let rows = [
-        ("a/b.dita#t/e", ("a/b.dita", "t", "e")),
-        ("#./e", ("", ".", "e")),
-    ];
-    for (value, (file, topic, element)) in rows {
-        let parts = read(rt.alloc(), value)?.map_err(|_| AllocError)?;
-        assert!(rt; parts.file.as_str() == file, "{value}");
-        assert!(rt; parts.topic.as_str() == topic, "{value}");
-        assert!(rt; parts.element.as_str() == element, "{value}");
-    }
+    let alloc = rt.alloc();
+    assert!(rt; has_parts(alloc, "a/b.dita#t/e", "a/b.dita", "t", "e")?);
+    assert!(rt; has_parts(alloc, "#./e", "", ".", "e")?);
     Ok(())
 }
 

@@ -4,7 +4,7 @@ ghost use Rattle.std.specs.Prelude.{IfOk};
 ghost use Rattle.dita_doc.specs.Seen as seen_spec;
 
 use crate::given::name;
-use dita_doc::{Body, List, Name, PyxCode, PyxFault, Reply, Request, Stop};
+use dita_doc::{Body, List, Name, PyxCode, PyxFault, Reply, Request, Sources, Stop};
 use pyx_text::read_body;
 use std::alloc::{AllocError, Global};
 use std::sync::Arc;
@@ -45,11 +45,40 @@ fn put_if(alloc: Global, version: u64, name: &Name) -> Result<Request, AllocErro
     Ok(Request::PutIf(version, name.clone()?, body))
 }
 
-fn ask(store: &mut Store, alloc: Global, request: Request) -> Result<Reply, AllocError>
+// What a reply tells: its number or its fault, whether its bytes are the text that was stored, and
+// how many names it has.
+#[derive(Clone, Copy, PartialEq, Eq)]
+enum Told {
+    Stored(u64),
+    Removed(u64),
+    Conflict(u64),
+    Refused(PyxFault),
+    Absent,
+    Text(bool),
+    Names(usize),
+    Begun,
+    Other,
+}
+
+fn told_by(reply: &Reply) -> Told {
+    match reply {
+        Reply::Stored(version) => Told::Stored(*version),
+        Reply::Removed(version) => Told::Removed(*version),
+        Reply::Conflict(version) => Told::Conflict(*version),
+        Reply::Refused(fault) => Told::Refused(*fault),
+        Reply::Absent => Told::Absent,
+        Reply::Bytes(bytes) => Told::Text(bytes.as_slice() == TEXT),
+        Reply::NameList(names) => Told::Names(names.len()),
+        Reply::Begun => Told::Begun,
+        _ => Told::Other,
+    }
+}
+
+fn ask(store: &mut Store, alloc: Global, request: Request) -> Result<Told, AllocError>
     requires { seen_spec.HasOwnOrigin request }
 {
     match store.answer_with_reply(alloc, 1, 1, request) {
-        Ok((_, reply)) => Ok(reply),
+        Ok((_, reply)) => Ok(told_by(&reply)),
         Err(_) => Err(AllocError),
     }
 }
@@ -58,7 +87,7 @@ fn ask(store: &mut Store, alloc: Global, request: Request) -> Result<Reply, Allo
 fn stored(alloc: Global, name: &Name) -> Result<Store, AllocError> {
     let mut store = Store::new(alloc).map_err(|_| AllocError)?;
     match ask(&mut store, alloc, put(alloc, name)?)? {
-        Reply::Stored(1) => Ok(store),
+        Told::Stored(1) => Ok(store),
         _ => Err(AllocError),
     }
 }
@@ -70,13 +99,13 @@ fn a_put_under_a_version_is_judged(rt: HostRuntime) -> Result<(), Fail> {
     let mut store = stored(alloc, &a)?;
     // A text that is no document is refused before its version is looked at.
     let request = Request::PutIf(9, a.clone()?, nothing(alloc, &a)?);
-    assert!(rt; matches!(ask(&mut store, alloc, request)?, Reply::Refused(NO_ROOT)));
+    assert!(rt; ask(&mut store, alloc, request)? == Told::Refused(NO_ROOT));
     let request = put_if(alloc, 9, &a)?;
-    assert!(rt; matches!(ask(&mut store, alloc, request)?, Reply::Conflict(1)));
+    assert!(rt; ask(&mut store, alloc, request)? == Told::Conflict(1));
     let request = put_if(alloc, 1, &a)?;
-    assert!(rt; matches!(ask(&mut store, alloc, request)?, Reply::Stored(4)));
-    assert_eq!(rt; store.entries(), 4);
-    assert!(rt; matches!(store.entry(2).reply, Reply::Conflict(1)));
+    assert!(rt; ask(&mut store, alloc, request)? == Told::Stored(4));
+    assert!(rt; store.entries() == 4);
+    assert!(rt; told_by(&store.entry(2).reply) == Told::Conflict(1));
     Ok(())
 }
 
@@ -85,12 +114,9 @@ fn what_is_stored_is_given(rt: HostRuntime) -> Result<(), Fail> {
     let alloc = rt.alloc();
     let a = name(alloc, "a")?;
     let mut store = stored(alloc, &a)?;
-    let reply = ask(&mut store, alloc, Request::Get(a.clone()?))?;
-    assert!(rt; matches!(&reply, Reply::Bytes(bytes) if bytes.as_slice() == TEXT));
-    let reply = ask(&mut store, alloc, Request::Names)?;
-    assert!(rt; matches!(&reply, Reply::NameList(names) if names.len() == 1));
-    let reply = ask(&mut store, alloc, Request::Build(a, None))?;
-    assert!(rt; matches!(reply, Reply::Begun));
+    assert!(rt; ask(&mut store, alloc, Request::Get(a.clone()?))? == Told::Text(true));
+    assert!(rt; ask(&mut store, alloc, Request::Names)? == Told::Names(1));
+    assert!(rt; ask(&mut store, alloc, Request::Build(a, None))? == Told::Begun);
     Ok(())
 }
 
@@ -99,34 +125,34 @@ fn what_is_removed_is_gone(rt: HostRuntime) -> Result<(), Fail> {
     let alloc = rt.alloc();
     let a = name(alloc, "a")?;
     let mut store = stored(alloc, &a)?;
-    let reply = ask(&mut store, alloc, Request::Remove(a.clone()?))?;
-    assert!(rt; matches!(reply, Reply::Removed(1)));
-    let reply = ask(&mut store, alloc, Request::Get(a))?;
-    assert!(rt; matches!(reply, Reply::Absent));
+    assert!(rt; ask(&mut store, alloc, Request::Remove(a.clone()?))? == Told::Removed(1));
+    assert!(rt; ask(&mut store, alloc, Request::Get(a))? == Told::Absent);
+    Ok(())
+}
+
+const FULL: Full = Full {
+    entries: 1,
+    bytes: 1,
+};
+
+#[test]
+fn a_history_of_one_entry_answers_no_more(rt: HostRuntime) -> Result<(), Fail> {
+    let alloc = rt.alloc();
+    let a = name(alloc, "a")?;
+    let mut one = Store::with_limits(alloc, 1, 100).map_err(|_| AllocError)?;
+    assert!(rt; one.answer(alloc, 1, 1, Request::Get(a)) == Ok(0));
+    assert!(rt; one.answer(alloc, 1, 2, Request::Names) == Err(Stop::Fault(FULL)));
     Ok(())
 }
 
 #[test]
-fn a_full_history_answers_no_more(rt: HostRuntime) -> Result<(), Fail> {
+fn a_history_of_one_byte_answers_what_takes_none(rt: HostRuntime) -> Result<(), Fail> {
     let alloc = rt.alloc();
-    let full = Full {
-        entries: 1,
-        bytes: 1,
-    };
     let a = name(alloc, "a")?;
-    let mut one = Store::with_limits(alloc, 1, 100).map_err(|_| AllocError)?;
-    assert_eq!(rt; one.answer(alloc, 1, 1, Request::Get(a.clone()?)), Ok(0));
-    assert_eq!(rt;
-        one.answer(alloc, 1, 2, Request::Names),
-        Err(Stop::Fault(full))
-    );
     let mut short = Store::with_limits(alloc, 9, 1).map_err(|_| AllocError)?;
-    assert_eq!(rt; short.answer(alloc, 1, 1, Request::Get(a.clone()?)), Ok(0));
-    assert_eq!(rt;
-        short.answer(alloc, 1, 2, Request::Get(a)),
-        Err(Stop::Fault(full))
-    );
-    assert_eq!(rt; short.answer(alloc, 1, 2, Request::Names), Ok(1));
+    assert!(rt; short.answer(alloc, 1, 1, Request::Get(a.clone()?)) == Ok(0));
+    assert!(rt; short.answer(alloc, 1, 2, Request::Get(a)) == Err(Stop::Fault(FULL)));
+    assert!(rt; short.answer(alloc, 1, 2, Request::Names) == Ok(1));
     Ok(())
 }
 
@@ -139,9 +165,13 @@ fn a_snapshot_stays_what_it_is(rt: HostRuntime) -> Result<(), Fail> {
     let before = Arc::try_clone(store.sources())?;
     ask(&mut store, alloc, put(alloc, &a)?)?;
     ask(&mut store, alloc, Request::Remove(b.clone()?))?;
-    assert!(rt; matches!(before.get(&b), Some((1, _))));
-    assert!(rt; before.find(&a).is_none());
-    assert!(rt; matches!(store.sources().get(&a), Some((2, _))));
-    assert!(rt; store.sources().find(&b).is_none());
+    assert!(rt; version_of(&before, &b) == Some(1));
+    assert!(rt; version_of(&before, &a) == None);
+    assert!(rt; version_of(store.sources(), &a) == Some(2));
+    assert!(rt; version_of(store.sources(), &b) == None);
     Ok(())
+}
+
+fn version_of(sources: &Sources, name: &Name) -> Option<u64> {
+    sources.get(name).map(|(version, _)| version)
 }

@@ -30,11 +30,9 @@ fn a_title_is_that_of_the_topic_named(rt: HostRuntime) -> Result<(), Fail> {
     let alloc = rt.alloc();
     let doc = two_topics(alloc)?;
     let name = name(alloc, "a.dita")?;
+    assert!(rt; title_of(alloc, &doc, &name, &text(alloc, "second")?)?.as_str() == "Second");
     // An id that no topic has leads to the first topic.
-    for (id, title) in [("second", "Second"), ("third", "First title")] {
-        let found = title_of(alloc, &doc, &name, &text(alloc, id)?)?;
-        assert!(rt; found.as_str() == title);
-    }
+    assert!(rt; title_of(alloc, &doc, &name, &text(alloc, "third")?)?.as_str() == "First title");
     Ok(())
 }
 

@@ -13,8 +13,8 @@ use std::alloc::{AllocError, Global};
 use std::sync::Arc;
 use std::test::Fail;
 use transcript_text::{
-    BadTranscript, BuiltText, PageMark, Transcript, read_transcript, write_end, write_entry,
-    write_head,
+    BadTranscript, BuiltText, EntryText, PageMark, RowText, Transcript, read_transcript, write_end,
+    write_entry, write_head,
 };
 
 fn is_text(reply: &Reply) -> bool
@@ -73,15 +73,24 @@ fn replies_are_written(rt: HostRuntime) -> Result<(), Fail> {
         code: PyxCode::TextOutside,
         line: 12,
     };
-    let rows = [
-        (Reply::Stored(8), "stored 8\n"),
-        (Reply::Absent, "absent\n"),
-        (Reply::TooManyNames(10000), "toomanynames 10000\n"),
-        (Reply::Refused(fault), "refused TextOutside 12\n"),
-    ];
-    for (reply, expected) in rows {
-        assert!(rt; writes(alloc, reply, None, expected)?);
-    }
+    assert!(rt; writes(alloc, Reply::Stored(8), None, "stored 8\n")?);
+    assert!(rt; writes(alloc, Reply::Absent, None, "absent\n")?);
+    assert!(rt;
+        writes(
+            alloc,
+            Reply::TooManyNames(10000),
+            None,
+            "toomanynames 10000\n"
+        )?
+    );
+    assert!(rt;
+        writes(
+            alloc,
+            Reply::Refused(fault),
+            None,
+            "refused TextOutside 12\n"
+        )?
+    );
     Ok(())
 }
 
@@ -171,18 +180,26 @@ fn entries_tell_their_parts(rt: HostRuntime) -> Result<(), Fail> {
         entry 6 4294967295 0 built 1 1\n|page p.html row 2\n|a:b:1 CopyTo x y\n\
         entry 18446744073709551615 0 7 absent\nend 0 9 18446744073709551615\n";
     let transcript = read(rt.alloc(), text)?;
-    assert_eq!(rt; transcript.total, (0, 9, 18_446_744_073_709_551_615));
-    let rows = [
-        ((6, 4_294_967_295, 0), "built 1 1", 2),
-        ((18_446_744_073_709_551_615, 0, 7), "absent", 0),
-    ];
-    assert_eq!(rt; transcript.entries.len(), rows.len());
-    for (entry, (numbers, reply, lines)) in transcript.entries.as_slice().iter().zip(rows) {
-        assert_eq!(rt; (entry.place, entry.session, entry.number), numbers);
-        assert!(rt; entry.reply.as_str() == reply);
-        assert_eq!(rt; entry.lines.len(), lines);
-    }
+    assert!(rt; transcript.total == (0, 9, 18_446_744_073_709_551_615));
+    assert!(rt; are_two_entries(transcript.entries.as_slice()));
     Ok(())
+}
+
+// Whether an entry has these numbers, this reply, and so many lines.
+fn is_entry(entry: &EntryText, numbers: (u64, u32, u32), reply: &str, lines: usize) -> bool {
+    (entry.place, entry.session, entry.number) == numbers
+        && entry.reply.as_str() == reply
+        && entry.lines.len() == lines
+}
+
+fn are_two_entries(entries: &[EntryText]) -> bool {
+    match entries {
+        [built, absent] => {
+            is_entry(built, (6, 4_294_967_295, 0), "built 1 1", 2)
+                && is_entry(absent, (18_446_744_073_709_551_615, 0, 7), "absent", 0)
+        }
+        _ => false,
+    }
 }
 
 #[test]
@@ -190,13 +207,23 @@ fn the_lines_of_an_entry_are_told(rt: HostRuntime) -> Result<(), Fail> {
     let text = "dita transcript 1\n\
         entry 6 1 0 built 1 1\n|page p.html row 2\n|a:b:1 CopyTo x y\nend 0 9 0\n";
     let transcript = read(rt.alloc(), text)?;
-    let entry = transcript.entries.as_slice().first().ok_or("no entry")?;
-    let rows = ["page p.html row 2", "a:b:1 CopyTo x y"];
-    assert_eq!(rt; entry.lines.len(), rows.len());
-    for (line, expected) in entry.lines.as_slice().iter().zip(rows) {
-        assert!(rt; line.as_str() == expected);
-    }
+    assert!(rt;
+        transcript
+            .entries
+            .as_slice()
+            .first()
+            .is_some_and(|entry| tells_its_lines(entry))
+    );
     Ok(())
+}
+
+fn tells_its_lines(entry: &EntryText) -> bool {
+    match entry.lines.as_slice() {
+        [page, fault] => {
+            page.as_str() == "page p.html row 2" && fault.as_str() == "a:b:1 CopyTo x y"
+        }
+        _ => false,
+    }
 }
 
 #[test]
@@ -205,18 +232,27 @@ fn rows_tell_their_keys(rt: HostRuntime) -> Result<(), Fail> {
         row 2 contents m.ditamap d.ditaval 0 0\nend 0 2 0\n";
     let transcript = read(rt.alloc(), text)?;
     assert!(rt; transcript.entries.is_empty());
-    let rows = [
-        (false, Part::Page(4), b"<p>\n|\n".as_slice()),
-        (true, Part::Contents, b"".as_slice()),
-    ];
-    assert_eq!(rt; transcript.rows.len(), rows.len());
-    for (row, (has_val, part, bytes)) in transcript.rows.as_slice().iter().zip(rows) {
-        assert_eq!(rt; row.serial, 2);
-        assert!(rt; row.key.map.as_str() == "m.ditamap");
-        assert_eq!(rt; (row.key.val.is_some(), row.key.part), (has_val, part));
-        assert!(rt; row.bytes.as_slice() == bytes);
-    }
+    assert!(rt; are_two_rows(transcript.rows.as_slice()));
     Ok(())
+}
+
+// Whether a row of the second build of the map has this key and these bytes.
+fn is_row(row: &RowText, has_val: bool, part: Part, bytes: &[u8]) -> bool {
+    row.serial == 2
+        && row.key.map.as_str() == "m.ditamap"
+        && row.key.val.is_some() == has_val
+        && row.key.part == part
+        && row.bytes.as_slice() == bytes
+}
+
+fn are_two_rows(rows: &[RowText]) -> bool {
+    match rows {
+        [page, contents] => {
+            is_row(page, false, Part::Page(4), b"<p>\n|\n")
+                && is_row(contents, true, Part::Contents, b"")
+        }
+        _ => false,
+    }
 }
 
 // The line in which a text is no transcript, or nothing if it is one.
