@@ -2,11 +2,19 @@ use Rattle.std.proofs.Common.{[], refl, ap}
 use Rattle.readers.specs.Documents.{documents_asked}
 use Rattle.readers.specs.Founded.{names_asked}
 use Rattle.readers.specs.Setting.{no_setting}
+use Rattle.readers.specs.Told.{first}
 use Rattle.readers.proofs.DocumentLaws.{asks_kept, asks_put, asks_same}
 use Rattle.readers.proofs.FoundedLaws.{stays_same}
 use Rattle.readers.proofs.GrowthLaws.{grows_same}
 use Rattle.readers.proofs.LayerLaws.{grows_kept, grows_put, stays_kept, stays_put}
+use Rattle.readers.proofs.StoredLaws.{answers_put}
 use Rattle.readers.proofs.source_reader.SourceReaderTitles.first.Goals as goal
+
+pub invariant_of-self : goal.invariant_of-self
+invariant_of-self c = record {
+  agrees = answers_put (first c.args.name.now c.in_ok-id.id) _ _ _ _ _ refl c.args.self.now.agrees
+      (c.in_ok-note.ensures no_setting) c.begin.ensures.either c.in_ok-id.ensures;
+}
 
 pub returns-in_err-id-clause-founded : goal.returns-in_err-id-clause-founded
 returns-in_err-id-clause-founded c = stays_same _ _ _ refl

@@ -2,11 +2,20 @@ use Rattle.std.proofs.Common.{[], refl, ap}
 use Rattle.readers.specs.Documents.{documents_asked}
 use Rattle.readers.specs.Founded.{names_asked}
 use Rattle.readers.specs.Setting.{no_setting}
+use Rattle.readers.specs.Told.{title}
 use Rattle.readers.proofs.DocumentLaws.{asks_kept, asks_put, asks_same}
 use Rattle.readers.proofs.FoundedLaws.{stays_same}
 use Rattle.readers.proofs.GrowthLaws.{grows_same}
 use Rattle.readers.proofs.LayerLaws.{grows_kept, grows_put, stays_kept, stays_put}
+use Rattle.readers.proofs.StoredLaws.{answers_put}
 use Rattle.readers.proofs.source_reader.SourceReaderTitles.title.Goals as goal
+
+pub invariant_of-self-2 : goal.invariant_of-self-2
+invariant_of-self-2 c = record {
+  agrees = answers_put (title c.args.name.now c.args.topic.now c.in_ok-text.text) _ _ _ _ _
+      c.in_ok-text.ensures.sources c.args.self.now.agrees (c.in_ok-note.ensures no_setting) c.begin.ensures.either
+      c.in_ok-text.ensures.value;
+}
 
 pub returns-in_err-text-clause-founded : goal.returns-in_err-text-clause-founded
 returns-in_err-text-clause-founded c = stays_same _ _ _ refl
