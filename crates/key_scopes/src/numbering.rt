@@ -1,6 +1,6 @@
 //! The scopes of nodes, and what the nodes define.
 
-ghost use Rattle.std.specs.Prelude.{◌≡◌, ◌+◌, ◌++◌, ◌&&◌, ℕ, Bool, List, [], ◌∷◌, Some, map, not, nat_lt, length, is_some, slice_get, unwrap_or, IfOk, OnOk};
+ghost use Rattle.std.specs.Prelude.{◌≡◌, ◌+◌, ◌++◌, ◌&&◌, ◌==◌, ℕ, Bool, false, List, [], ◌∷◌, Some, map, not, nat_lt, length, is_some, slice_get, unwrap_or, IfOk, OnOk};
 ghost use Rattle.dita_doc.specs.declared.plan.PlanNode.{PlanNode};
 ghost use Rattle.key_scopes.specs.Named as named_spec;
 ghost use Rattle.key_scopes.specs.Numbered as spec;
@@ -80,7 +80,7 @@ impl<'a> Numbering<'a> {
     {
         let scope = self.put_scope(alloc, at, node)?;
         self.places.push(scope)?;
-        if may_define(node.kind) && !in_table {
+        if defines(node.kind, in_table) {
             self.define(alloc, homes, at, node, scope)?;
         }
         Ok(())
@@ -94,6 +94,14 @@ impl<'a> Numbering<'a> {
         if at == 0 {
             return Ok(0);
         }
+        self.put_named(alloc, at, node)
+    }
+
+    // The scope of a node that is not the root.
+    fn put_named(&mut self, alloc: Global, at: usize, node: &PlanNode) -> Result<u32, NoMemory>
+        requires { (at == 0) ≡ false }
+        ensures { IfOk result (λ scope. spec.IsScopePut at node.now scope self.old self.new) }
+    {
         let around = place_in(&self.places, node.parent as usize);
         let names = Names::among(alloc, node.scope_names.as_slice())?;
         put_faults(
@@ -205,6 +213,13 @@ fn put_keys<'a>(
         written.push((*name, scope, level, place))?;
     }
     Ok(())
+}
+
+// Whether a node defines its keys, of which those in a relationship table do not count.
+fn defines(kind: PlanKind, in_table: bool) -> bool
+    ensures { result ≡ (scopes_spec.may_define kind && not in_table) }
+{
+    may_define(kind) && !in_table
 }
 
 fn may_define(kind: PlanKind) -> bool
