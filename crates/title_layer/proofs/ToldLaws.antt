@@ -1,5 +1,5 @@
 -- What a layer tells once a question that was put got its answer.
-use Rattle.std.proofs.Common.{◌≡◌, List, ◌∷◌, drop, ap, ◌∙◌}
+use Rattle.std.proofs.Common.{◌≡◌, ℕ, List, ◌∷◌, Option, Some, IfSome, drop, ap, subst, ◌∙◌}
 use Rattle.readers.specs.Noted.{told_of, told_onto}
 use Rattle.readers.specs.Setting.{Setting}
 use Rattle.readers.specs.Told.{Told}
@@ -17,3 +17,8 @@ pub told_settled : (setting : Setting) (start : List Told) (t : Told) (put note 
     → told_onto setting start new ≡ t ∷ told_onto setting start old
 told_settled setting start t put note old between new tells was is =
     told_put setting start t note old new tells (is ∙ ap (λ notes. note ∷ drop 1 notes) was)
+
+-- what holds of a title that may be known holds of one that is
+pub title_held : (P : List ℕ → Type 0) (found : Option (List ℕ)) (text : List ℕ) → found ≡ Some text → IfSome found P
+    → P text
+title_held P found text is holds = subst (λ known. IfSome known P) is holds

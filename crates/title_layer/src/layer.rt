@@ -2,9 +2,11 @@
 
 ghost use Rattle.std.specs.Prelude.{◌≡◌, ◌∷◌, ◌⊎◌, [], IfOk, IfSome, OnErr, OnOk};
 ghost use Rattle.map_spec.specs.Titles as titles_spec;
+ghost use Rattle.reader_spec.specs.World.{World};
 ghost use Rattle.readers.specs.Founded.{Carries, Grows};
 ghost use Rattle.readers.specs.Noted as noted_spec;
 ghost use Rattle.readers.specs.Props.{Carries-prop, Knows-prop, Stand-set};
+ghost use Rattle.readers.specs.Setting.{Setting};
 ghost use Rattle.readers.specs.Titled.{AreTitles, AreTitles-prop};
 ghost use Rattle.readers.specs.Told as told_spec;
 ghost use Rattle.readers.specs.Told.{Knows};
@@ -116,14 +118,12 @@ impl<'r, 'q, 't, R: Reader, S: Since> Titles for TitleLayer<'r, 'q, 't, R, S> {
 
     fn title(&mut self, alloc: Global, name: &Name, topic: &Text) -> Result<Text, NoMemory> {
         let at = TopicAt::new(name, topic)?;
-        if let Some(known) = self.table.find(&at) {
-            let text = known.clone()?;
-            let note = Note::title(name, topic, &text)?;
-            self.asked.begin(note)?;
-            return Ok(text);
+        if let Some(text) = known_title(self.table, &at)? {
+            let (note, text) = noted(name, topic, text)?;
+            return tell(self.asked, note, text);
         }
         let text = self.make_title(alloc, name, topic, at)?;
-        let note = Note::title(name, topic, &text)?;
+        let (note, text) = noted(name, topic, text)?;
         self.asked.settle(note);
         Ok(text)
     }
@@ -135,4 +135,35 @@ impl<'r, 'q, 't, R: Reader, S: Since> Titles for TitleLayer<'r, 'q, 't, R, S> {
         self.asked.settle(note);
         Ok(id)
     }
+}
+
+// A copy of the title of a topic, if it is known.
+fn known_title(table: &TitleTable, at: &TopicAt) -> Result<Option<Text>, NoMemory>
+    ensures { (world : World) → AreTitles world table.now → IfOk result (λ found.
+        IfSome found (λ text. titles_spec.title_in world at.now.name at.now.topic ≡ text)) }
+{
+    match table.find(at) {
+        Some(known) => Ok(Some(known.clone()?)),
+        None => Ok(None),
+    }
+}
+
+// A title, behind the question for it.
+fn noted(name: &Name, topic: &Text, text: Text) -> Result<(Note, Text), NoMemory>
+    ensures note { IfOk result (λ both. (setting : Setting) → noted_spec.told_of setting both.0
+        ≡ told_spec.title name.now topic.now text) }
+    ensures text { IfOk result (λ both. both.1 ≡ text) }
+{
+    let note = Note::title(name, topic, &text)?;
+    Ok((note, text))
+}
+
+// Gives the title once its question has been put.
+fn tell(asked: &mut Questions, note: Note, text: Text) -> Result<Text, NoMemory>
+    ensures ok { OnOk result (asked.new ≡ note ∷ asked.old) }
+    ensures either { (asked.new ≡ asked.old) ⊎ (asked.new ≡ note ∷ asked.old) }
+    ensures text { IfOk result (λ told. told ≡ text) }
+{
+    asked.begin(note)?;
+    Ok(text)
 }
