@@ -12,7 +12,7 @@ use Rattle.dita_doc.specs.Tree.{tree_of}
 use Rattle.dita_doc.specs.declared.doc.Node.{Node}
 use Rattle.dita_doc.specs.declared.stop.NoMemory.{NoMemory}
 use Rattle.dita_doc.proofs.NameOrder.{same_from_equal}
-use Rattle.map_spec.specs.Titles.{first_in, first_of_document, title_in}
+use Rattle.map_spec.specs.Titles.{first_in, first_of_document, title_in, title_of_document}
 use Rattle.map_spec.specs.Written.{written_in}
 use Rattle.reader_spec.specs.World.{World, stored_tree, world_of}
 use Rattle.readers.specs.Titled.{AreTitles, IsTitle, Titled}
@@ -106,3 +106,14 @@ first_there state name version nodes (Err stop) there is = tt
 first_there state name version nodes (Ok id) there is =
     ap (λ tree. option_map_or first_of_document (option_map (written_in name) tree) [])
     (stored_there (found state name) version nodes there) ∙ sym is
+
+nothing_stored : (found : Option Stored) → None ≡ option_map version_and_nodes found → option_map stored_tree found ≡ None
+nothing_stored None is = refl
+nothing_stored (Some stored) is = cc
+
+-- a document that does not stand there has its name
+pub title_missing : (state : State) (name topic text : List ℕ)
+    → None ≡ option_map version_and_nodes (found state name) → text ≡ name → title_in (world_of state) name topic ≡ text
+title_missing state name topic text none is =
+    ap (λ tree. option_map_or (title_of_document name topic) (option_map (written_in name) tree) name)
+    (nothing_stored (found state name) none) ∙ sym is
