@@ -1,6 +1,6 @@
 //! A page as a whole: its lines, and its limit.
 
-ghost use Rattle.std.specs.Prelude.{◌≡◌, ◌++◌, ◌∷◌, codes, IfOk, OnOk};
+ghost use Rattle.std.specs.Prelude.{◌≡◌, ◌++◌, [], ◌∷◌, codes, IfOk, OnOk};
 ghost use Rattle.dita_doc.specs.Bytes.{line_feed};
 ghost use Rattle.dita_doc.specs.HtmlEscapes as html_escapes_spec;
 ghost use Rattle.dita_doc.specs.Lines as lines_spec;
@@ -8,7 +8,7 @@ ghost use Rattle.page_spec.specs.PageHtml as spec;
 
 use crate::faults::too_large;
 use crate::links::append_related_line;
-use dita_doc::{Html, List, Name, NoMemory, PageLink, Text, append_html, copy_faults};
+use dita_doc::{Fault, Html, List, Name, NoMemory, PageLink, Text, append_html, copy_faults};
 use std::alloc::{AllocError, Global};
 
 // The most bytes of a page.
@@ -27,14 +27,42 @@ pub fn page_html(
     ensures { IfOk result (λ html. html
         ≡ spec.page_html name.now line title.now body.now links.now) }
 {
-    let mut faults = copy_faults(alloc, body.faults.as_slice())?;
     let bytes = page_text(alloc, title, body.bytes.as_slice(), links.as_slice())?;
     if bytes.len() <= PAGE_LIMIT {
+        let faults = copy_faults(alloc, body.faults.as_slice())?;
         return Ok(Html { bytes, faults });
     }
-    faults.push(too_large(alloc, name, line)?)?;
+    large_page(alloc, name, line, title, body)
+}
+
+// What stands in place of a page that is too long.
+fn large_page(
+    alloc: Global,
+    name: &Name,
+    line: u32,
+    title: &Text,
+    body: &Html,
+) -> Result<Html, NoMemory>
+    ensures { IfOk result (λ html. html.bytes ≡ spec.page_text title.now [] []
+        × html.faults ≡ body.now.faults ++ spec.too_large name.now line ∷ []) }
+{
     let bytes = page_text(alloc, title, &[], &[])?;
+    let faults = large_faults(alloc, name, line, &body.faults)?;
     Ok(Html { bytes, faults })
+}
+
+// The faults of a body, and that of the page behind them.
+fn large_faults(
+    alloc: Global,
+    name: &Name,
+    line: u32,
+    faults: &List<Fault>,
+) -> Result<List<Fault>, NoMemory>
+    ensures { IfOk result (λ all. all ≡ faults.now ++ spec.too_large name.now line ∷ []) }
+{
+    let mut all = copy_faults(alloc, faults.as_slice())?;
+    all.push(too_large(alloc, name, line)?)?;
+    Ok(all)
 }
 
 /// The lines of a page, of any length.
