@@ -1,2 +1,1 @@
 pub mod BehindLaws
-pub mod Rules

@@ -3,7 +3,7 @@
 //!
 //! What is used above it: the clauses of `Reader` and `Titles` of `readers`, which `LaterReader`
 //! meets over any `Titles`, with what was told before behind what the reader below is told.
-#![tactic(auto, using(crate::proofs::Rules::passing))]
+#![tactic(auto)]
 
 mod later;
 
