@@ -1,0 +1,10 @@
+use Rattle.std.proofs.Common.{◌∙◌}
+use Rattle.link_groups.proofs.link_nodes.context_of.Goals as goal
+
+pub returns : goal.returns
+returns c = (λ i. record {
+  doc = c.in_ok-clone.ensures.cases i;
+  scope = c.args.node.now.scope;
+  filters = (c.in_ok-copy_names.ensures ∙ c.as_slice.ensures) i;
+  affixes = (c.in_ok-copy_affixes.ensures ∙ c.as_slice-2.ensures) i;
+})
