@@ -7,7 +7,18 @@ use Rattle.readers.proofs.FoundedLaws.{stays_after}
 use Rattle.readers.proofs.GrowthLaws.{agrees_before}
 use Rattle.readers.specs.Setting.{Stand}
 use Rattle.reltable_links.specs.RowTable.{CanLink}
+use Rattle.std.specs.Prelude.{◌≡◌, List}
+use Rattle.dita_doc.specs.declared.plan.PlanNode.{PlanNode}
+use Rattle.readers.specs.Documents.{AsksOnly, nothing}
+use Rattle.readers.specs.Founded.{homes}
+use Rattle.readers.specs.Told.{Told}
+use Rattle.readers.proofs.DocumentLaws.{asks_after, asks_none}
+use Rattle.readers.proofs.GrowthLaws.{grows_trans}
 use Rattle.reltable_links.proofs.table.rows_linked.Goals as goal
+
+homes_asked : (nodes all : List PlanNode) (old new : List Told) → nodes ≡ all → AsksOnly nothing (homes nodes) old new
+    → AsksOnly nothing (homes all) old new
+homes_asked nodes all old new same = subst (λ l. AsksOnly nothing (homes l) old new) same
 
 pub returns-in_err-homes-clause-founded : goal.returns-in_err-homes-clause-founded
 returns-in_err-homes-clause-founded g c =
@@ -58,3 +69,73 @@ returns-clause-known g c = λ world agrees can.
           (links_of_kind world plan c.args.page links.Related) agrees holds;
       faults = c.in_ok-faults_by_row.ensures world made.are;
     }
+
+pub returns-in_err-homes-clause-stand : goal.returns-in_err-homes-clause-stand
+returns-in_err-homes-clause-stand g c = c.of.ensures.stand
+
+pub returns-in_err-homes-clause-asks : goal.returns-in_err-homes-clause-asks
+returns-in_err-homes-clause-asks g c = homes_asked _ _ _ _ c.as_slice.ensures c.of.ensures.asks
+
+pub returns-in_err-homes-clause-grows : goal.returns-in_err-homes-clause-grows
+returns-in_err-homes-clause-grows g c = c.of.ensures.grows
+
+pub returns-in_err-rows-clause-stand : goal.returns-in_err-rows-clause-stand
+returns-in_err-rows-clause-stand g c = c.of-2.ensures.stand ∙ c.of.ensures.stand
+
+pub returns-in_err-rows-clause-asks : goal.returns-in_err-rows-clause-asks
+returns-in_err-rows-clause-asks g c =
+    asks_after nothing _ _ _ _ c.of.ensures.grows (homes_asked _ _ _ _ c.as_slice.ensures c.of.ensures.asks)
+    (asks_none nothing _ _ _ c.of-2.ensures.asks)
+
+pub returns-in_err-rows-clause-grows : goal.returns-in_err-rows-clause-grows
+returns-in_err-rows-clause-grows g c = grows_trans _ _ _ c.of.ensures.grows c.of-2.ensures.grows
+
+pub returns-in_err-append-clause-stand : goal.returns-in_err-append-clause-stand
+returns-in_err-append-clause-stand g c = c.of-2.ensures.stand ∙ c.of.ensures.stand
+
+pub returns-in_err-append-clause-asks : goal.returns-in_err-append-clause-asks
+returns-in_err-append-clause-asks g c =
+    asks_after nothing _ _ _ _ c.of.ensures.grows (homes_asked _ _ _ _ c.as_slice.ensures c.of.ensures.asks)
+    (asks_none nothing _ _ _ c.of-2.ensures.asks)
+
+pub returns-in_err-append-clause-grows : goal.returns-in_err-append-clause-grows
+returns-in_err-append-clause-grows g c = grows_trans _ _ _ c.of.ensures.grows c.of-2.ensures.grows
+
+pub returns-in_err-written-clause-stand : goal.returns-in_err-written-clause-stand
+returns-in_err-written-clause-stand g c = c.written.ensures.stand ∙ c.of-2.ensures.stand ∙ c.of.ensures.stand
+
+pub returns-in_err-written-clause-asks : goal.returns-in_err-written-clause-asks
+returns-in_err-written-clause-asks g c =
+    asks_after nothing _ _ _ _ c.of.ensures.grows (homes_asked _ _ _ _ c.as_slice.ensures c.of.ensures.asks)
+    (asks_after nothing _ _ _ _ c.of-2.ensures.grows (asks_none nothing _ _ _ c.of-2.ensures.asks)
+    (asks_none nothing _ _ _ c.written.ensures.asks))
+
+pub returns-in_err-written-clause-grows : goal.returns-in_err-written-clause-grows
+returns-in_err-written-clause-grows g c =
+    grows_trans _ _ _ c.of.ensures.grows (grows_trans _ _ _ c.of-2.ensures.grows c.written.ensures.grows)
+
+pub returns-in_err-faults_by_row-clause-stand : goal.returns-in_err-faults_by_row-clause-stand
+returns-in_err-faults_by_row-clause-stand g c = c.written.ensures.stand ∙ c.of-2.ensures.stand ∙ c.of.ensures.stand
+
+pub returns-in_err-faults_by_row-clause-asks : goal.returns-in_err-faults_by_row-clause-asks
+returns-in_err-faults_by_row-clause-asks g c =
+    asks_after nothing _ _ _ _ c.of.ensures.grows (homes_asked _ _ _ _ c.as_slice.ensures c.of.ensures.asks)
+    (asks_after nothing _ _ _ _ c.of-2.ensures.grows (asks_none nothing _ _ _ c.of-2.ensures.asks)
+    (asks_none nothing _ _ _ c.written.ensures.asks))
+
+pub returns-in_err-faults_by_row-clause-grows : goal.returns-in_err-faults_by_row-clause-grows
+returns-in_err-faults_by_row-clause-grows g c =
+    grows_trans _ _ _ c.of.ensures.grows (grows_trans _ _ _ c.of-2.ensures.grows c.written.ensures.grows)
+
+pub returns-clause-stand : goal.returns-clause-stand
+returns-clause-stand g c = c.written.ensures.stand ∙ c.of-2.ensures.stand ∙ c.of.ensures.stand
+
+pub returns-clause-asks : goal.returns-clause-asks
+returns-clause-asks g c =
+    asks_after nothing _ _ _ _ c.of.ensures.grows (homes_asked _ _ _ _ c.as_slice.ensures c.of.ensures.asks)
+    (asks_after nothing _ _ _ _ c.of-2.ensures.grows (asks_none nothing _ _ _ c.of-2.ensures.asks)
+    (asks_none nothing _ _ _ c.written.ensures.asks))
+
+pub returns-clause-grows : goal.returns-clause-grows
+returns-clause-grows g c =
+    grows_trans _ _ _ c.of.ensures.grows (grows_trans _ _ _ c.of-2.ensures.grows c.written.ensures.grows)

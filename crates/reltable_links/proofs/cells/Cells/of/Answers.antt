@@ -1,8 +1,10 @@
-use Rattle.std.proofs.Common.{◌∙◌, ◌<◌, ap, arith, length, refl, rules, subst}
+use Rattle.std.proofs.Common.{[], ◌∙◌, ◌<◌, ap, arith, length, refl, subst}
 use Rattle.readers.specs.Setting.{Stand}
-use Rattle.readers.proofs.GrowthLaws.{agrees_before}
+use Rattle.readers.proofs.GrowthLaws.{agrees_before, grows_same, grows_trans}
 use Rattle.reltable_links.specs.CellTable.{AreCellsOf}
-use Rattle.reltable_links.proofs.Walking.{walking}
+use Rattle.readers.specs.Documents.{nothing}
+use Rattle.readers.proofs.DocumentLaws.{asks_after, asks_same}
+use Rattle.readers.proofs.FoundedLaws.{stays_after, stays_same}
 use Rattle.reltable_links.proofs.StepLaws.{cells_more, node_within, take_places}
 use Rattle.reltable_links.proofs.cells.Cells.of.Goals as goal
 
@@ -10,9 +12,9 @@ pub loop-at-init : goal.loop-at-init
 loop-at-init g c = record {
   found = λ world agrees ready nodes. (c.new-cells.ensures world c.args.plan.now, nodes);
   stand = refl;
-  founded = search (rules, walking);
-  asks = search (rules, walking);
-  grows = search (rules, walking);
+  founded = stays_same _ _ _ refl;
+  asks = asks_same _ _ _ _ refl;
+  grows = grows_same _;
 }
 
 pub loop-at-preserved : goal.loop-at-preserved
@@ -32,9 +34,9 @@ loop-at-preserved g c = record {
         put.1,
       ));
   stand = c.in_ok-put_node.ensures.stand ∙ c.loop-at.invariant.stand;
-  founded = search (rules, walking);
-  asks = search (rules, walking);
-  grows = search (rules, walking);
+  founded = stays_after _ _ _ _ c.loop-at.invariant.grows c.loop-at.invariant.founded c.in_ok-put_node.ensures.founded;
+  asks = asks_after nothing [] _ _ _ c.loop-at.invariant.grows c.loop-at.invariant.asks c.in_ok-put_node.ensures.asks;
+  grows = grows_trans _ _ _ c.loop-at.invariant.grows c.in_ok-put_node.ensures.grows;
 }
 
 pub returns-clause-known : goal.returns-clause-known
@@ -46,3 +48,43 @@ returns-clause-known g c = λ world agrees ready nodes.
           (take_places plan.nodes c.loop-at.at (omega (arith, c.loop-at-test.false, long))) found.0,
       found.1,
     )
+
+pub returns-in_err-put_node-clause-stand : goal.returns-in_err-put_node-clause-stand
+returns-in_err-put_node-clause-stand g c = c.put_node.ensures.stand ∙ c.loop-at.invariant.stand
+
+pub returns-in_err-put_node-clause-founded : goal.returns-in_err-put_node-clause-founded
+returns-in_err-put_node-clause-founded g c =
+    stays_after _ _ _ _ c.loop-at.invariant.grows c.loop-at.invariant.founded c.put_node.ensures.founded
+
+pub returns-in_err-put_node-clause-asks : goal.returns-in_err-put_node-clause-asks
+returns-in_err-put_node-clause-asks g c =
+    asks_after nothing [] _ _ _ c.loop-at.invariant.grows c.loop-at.invariant.asks c.put_node.ensures.asks
+
+pub returns-in_err-put_node-clause-grows : goal.returns-in_err-put_node-clause-grows
+returns-in_err-put_node-clause-grows g c = grows_trans _ _ _ c.loop-at.invariant.grows c.put_node.ensures.grows
+
+pub returns-in_err-put_cell-clause-stand : goal.returns-in_err-put_cell-clause-stand
+returns-in_err-put_cell-clause-stand g c = c.put_node.ensures.stand ∙ c.loop-at.invariant.stand
+
+pub returns-in_err-put_cell-clause-founded : goal.returns-in_err-put_cell-clause-founded
+returns-in_err-put_cell-clause-founded g c =
+    stays_after _ _ _ _ c.loop-at.invariant.grows c.loop-at.invariant.founded c.put_node.ensures.founded
+
+pub returns-in_err-put_cell-clause-asks : goal.returns-in_err-put_cell-clause-asks
+returns-in_err-put_cell-clause-asks g c =
+    asks_after nothing [] _ _ _ c.loop-at.invariant.grows c.loop-at.invariant.asks c.put_node.ensures.asks
+
+pub returns-in_err-put_cell-clause-grows : goal.returns-in_err-put_cell-clause-grows
+returns-in_err-put_cell-clause-grows g c = grows_trans _ _ _ c.loop-at.invariant.grows c.put_node.ensures.grows
+
+pub returns-clause-stand : goal.returns-clause-stand
+returns-clause-stand g c = c.loop-at.invariant.stand
+
+pub returns-clause-founded : goal.returns-clause-founded
+returns-clause-founded g c = c.loop-at.invariant.founded
+
+pub returns-clause-asks : goal.returns-clause-asks
+returns-clause-asks g c = c.loop-at.invariant.asks
+
+pub returns-clause-grows : goal.returns-clause-grows
+returns-clause-grows g c = c.loop-at.invariant.grows
