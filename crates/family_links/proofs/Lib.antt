@@ -1,3 +1,4 @@
+mod KindLaws
 mod AnyLaws
 mod FamilyLaws
 mod GroupLaws

@@ -1,11 +1,22 @@
-use Rattle.std.proofs.Common.{[], ◌∙◌, ap, map, rules, subst, sym}
+use Rattle.std.proofs.Common.{[], ◌∙◌, ap, map, subst, sym}
 use Rattle.link_groups.proofs.NodeLaws.{homes_stay}
 use Rattle.map_spec.specs.Cascade.{whole_at}
 use Rattle.readers.proofs.FoundedLaws.{stays_after}
 use Rattle.readers.proofs.GrowthLaws.{agrees_before}
 use Rattle.readers.specs.Setting.{Stand}
 use Rattle.family_links.specs.Collected.{IsReady, links_by_collections}
+use Rattle.std.specs.Prelude.{◌≡◌, List}
+use Rattle.dita_doc.specs.declared.plan.PlanNode.{PlanNode}
+use Rattle.readers.specs.Documents.{AsksOnly, nothing}
+use Rattle.readers.specs.Founded.{homes}
+use Rattle.readers.specs.Told.{Told}
+use Rattle.readers.proofs.DocumentLaws.{asks_after, asks_none}
+use Rattle.readers.proofs.GrowthLaws.{grows_trans}
 use Rattle.family_links.proofs.table.families_linked.Goals as goal
+
+homes_asked : (nodes all : List PlanNode) (old new : List Told) → nodes ≡ all → AsksOnly nothing (homes nodes) old new
+    → AsksOnly nothing (homes all) old new
+homes_asked nodes all old new same = subst (λ l. AsksOnly nothing (homes l) old new) same
 
 pub returns-in_err-homes-clause-founded : goal.returns-in_err-homes-clause-founded
 returns-in_err-homes-clause-founded g c =
@@ -48,5 +59,62 @@ returns-clause-known g c = λ world agrees ready.
     record {
       links = c.in_ok-written.ensures.known world c.args.page
           (links_by_collections world plan c.args.page) agrees holds;
-      faults = search rules;
+      faults = c.new.ensures;
     }
+
+pub returns-in_err-homes-clause-stand : goal.returns-in_err-homes-clause-stand
+returns-in_err-homes-clause-stand g c = c.of.ensures.stand
+
+pub returns-in_err-homes-clause-asks : goal.returns-in_err-homes-clause-asks
+returns-in_err-homes-clause-asks g c = homes_asked _ _ _ _ c.as_slice.ensures c.of.ensures.asks
+
+pub returns-in_err-homes-clause-grows : goal.returns-in_err-homes-clause-grows
+returns-in_err-homes-clause-grows g c = c.of.ensures.grows
+
+pub returns-in_err-collections-clause-stand : goal.returns-in_err-collections-clause-stand
+returns-in_err-collections-clause-stand g c = c.of-2.ensures.stand ∙ c.of.ensures.stand
+
+pub returns-in_err-collections-clause-asks : goal.returns-in_err-collections-clause-asks
+returns-in_err-collections-clause-asks g c =
+    asks_after nothing _ _ _ _ c.of.ensures.grows (homes_asked _ _ _ _ c.as_slice.ensures c.of.ensures.asks)
+    (asks_none nothing _ _ _ c.of-2.ensures.asks)
+
+pub returns-in_err-collections-clause-grows : goal.returns-in_err-collections-clause-grows
+returns-in_err-collections-clause-grows g c = grows_trans _ _ _ c.of.ensures.grows c.of-2.ensures.grows
+
+pub returns-in_err-append-clause-stand : goal.returns-in_err-append-clause-stand
+returns-in_err-append-clause-stand g c = c.of-2.ensures.stand ∙ c.of.ensures.stand
+
+pub returns-in_err-append-clause-asks : goal.returns-in_err-append-clause-asks
+returns-in_err-append-clause-asks g c =
+    asks_after nothing _ _ _ _ c.of.ensures.grows (homes_asked _ _ _ _ c.as_slice.ensures c.of.ensures.asks)
+    (asks_none nothing _ _ _ c.of-2.ensures.asks)
+
+pub returns-in_err-append-clause-grows : goal.returns-in_err-append-clause-grows
+returns-in_err-append-clause-grows g c = grows_trans _ _ _ c.of.ensures.grows c.of-2.ensures.grows
+
+pub returns-in_err-written-clause-stand : goal.returns-in_err-written-clause-stand
+returns-in_err-written-clause-stand g c = c.written.ensures.stand ∙ c.of-2.ensures.stand ∙ c.of.ensures.stand
+
+pub returns-in_err-written-clause-asks : goal.returns-in_err-written-clause-asks
+returns-in_err-written-clause-asks g c =
+    asks_after nothing _ _ _ _ c.of.ensures.grows (homes_asked _ _ _ _ c.as_slice.ensures c.of.ensures.asks)
+    (asks_after nothing _ _ _ _ c.of-2.ensures.grows (asks_none nothing _ _ _ c.of-2.ensures.asks)
+    (asks_none nothing _ _ _ c.written.ensures.asks))
+
+pub returns-in_err-written-clause-grows : goal.returns-in_err-written-clause-grows
+returns-in_err-written-clause-grows g c =
+    grows_trans _ _ _ c.of.ensures.grows (grows_trans _ _ _ c.of-2.ensures.grows c.written.ensures.grows)
+
+pub returns-clause-stand : goal.returns-clause-stand
+returns-clause-stand g c = c.written.ensures.stand ∙ c.of-2.ensures.stand ∙ c.of.ensures.stand
+
+pub returns-clause-asks : goal.returns-clause-asks
+returns-clause-asks g c =
+    asks_after nothing _ _ _ _ c.of.ensures.grows (homes_asked _ _ _ _ c.as_slice.ensures c.of.ensures.asks)
+    (asks_after nothing _ _ _ _ c.of-2.ensures.grows (asks_none nothing _ _ _ c.of-2.ensures.asks)
+    (asks_none nothing _ _ _ c.written.ensures.asks))
+
+pub returns-clause-grows : goal.returns-clause-grows
+returns-clause-grows g c =
+    grows_trans _ _ _ c.of.ensures.grows (grows_trans _ _ _ c.of-2.ensures.grows c.written.ensures.grows)
