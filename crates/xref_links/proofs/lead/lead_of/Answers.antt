@@ -1,7 +1,7 @@
 use Rattle.std.proofs.Common.{◌∙◌, ap, sym}
 use Rattle.page_spec.specs.Anchors.{lead_of, lead_to}
 use Rattle.xref_links.specs.Adding.{element_of}
-use Rattle.xref_links.proofs.LeadLaws.{lead_as}
+use Rattle.xref_links.proofs.LeadLaws.{lead_as, local_founded}
 use Rattle.xref_links.proofs.lead.lead_of.Goals as goal
 
 pub returns-in-Local-clause-known : goal.returns-in-Local-clause-known
@@ -12,3 +12,17 @@ returns-in-Local-clause-known g c = λ here agrees is.
     ∙ ap (λ id. lead_to here element c.in-Local.name c.in-Local.reference.topic id) c.as_str-id.ensures
     ∙ sym (ap (lead_of here element) c.in-Local.is))
     (c.lead_to.ensures.known here agrees is)
+
+pub returns-in-Local-clause-stand : goal.returns-in-Local-clause-stand
+returns-in-Local-clause-stand g c = c.lead_to.ensures.stand
+
+pub returns-in-Local-clause-asks : goal.returns-in-Local-clause-asks
+returns-in-Local-clause-asks g c = c.lead_to.ensures.asks
+
+pub returns-in-Local-clause-grows : goal.returns-in-Local-clause-grows
+returns-in-Local-clause-grows g c = c.lead_to.ensures.grows
+
+pub returns-in-Local-clause-founded : goal.returns-in-Local-clause-founded
+returns-in-Local-clause-founded g c =
+    local_founded c.args.target.now c.in-Local.name c.in-Local.reference _ _ c.in-Local.is
+    c.lead_to.ensures.founded

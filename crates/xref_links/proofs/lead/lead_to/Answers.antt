@@ -16,3 +16,27 @@ returns-clause-known g c = λ here agrees is.
     known))
     (c.lead_to_page.ensures here stand element c.args.faults.now is
     (ap (λ pages. page_for pages c.args.name.now page.context.now.page) (sym is.pages) ∙ known))
+
+pub returns-in_err-number-clause-stand : goal.returns-in_err-number-clause-stand
+returns-in_err-number-clause-stand g c = c.page_of.ensures.stand
+
+pub returns-in_err-number-clause-founded : goal.returns-in_err-number-clause-founded
+returns-in_err-number-clause-founded g c = c.page_of.ensures.founded
+
+pub returns-in_err-number-clause-asks : goal.returns-in_err-number-clause-asks
+returns-in_err-number-clause-asks g c = c.page_of.ensures.asks
+
+pub returns-in_err-number-clause-grows : goal.returns-in_err-number-clause-grows
+returns-in_err-number-clause-grows g c = c.page_of.ensures.grows
+
+pub returns-clause-stand : goal.returns-clause-stand
+returns-clause-stand g c = c.page_of.ensures.stand
+
+pub returns-clause-founded : goal.returns-clause-founded
+returns-clause-founded g c = c.page_of.ensures.founded
+
+pub returns-clause-asks : goal.returns-clause-asks
+returns-clause-asks g c = c.page_of.ensures.asks
+
+pub returns-clause-grows : goal.returns-clause-grows
+returns-clause-grows g c = c.page_of.ensures.grows

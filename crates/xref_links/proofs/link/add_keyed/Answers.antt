@@ -23,3 +23,39 @@ returns-clause-known g c = λ here answer agrees is typed defined given.
     (given_lead here page standing answer c.args.keyed.now c.in_ok-lead.lead c.args.made.now.faults
     c.lead_by_key.new.faults given (c.in_ok-lead.ensures.known here agrees is)))
     c.add_linked.ensures
+
+pub returns-in_err-lead-clause-stand : goal.returns-in_err-lead-clause-stand
+returns-in_err-lead-clause-stand g c = c.lead_by_key.ensures.stand
+
+pub returns-in_err-lead-clause-founded : goal.returns-in_err-lead-clause-founded
+returns-in_err-lead-clause-founded g c = c.lead_by_key.ensures.founded
+
+pub returns-in_err-lead-clause-asks : goal.returns-in_err-lead-clause-asks
+returns-in_err-lead-clause-asks g c = c.lead_by_key.ensures.asks
+
+pub returns-in_err-lead-clause-grows : goal.returns-in_err-lead-clause-grows
+returns-in_err-lead-clause-grows g c = c.lead_by_key.ensures.grows
+
+pub returns-in_err-label-clause-stand : goal.returns-in_err-label-clause-stand
+returns-in_err-label-clause-stand g c = c.lead_by_key.ensures.stand
+
+pub returns-in_err-label-clause-founded : goal.returns-in_err-label-clause-founded
+returns-in_err-label-clause-founded g c = c.lead_by_key.ensures.founded
+
+pub returns-in_err-label-clause-asks : goal.returns-in_err-label-clause-asks
+returns-in_err-label-clause-asks g c = c.lead_by_key.ensures.asks
+
+pub returns-in_err-label-clause-grows : goal.returns-in_err-label-clause-grows
+returns-in_err-label-clause-grows g c = c.lead_by_key.ensures.grows
+
+pub returns-clause-stand : goal.returns-clause-stand
+returns-clause-stand g c = c.lead_by_key.ensures.stand
+
+pub returns-clause-founded : goal.returns-clause-founded
+returns-clause-founded g c = c.lead_by_key.ensures.founded
+
+pub returns-clause-asks : goal.returns-clause-asks
+returns-clause-asks g c = c.lead_by_key.ensures.asks
+
+pub returns-clause-grows : goal.returns-clause-grows
+returns-clause-grows g c = c.lead_by_key.ensures.grows

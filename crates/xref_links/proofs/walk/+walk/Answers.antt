@@ -4,9 +4,10 @@ use Rattle.dita_doc.specs.Siblings.{content}
 use Rattle.dita_doc.specs.Tree.{size_of}
 use Rattle.dita_doc.specs.declared.doc.Doc.{Doc}
 use Rattle.map_spec.specs.Written.{End, Node, Written}
-use Rattle.readers.proofs.DocumentLaws.{asks_same}
+use Rattle.readers.proofs.DocumentLaws.{asks_after, asks_same}
 use Rattle.readers.proofs.FoundedLaws.{stays_same}
-use Rattle.readers.proofs.GrowthLaws.{agrees_before, grows_same}
+use Rattle.readers.proofs.GrowthLaws.{agrees_before, grows_same, grows_trans}
+use Rattle.readers.specs.Documents.{nothing}
 use Rattle.readers.specs.Founded.{is_among}
 use Rattle.readers.specs.Setting.{Stand}
 use Rattle.page_spec.specs.Places.{topic_inside}
@@ -16,7 +17,6 @@ use Rattle.readers.specs.Named.{linked_by, linked_in}
 use Rattle.xref_links.proofs.BodyLaws.{origin_fits, size_written}
 use Rattle.xref_links.proofs.HereLaws.{here_kept, types_at}
 use Rattle.xref_links.proofs.NameLaws.{link_behind, link_first, link_inside, step_founded}
-use Rattle.xref_links.proofs.Walking.{walking}
 use Rattle.xref_links.proofs.WayLaws.{added_first, one_at, topic_of_one, topic_within, way_begins, way_ends, way_goes, way_same}
 use Rattle.xref_links.proofs.walk.+walk.Goals as goal
 
@@ -121,7 +121,7 @@ loop-rest-preserved g t c =
           let then_known = ap (λ (stand : Stand). stand.setting.nodes) c.in_ok-add-in-Element.ensures.stand ∙ known in
           step_founded nodes c.args.page.context.now.page.doc _
           (linked_in (written_at body at (content c.loop-rest.left))) (linked_in inside) _ _ _
-          (search (rules, walking))
+          (grows_trans _ _ _ c.loop-rest.invariant.grows c.in_ok-add-in-Element.ensures.grows)
           (step_founded nodes c.args.page.context.now.page.doc _
           (linked_in (written_at body at (content c.loop-rest.left))) (linked_by element) _ _ _
           c.loop-rest.invariant.grows (c.loop-rest.invariant.founded nodes same) c.loop-rest.invariant.within
@@ -130,8 +130,10 @@ loop-rest-preserved g t c =
           c.loop-rest.invariant.within (λ m among. link_inside _ element inside rest first m among)
           (c.in_ok-here-in-Element.ensures.founded nodes then_known));
       within = λ m among. c.loop-rest.invariant.within m (link_behind _ element inside rest first m among);
-      asks = search (rules, walking);
-      grows = search (rules, walking);
+      asks = asks_after nothing [] _ _ _ c.loop-rest.invariant.grows c.loop-rest.invariant.asks
+          (asks_after nothing [] _ _ _ c.in_ok-add-in-Element.ensures.grows c.in_ok-add-in-Element.ensures.asks c.in_ok-here-in-Element.ensures.asks);
+      grows = grows_trans _ _ _ c.loop-rest.invariant.grows
+          (grows_trans _ _ _ c.in_ok-add-in-Element.ensures.grows c.in_ok-here-in-Element.ensures.grows);
     }
 
 pub returns-in_err-add-in-Element-clause-founded : goal.returns-in_err-add-in-Element-clause-founded
@@ -157,10 +159,47 @@ returns-in_err-here-in-Element-clause-founded g t c = λ nodes same.
     step_founded nodes c.args.page.context.now.page.doc _
     (linked_in (written_at body at (content c.loop-rest.left)))
     (linked_in (written_at body (at + 1) (content c.in-Element.inside))) _ _ _
-    (search (rules, walking))
+    (grows_trans _ _ _ c.loop-rest.invariant.grows c.in_ok-add-in-Element.ensures.grows)
     (step_founded nodes c.args.page.context.now.page.doc _
     (linked_in (written_at body at (content c.loop-rest.left))) (linked_by element) _ _ _
     c.loop-rest.invariant.grows (c.loop-rest.invariant.founded nodes same) c.loop-rest.invariant.within
     (λ m among. link_first _ element _ _ first m among) (c.in_ok-add-in-Element.ensures.founded nodes known))
     c.loop-rest.invariant.within (λ m among. link_inside _ element _ _ first m among)
     (c.in_err-here-in-Element.ensures.founded nodes then_known)
+
+pub returns-in-End-clause-stand : goal.returns-in-End-clause-stand
+returns-in-End-clause-stand g t c = c.loop-rest.invariant.stand
+
+pub returns-in-End-clause-founded : goal.returns-in-End-clause-founded
+returns-in-End-clause-founded g t c = c.loop-rest.invariant.founded
+
+pub returns-in-End-clause-asks : goal.returns-in-End-clause-asks
+returns-in-End-clause-asks g t c = c.loop-rest.invariant.asks
+
+pub returns-in-End-clause-grows : goal.returns-in-End-clause-grows
+returns-in-End-clause-grows g t c = c.loop-rest.invariant.grows
+
+pub returns-in_err-add-in-Element-clause-stand : goal.returns-in_err-add-in-Element-clause-stand
+returns-in_err-add-in-Element-clause-stand g t c =
+    c.in_err-add-in-Element.ensures.stand ∙ c.loop-rest.invariant.stand
+
+pub returns-in_err-add-in-Element-clause-asks : goal.returns-in_err-add-in-Element-clause-asks
+returns-in_err-add-in-Element-clause-asks g t c =
+    asks_after nothing [] _ _ _ c.loop-rest.invariant.grows c.loop-rest.invariant.asks c.in_err-add-in-Element.ensures.asks
+
+pub returns-in_err-add-in-Element-clause-grows : goal.returns-in_err-add-in-Element-clause-grows
+returns-in_err-add-in-Element-clause-grows g t c =
+    grows_trans _ _ _ c.loop-rest.invariant.grows c.in_err-add-in-Element.ensures.grows
+
+pub returns-in_err-here-in-Element-clause-stand : goal.returns-in_err-here-in-Element-clause-stand
+returns-in_err-here-in-Element-clause-stand g t c =
+    c.in_err-here-in-Element.ensures.stand ∙ c.in_ok-add-in-Element.ensures.stand ∙ c.loop-rest.invariant.stand
+
+pub returns-in_err-here-in-Element-clause-asks : goal.returns-in_err-here-in-Element-clause-asks
+returns-in_err-here-in-Element-clause-asks g t c =
+    asks_after nothing [] _ _ _ c.loop-rest.invariant.grows c.loop-rest.invariant.asks
+    (asks_after nothing [] _ _ _ c.in_ok-add-in-Element.ensures.grows c.in_ok-add-in-Element.ensures.asks c.in_err-here-in-Element.ensures.asks)
+
+pub returns-in_err-here-in-Element-clause-grows : goal.returns-in_err-here-in-Element-clause-grows
+returns-in_err-here-in-Element-clause-grows g t c =
+    grows_trans _ _ _ c.loop-rest.invariant.grows (grows_trans _ _ _ c.in_ok-add-in-Element.ensures.grows c.in_err-here-in-Element.ensures.grows)
