@@ -171,7 +171,7 @@ pub(crate) fn add_written<'a, A: Asker>(
     ensures grows { Grows (A.told asker.old) (A.told asker.new) }
 {
     let target = read_href(page, standing, &mut made.faults)?;
-    add_read(page, asker, types, standing, target, made)
+    add_read(page, asker, types, standing, &target, made)
 }
 
 // Adds what a cross reference or a link of this target adds.
@@ -181,7 +181,7 @@ fn add_read<'a, A: Asker>(
     asker: &mut A,
     types: Types,
     standing: Standing<'a>,
-    target: Target,
+    target: &Target,
     made: &mut AnchorsMade,
 ) -> Result<(), NoMemory>
     requires { spec.IsPlaced page standing }
@@ -192,15 +192,15 @@ fn add_read<'a, A: Asker>(
         → OnOk result (spec.HasMore made.old made.new
         (anchors_spec.linked_added here (spec.alone page.entry standing.entry)
         (anchors_spec.linked_by_read here (spec.element_of page.entry standing.entry)
-        (spec.read_as target)))) }
+        (spec.read_as target.now)))) }
     ensures stand { A.stand asker.new ≡ A.stand asker.old }
-    ensures founded { StaysFounded (names_spec.names_of target) (A.told asker.old)
+    ensures founded { StaysFounded (names_spec.names_of target.now) (A.told asker.old)
         (A.told asker.new) }
     ensures asks { AsksOnly documents_spec.nothing [] (A.told asker.old) (A.told asker.new) }
     ensures grows { Grows (A.told asker.old) (A.told asker.new) }
 {
-    let label = label_of(page.alloc, asker, types, standing, &target)?;
-    let lead = lead_of(page, asker, standing, &target, &mut made.faults)?;
+    let label = label_of(page.alloc, asker, types, standing, target)?;
+    let lead = lead_of(page, asker, standing, target, &mut made.faults)?;
     let holds = is_reference(standing.node);
     add_linked(types, standing, lead, holds, label, made)
 }

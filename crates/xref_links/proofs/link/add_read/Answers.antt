@@ -16,7 +16,7 @@ returns-clause-known g c = λ here agrees is typed none.
     let standing = c.args.standing in
     let element = element_of page standing in
     on_ok _ _ c.add_linked.result
-    (linked_more here page standing (linked_by_read here element (read_as c.args.target)) c.args.types.is_link
+    (linked_more here page standing (linked_by_read here element (read_as c.args.target.now)) c.args.types.is_link
     c.args.made.now
     (record {
       anchors = c.args.made.now.anchors;
