@@ -33,3 +33,30 @@ returns-clause-founded g c =
     stays_one c.in-Some.other.now.id.doc (names_of_pages c.args.pages.now) _ _
     (page_among c.args.pages.now c.args.link.now.page c.in-Some.other.now c.in-Some.ensures)
     c.link_to.ensures.founded
+
+pub returns-in_err-made-clause-stand : goal.returns-in_err-made-clause-stand
+returns-in_err-made-clause-stand g c = c.link_to.ensures.stand
+
+pub returns-in_err-made-clause-asks : goal.returns-in_err-made-clause-asks
+returns-in_err-made-clause-asks g c = c.link_to.ensures.asks
+
+pub returns-in_err-made-clause-grows : goal.returns-in_err-made-clause-grows
+returns-in_err-made-clause-grows g c = c.link_to.ensures.grows
+
+pub returns-in_err-push-clause-stand : goal.returns-in_err-push-clause-stand
+returns-in_err-push-clause-stand g c = c.link_to.ensures.stand
+
+pub returns-in_err-push-clause-asks : goal.returns-in_err-push-clause-asks
+returns-in_err-push-clause-asks g c = c.link_to.ensures.asks
+
+pub returns-in_err-push-clause-grows : goal.returns-in_err-push-clause-grows
+returns-in_err-push-clause-grows g c = c.link_to.ensures.grows
+
+pub returns-clause-stand : goal.returns-clause-stand
+returns-clause-stand g c = c.link_to.ensures.stand
+
+pub returns-clause-asks : goal.returns-clause-asks
+returns-clause-asks g c = c.link_to.ensures.asks
+
+pub returns-clause-grows : goal.returns-clause-grows
+returns-clause-grows g c = c.link_to.ensures.grows

@@ -27,3 +27,21 @@ pub returns-clause-founded : goal.returns-clause-founded
 returns-clause-founded g c =
     stays_among (names_of_pages c.as_slice-pages.result.now) (plan_names c.args.plan.now) _ _
     (λ m. pages_among c.args.plan.now c.as_slice-pages.result.now m c.as_slice-pages.ensures) c.all_written.ensures.founded
+
+pub returns-in_err-written-clause-stand : goal.returns-in_err-written-clause-stand
+returns-in_err-written-clause-stand g c = c.all_written.ensures.stand
+
+pub returns-in_err-written-clause-asks : goal.returns-in_err-written-clause-asks
+returns-in_err-written-clause-asks g c = c.all_written.ensures.asks
+
+pub returns-in_err-written-clause-grows : goal.returns-in_err-written-clause-grows
+returns-in_err-written-clause-grows g c = c.all_written.ensures.grows
+
+pub returns-clause-stand : goal.returns-clause-stand
+returns-clause-stand g c = c.all_written.ensures.stand
+
+pub returns-clause-asks : goal.returns-clause-asks
+returns-clause-asks g c = c.all_written.ensures.asks
+
+pub returns-clause-grows : goal.returns-clause-grows
+returns-clause-grows g c = c.all_written.ensures.grows

@@ -25,3 +25,30 @@ pub returns-clause-founded : goal.returns-clause-founded
 returns-clause-founded g c =
     stays_one c.in-Some.name.now (plan_names c.args.plan.now) _ _
     (named_among c.args.plan.now c.args.at c.in-Some.name.now (sym c.in-Some.ensures)) c.link_node_of.ensures.founded
+
+pub returns-in_err-found-clause-stand : goal.returns-in_err-found-clause-stand
+returns-in_err-found-clause-stand g c = c.link_node_of.ensures.stand
+
+pub returns-in_err-found-clause-asks : goal.returns-in_err-found-clause-asks
+returns-in_err-found-clause-asks g c = c.link_node_of.ensures.asks
+
+pub returns-in_err-found-clause-grows : goal.returns-in_err-found-clause-grows
+returns-in_err-found-clause-grows g c = c.link_node_of.ensures.grows
+
+pub returns-in_err-insert-clause-stand : goal.returns-in_err-insert-clause-stand
+returns-in_err-insert-clause-stand g c = c.link_node_of.ensures.stand
+
+pub returns-in_err-insert-clause-asks : goal.returns-in_err-insert-clause-asks
+returns-in_err-insert-clause-asks g c = c.link_node_of.ensures.asks
+
+pub returns-in_err-insert-clause-grows : goal.returns-in_err-insert-clause-grows
+returns-in_err-insert-clause-grows g c = c.link_node_of.ensures.grows
+
+pub returns-clause-stand : goal.returns-clause-stand
+returns-clause-stand g c = c.link_node_of.ensures.stand
+
+pub returns-clause-asks : goal.returns-clause-asks
+returns-clause-asks g c = c.link_node_of.ensures.asks
+
+pub returns-clause-grows : goal.returns-clause-grows
+returns-clause-grows g c = c.link_node_of.ensures.grows
