@@ -12,3 +12,39 @@ returns-clause-known g c = λ world agrees ready homes known.
     (c.in_ok-children.ensures.known world agrees ready.values ready.pages (c.deref.ensures.value ∙ same) known)
     (subst (λ l. IsMade (sequences_of l entries) (families_of l entries) c.in_ok-collected.field-0)
     c.deref-2.ensures.value c.in_ok-collected.ensures)
+
+pub returns-in_err-children-clause-stand : goal.returns-in_err-children-clause-stand
+returns-in_err-children-clause-stand g c = c.children_of.ensures.stand
+
+pub returns-in_err-children-clause-founded : goal.returns-in_err-children-clause-founded
+returns-in_err-children-clause-founded g c = c.children_of.ensures.founded
+
+pub returns-in_err-children-clause-asks : goal.returns-in_err-children-clause-asks
+returns-in_err-children-clause-asks g c = c.children_of.ensures.asks
+
+pub returns-in_err-children-clause-grows : goal.returns-in_err-children-clause-grows
+returns-in_err-children-clause-grows g c = c.children_of.ensures.grows
+
+pub returns-in_err-collected-clause-stand : goal.returns-in_err-collected-clause-stand
+returns-in_err-collected-clause-stand g c = c.children_of.ensures.stand
+
+pub returns-in_err-collected-clause-founded : goal.returns-in_err-collected-clause-founded
+returns-in_err-collected-clause-founded g c = c.children_of.ensures.founded
+
+pub returns-in_err-collected-clause-asks : goal.returns-in_err-collected-clause-asks
+returns-in_err-collected-clause-asks g c = c.children_of.ensures.asks
+
+pub returns-in_err-collected-clause-grows : goal.returns-in_err-collected-clause-grows
+returns-in_err-collected-clause-grows g c = c.children_of.ensures.grows
+
+pub returns-clause-stand : goal.returns-clause-stand
+returns-clause-stand g c = c.children_of.ensures.stand
+
+pub returns-clause-founded : goal.returns-clause-founded
+returns-clause-founded g c = c.children_of.ensures.founded
+
+pub returns-clause-asks : goal.returns-clause-asks
+returns-clause-asks g c = c.children_of.ensures.asks
+
+pub returns-clause-grows : goal.returns-clause-grows
+returns-clause-grows g c = c.children_of.ensures.grows
