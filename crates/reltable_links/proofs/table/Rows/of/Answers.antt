@@ -23,3 +23,39 @@ returns-clause-known g c = λ world agrees can homes known.
       };
       kept = found.1;
     }
+
+pub returns-in_err-cells-clause-stand : goal.returns-in_err-cells-clause-stand
+returns-in_err-cells-clause-stand g c = c.of.ensures.stand
+
+pub returns-in_err-cells-clause-founded : goal.returns-in_err-cells-clause-founded
+returns-in_err-cells-clause-founded g c = c.of.ensures.founded
+
+pub returns-in_err-cells-clause-asks : goal.returns-in_err-cells-clause-asks
+returns-in_err-cells-clause-asks g c = c.of.ensures.asks
+
+pub returns-in_err-cells-clause-grows : goal.returns-in_err-cells-clause-grows
+returns-in_err-cells-clause-grows g c = c.of.ensures.grows
+
+pub returns-in_err-standings-clause-stand : goal.returns-in_err-standings-clause-stand
+returns-in_err-standings-clause-stand g c = c.of.ensures.stand
+
+pub returns-in_err-standings-clause-founded : goal.returns-in_err-standings-clause-founded
+returns-in_err-standings-clause-founded g c = c.of.ensures.founded
+
+pub returns-in_err-standings-clause-asks : goal.returns-in_err-standings-clause-asks
+returns-in_err-standings-clause-asks g c = c.of.ensures.asks
+
+pub returns-in_err-standings-clause-grows : goal.returns-in_err-standings-clause-grows
+returns-in_err-standings-clause-grows g c = c.of.ensures.grows
+
+pub returns-clause-stand : goal.returns-clause-stand
+returns-clause-stand g c = c.of.ensures.stand
+
+pub returns-clause-founded : goal.returns-clause-founded
+returns-clause-founded g c = c.of.ensures.founded
+
+pub returns-clause-asks : goal.returns-clause-asks
+returns-clause-asks g c = c.of.ensures.asks
+
+pub returns-clause-grows : goal.returns-clause-grows
+returns-clause-grows g c = c.of.ensures.grows
