@@ -12,3 +12,15 @@ returns-in-None-clause-known g c = λ here page agrees.
     (text_there here page c.args.standing c.args.target.now
     ∙ ap (λ label. unwrap_or label text) (sym c.in-None.is) ∙ c.in_ok-label.ensures page text)
     (c.text_of_target.ensures.known here [] agrees)
+
+pub returns-in-None-clause-stand : goal.returns-in-None-clause-stand
+returns-in-None-clause-stand g c = c.text_of_target.ensures.stand
+
+pub returns-in-None-clause-founded : goal.returns-in-None-clause-founded
+returns-in-None-clause-founded g c = c.text_of_target.ensures.founded
+
+pub returns-in-None-clause-asks : goal.returns-in-None-clause-asks
+returns-in-None-clause-asks g c = c.text_of_target.ensures.asks
+
+pub returns-in-None-clause-grows : goal.returns-in-None-clause-grows
+returns-in-None-clause-grows g c = c.text_of_target.ensures.grows

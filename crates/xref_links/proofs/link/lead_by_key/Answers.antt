@@ -21,3 +21,24 @@ returns-in-Local-clause-known g c = λ here agrees is.
 pub returns-in-Local-clause-founded : goal.returns-in-Local-clause-founded
 returns-in-Local-clause-founded g c =
     local_founded c.args.target.now c.in-Local.name c.in-Local.reference _ _ c.in-Local.is c.lead_to_id.ensures.founded
+
+pub returns-in-Local-clause-stand : goal.returns-in-Local-clause-stand
+returns-in-Local-clause-stand g c = c.lead_to_id.ensures.stand
+
+pub returns-in-Local-clause-asks : goal.returns-in-Local-clause-asks
+returns-in-Local-clause-asks g c = c.lead_to_id.ensures.asks
+
+pub returns-in-Local-clause-grows : goal.returns-in-Local-clause-grows
+returns-in-Local-clause-grows g c = c.lead_to_id.ensures.grows
+
+pub returns-in_default-clause-stand : goal.returns-in_default-clause-stand
+returns-in_default-clause-stand g c = c.lead_of.ensures.stand
+
+pub returns-in_default-clause-founded : goal.returns-in_default-clause-founded
+returns-in_default-clause-founded g c = c.lead_of.ensures.founded
+
+pub returns-in_default-clause-asks : goal.returns-in_default-clause-asks
+returns-in_default-clause-asks g c = c.lead_of.ensures.asks
+
+pub returns-in_default-clause-grows : goal.returns-in_default-clause-grows
+returns-in_default-clause-grows g c = c.lead_of.ensures.grows

@@ -1,5 +1,5 @@
-use Rattle.std.proofs.Common.{refl}
-use Rattle.readers.proofs.GrowthLaws.{agrees_before}
+use Rattle.std.proofs.Common.{[], ◌∙◌, refl}
+use Rattle.readers.proofs.GrowthLaws.{agrees_before, grows_trans}
 use Rattle.xref_links.specs.Adding.{element_of, target_of}
 use Rattle.readers.specs.Named.{linked_by}
 use Rattle.xref_links.specs.Names.{names_of}
@@ -7,6 +7,8 @@ use Rattle.xref_links.proofs.AddLaws.{typed_by, typed_more}
 use Rattle.xref_links.proofs.HereLaws.{here_kept}
 use Rattle.xref_links.proofs.LinkLaws.{on_ok}
 use Rattle.xref_links.proofs.NameLaws.{behind_founded, key_founded}
+use Rattle.readers.specs.Documents.{nothing}
+use Rattle.readers.proofs.DocumentLaws.{asks_after}
 use Rattle.xref_links.proofs.walk.add.Goals as goal
 
 pub returns-clause-known : goal.returns-clause-known
@@ -34,3 +36,22 @@ pub returns-in_err-keyed-clause-founded : goal.returns-in_err-keyed-clause-found
 returns-in_err-keyed-clause-founded g c = λ nodes same.
     key_founded nodes _ c.args.page.context.now.page.doc
     (linked_by (element_of c.args.page c.args.standing)) _ _ same c.in_err-keyed.ensures.founded
+
+pub returns-in_err-keyed-clause-stand : goal.returns-in_err-keyed-clause-stand
+returns-in_err-keyed-clause-stand g c = c.defined_key.ensures.stand
+
+pub returns-in_err-keyed-clause-asks : goal.returns-in_err-keyed-clause-asks
+returns-in_err-keyed-clause-asks g c = c.defined_key.ensures.asks
+
+pub returns-in_err-keyed-clause-grows : goal.returns-in_err-keyed-clause-grows
+returns-in_err-keyed-clause-grows g c = c.defined_key.ensures.grows
+
+pub returns-clause-stand : goal.returns-clause-stand
+returns-clause-stand g c = c.add_behind.ensures.stand ∙ c.in_ok-keyed.ensures.stand
+
+pub returns-clause-asks : goal.returns-clause-asks
+returns-clause-asks g c =
+    asks_after nothing [] _ _ _ c.in_ok-keyed.ensures.grows c.in_ok-keyed.ensures.asks c.add_behind.ensures.asks
+
+pub returns-clause-grows : goal.returns-clause-grows
+returns-clause-grows g c = grows_trans _ _ _ c.in_ok-keyed.ensures.grows c.add_behind.ensures.grows

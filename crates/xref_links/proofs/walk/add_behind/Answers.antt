@@ -52,3 +52,21 @@ pub returns-in-None-clause-founded : goal.returns-in-None-clause-founded
 returns-in-None-clause-founded g c =
     href_part (names_of (target_of c.args.keyed)) c.args.page.context.now.page.doc
     (linked_by (element_of c.args.page c.args.standing)) _ _ c.add_unkeyed.ensures.founded
+
+pub returns-in-Some-clause-stand : goal.returns-in-Some-clause-stand
+returns-in-Some-clause-stand g c = c.add_keyed.ensures.stand
+
+pub returns-in-Some-clause-asks : goal.returns-in-Some-clause-asks
+returns-in-Some-clause-asks g c = c.add_keyed.ensures.asks
+
+pub returns-in-Some-clause-grows : goal.returns-in-Some-clause-grows
+returns-in-Some-clause-grows g c = c.add_keyed.ensures.grows
+
+pub returns-in-None-clause-stand : goal.returns-in-None-clause-stand
+returns-in-None-clause-stand g c = c.add_unkeyed.ensures.stand
+
+pub returns-in-None-clause-asks : goal.returns-in-None-clause-asks
+returns-in-None-clause-asks g c = c.add_unkeyed.ensures.asks
+
+pub returns-in-None-clause-grows : goal.returns-in-None-clause-grows
+returns-in-None-clause-grows g c = c.add_unkeyed.ensures.grows

@@ -41,3 +41,21 @@ returns-in_err-walk-clause-founded g c =
     (linked_in (written_at body 0 tree)))
     (g.A.Reader.told c.args.asker.now) (g.A.Reader.told c.walk.new.asker) in
     subst Is c.of.ensures.content (c.in_err-walk.ensures.founded _ refl)
+
+pub returns-clause-stand : goal.returns-clause-stand
+returns-clause-stand g c = c.walk.ensures.stand
+
+pub returns-clause-asks : goal.returns-clause-asks
+returns-clause-asks g c = c.walk.ensures.asks
+
+pub returns-clause-grows : goal.returns-clause-grows
+returns-clause-grows g c = c.walk.ensures.grows
+
+pub returns-in_err-walk-clause-stand : goal.returns-in_err-walk-clause-stand
+returns-in_err-walk-clause-stand g c = c.walk.ensures.stand
+
+pub returns-in_err-walk-clause-asks : goal.returns-in_err-walk-clause-asks
+returns-in_err-walk-clause-asks g c = c.walk.ensures.asks
+
+pub returns-in_err-walk-clause-grows : goal.returns-in_err-walk-clause-grows
+returns-in_err-walk-clause-grows g c = c.walk.ensures.grows
