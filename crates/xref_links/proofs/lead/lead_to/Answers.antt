@@ -40,3 +40,27 @@ returns-clause-asks g c = c.page_of.ensures.asks
 
 pub returns-clause-grows : goal.returns-clause-grows
 returns-clause-grows g c = c.page_of.ensures.grows
+
+pub returns-in_default-clause-stand : goal.returns-in_default-clause-stand
+returns-in_default-clause-stand g c = c.page_of.ensures.stand
+
+pub returns-in_default-clause-founded : goal.returns-in_default-clause-founded
+returns-in_default-clause-founded g c = c.page_of.ensures.founded
+
+pub returns-in_default-clause-asks : goal.returns-in_default-clause-asks
+returns-in_default-clause-asks g c = c.page_of.ensures.asks
+
+pub returns-in_default-clause-grows : goal.returns-in_default-clause-grows
+returns-in_default-clause-grows g c = c.page_of.ensures.grows
+
+pub returns-in_err-put_fault-clause-stand : goal.returns-in_err-put_fault-clause-stand
+returns-in_err-put_fault-clause-stand g c = c.page_of.ensures.stand
+
+pub returns-in_err-put_fault-clause-founded : goal.returns-in_err-put_fault-clause-founded
+returns-in_err-put_fault-clause-founded g c = c.page_of.ensures.founded
+
+pub returns-in_err-put_fault-clause-asks : goal.returns-in_err-put_fault-clause-asks
+returns-in_err-put_fault-clause-asks g c = c.page_of.ensures.asks
+
+pub returns-in_err-put_fault-clause-grows : goal.returns-in_err-put_fault-clause-grows
+returns-in_err-put_fault-clause-grows g c = c.page_of.ensures.grows
