@@ -38,3 +38,6 @@ returns-clause-tree c =
 
 pub returns-clause-kept : goal.returns-clause-kept
 returns-clause-kept c = kept_tree c.in_ok-nodes.nodes c.args.bytes.now (returns-clause-tree c)
+
+pub returns-clause-origin : goal.returns-clause-origin
+returns-clause-origin c = rw (c.in_ok-push.ensures, c.new-origins.ensures) (cc c.in_ok-clone.ensures.cases)
