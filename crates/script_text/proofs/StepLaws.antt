@@ -1,13 +1,15 @@
 -- The steps of lines, one line after the other.
-use Rattle.std.specs.Prelude.{◌≡◌, ◌+◌, ◌&&◌, ℕ, Bool, true, false, List, ◌∷◌, ◌++◌, Option, Some, None, Result, Ok, Err, min, length, take, nat_lt, if◌then◌else◌}
+use Rattle.std.specs.Prelude.{◌≡◌, ◌+◌, ◌&&◌, ℕ, Bool, true, false, List, [], ◌∷◌, ◌++◌, Option, Some, None, Result, Ok, Err, min, length, take, nat_lt, if◌then◌else◌, is_some}
 use Rattle.std.specs.Option.{option_to_list}
 use Rattle.std.specs.Str.{IsUtf8, is_utf8}
-use Rattle.std.proofs.Common.{refl, sym, ◌∙◌, ap, subst, arith, append_assoc}
+use Rattle.std.proofs.Common.{refl, sym, ◌∙◌, ap, subst, arith, append_assoc, append-nil}
 use Rattle.std.proofs.lemmas.List.{take_min}
 use Rattle.std.proofs.lemmas.Str.{IsUtf8-from_is_utf8, is_utf8-from_IsUtf8}
 use Rattle.dita_doc.specs.Gives.{GivesSeen}
 use Rattle.dita_doc.specs.Lines.{lines_of}
 use Rattle.dita_doc.specs.declared.stop.Stop.{Stop}
+use Rattle.dita_doc.specs.declared.stop.Stop.TheVariants.{Fault, NoMemory}
+use Rattle.script_text.specs.Read.{at_line}
 use Rattle.script_text.specs.declared.fault.ScriptCode.{ScriptCode}
 use Rattle.script_text.specs.declared.fault.ScriptCode.TheVariants as faults
 use Rattle.script_text.specs.declared.fault.ScriptFault.{ScriptFault}
@@ -86,6 +88,53 @@ module _ (reads : LineReading) (long : Bool) where
       ∙ ap (after_steps front) (line_led number count begun line lines next last is)
       ∙ after_one front next.step
       (steps_from reads long (number + 1) (count_after count next.step) next.begun lines)
+
+  -- before a line, what was told is what is told by it
+  line_next : (number count : ℕ) (begun : Option Begun) (line : List ℕ) (all lines : List (List ℕ)) (front : List Step)
+      (told : Result (List Step) ScriptFault) (last : Bool)
+      → told ≡ after_steps front (steps_from reads long number count begun all) → all ≡ line ∷ lines
+      → last ≡ (long && is_no_line lines)
+      → told ≡ after_steps front (led_by last number count lines (turn reads count begun line))
+  line_next number count begun line all lines front told last e first is =
+      e ∙ ap (λ lines. after_steps front (steps_from reads long number count begun lines)) first
+      ∙ ap (after_steps front) (steps_led number count begun line lines)
+      ∙ ap (λ test. after_steps front (led_by test number count lines (turn reads count begun line))) (sym is)
+
+  -- the last line of a text that is too long is a fault
+  pub line_long : (number count : ℕ) (begun : Option Begun) (line : List ℕ) (all lines : List (List ℕ))
+      (front : List Step) (told : Result (List Step) ScriptFault)
+      → told ≡ after_steps front (steps_from reads long number count begun all) → all ≡ line ∷ lines
+      → true ≡ (long && is_no_line lines) → told ≡ Err (record { code = faults.TooLong; line = number + 1 })
+  line_long number count begun line all lines front told e first last =
+      line_next number count begun line all lines front told true e first last
+
+  -- a line that stops the reading
+  pub line_stopped : {A B : Type 0} (turns : A → Turn) (sees : B → List Step) (number count : ℕ) (begun : Option Begun)
+      (line : List ℕ) (all lines : List (List ℕ)) (front : List Step) (told : Result (List Step) ScriptFault)
+      (stop : Stop ScriptCode)
+      → told ≡ after_steps front (steps_from reads long number count begun all) → all ≡ line ∷ lines
+      → false ≡ (long && is_no_line lines) → GivesSeen turns (Err stop) (turn reads count begun line)
+      → GivesSeen sees (Err (at_line stop (number + 1))) told
+  line_stopped turns sees number count begun line all lines front told (Fault code) e first last is =
+      line_next number count begun line all lines front told false e first last
+      ∙ ap (λ turned. after_steps front (led number count lines turned)) is
+  line_stopped turns sees number count begun line all lines front told NoMemory e first last is = tt
+
+  -- behind the last line
+  pub end_within : (number count : ℕ) (begun : Option Begun) (rest : List ℕ) (front : List Step)
+      (told : Result (List Step) ScriptFault)
+      → told ≡ after_steps front (steps_from reads long number count begun (lines_of rest)) → rest ≡ []
+      → true ≡ is_some begun → told ≡ Err (record { code = faults.NoEnd; line = number })
+  end_within number count None rest front told e none some = absurd cc
+  end_within number count (Some begun) rest front told e none some = rw none at e
+
+  pub end_outside : (number count : ℕ) (begun : Option Begun) (rest : List ℕ) (front : List Step)
+      (told : Result (List Step) ScriptFault)
+      → told ≡ after_steps front (steps_from reads long number count begun (lines_of rest)) → rest ≡ []
+      → false ≡ is_some begun → told ≡ Ok front
+  end_outside number count None rest front told e none some =
+      (rw none at e) ∙ ap (λ (steps : List Step). Ok steps) (append-nil front)
+  end_outside number count (Some begun) rest front told e none some = absurd cc
 
 -- Scripts
 

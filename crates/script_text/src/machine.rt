@@ -4,7 +4,7 @@ use crate::command::{Command, Opening};
 use crate::fault::ScriptCode;
 use crate::outside::LineReader;
 use dita_doc::{List, Request, Stop};
-use std::alloc::Global;
+use std::alloc::{AllocError, Global};
 
 /// A put, with the bytes of its body so far.
 #[derive(Drop)]
@@ -12,6 +12,21 @@ pub struct Begun {
     session: u32,
     opening: Opening,
     body: List<u8>,
+}
+
+impl Begun {
+    ghost use Rattle.std.specs.Prelude.{◌≡◌, OnOk};
+    ghost use Rattle.script_text.specs.Script as script_spec;
+    ghost use Rattle.script_text.specs.Machine as machine_spec;
+
+    // Takes a line of the body.
+    fn add(&mut self, line: &str) -> Result<(), AllocError>
+        ensures { OnOk result (machine_spec.begun_seen self.new
+            ≡ script_spec.with_line (machine_spec.begun_seen self.old) line.now) }
+    {
+        self.body.append(line.as_bytes())?;
+        self.body.push(b'\n')
+    }
 }
 
 /// The put that some lines began and did not end.
@@ -83,8 +98,7 @@ impl ScriptMachine {
             let request = opening.with_body(alloc, body)?;
             return Ok(Some((session, request)));
         }
-        begun.body.append(line.as_bytes())?;
-        begun.body.push(b'\n')?;
+        begun.add(line)?;
         self.begun = Some(begun);
         Ok(None)
     }

@@ -1,6 +1,6 @@
 //! The lines outside bodies.
 
-ghost use Rattle.std.specs.Prelude.{◌∷◌, IfOk, IfSome};
+ghost use Rattle.std.specs.Prelude.{◌≡◌, ◌∷◌, nat_le, IfOk, IfSome};
 ghost use Rattle.dita_doc.specs.Bytes as bytes_spec;
 ghost use Rattle.dita_doc.specs.Gives.{GivesSeen};
 ghost use Rattle.script_text.specs.Command as command_spec;
@@ -69,8 +69,15 @@ fn read_asked(
 {
     let session = read_session(word)?;
     let command = read_command(alloc, words)?;
-    if count >= REQUEST_LIMIT {
+    if are_all(count) {
         return Err(Stop::Fault(ScriptCode::TooManyRequests));
     }
     Ok(Some((session, command)))
+}
+
+// Whether so many requests are as many as a script may have.
+fn are_all(count: usize) -> bool
+    ensures { result ≡ nat_le script_spec.request_limit count }
+{
+    count >= REQUEST_LIMIT
 }
