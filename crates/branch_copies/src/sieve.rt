@@ -1,6 +1,6 @@
 //! The nodes that rules leave, made from the first node to the last.
 
-ghost use Rattle.std.specs.Prelude.{◌≡◌, ◌++◌, ℕ, List, IfOk, OnOk};
+ghost use Rattle.std.specs.Prelude.{◌≡◌, ◌++◌, ◌&&◌, ℕ, List, nat_lt, slice_get, unwrap_or, IfOk, OnOk};
 ghost use Rattle.branch_copies.specs.Sieve as sieve_spec;
 
 use crate::groups::append_group_faults;
@@ -49,7 +49,7 @@ impl Sieve {
             return Ok(());
         }
         append_faults_of(alloc, &mut self.faults, &node.doc, element)?;
-        if at > 0 && is_excluded(table, element) {
+        if is_left_out(table, at, element) {
             self.next = node.end as usize;
             return Ok(());
         }
@@ -74,6 +74,14 @@ fn append_faults_of(
     }
 }
 
+// Whether the node at a place is left out: the root never is.
+fn is_left_out(table: &RuleTable<'_>, at: usize, element: Option<&Node>) -> bool
+    ensures { (name : List ℕ) → result ≡ (nat_lt 0 at
+        && sieve_spec.is_excluded table.now (sieve_spec.element_found name element.entry)) }
+{
+    at > 0 && is_excluded(table, element)
+}
+
 fn is_excluded(table: &RuleTable<'_>, element: Option<&Node>) -> bool
     ensures { (name : List ℕ) → result
         ≡ sieve_spec.is_excluded table.now (sieve_spec.element_found name element.entry) }
@@ -89,6 +97,16 @@ fn moved(alloc: Global, node: &PlanNode, places: &[u32]) -> Result<PlanNode, NoM
     ensures { IfOk result (λ copy. copy ≡ sieve_spec.moved places.now node.now) }
 {
     let mut copy = copy_node(alloc, node)?;
-    copy.parent = places.get(node.parent as usize).copied().unwrap_or(0);
+    copy.parent = place_in(places, node.parent);
     Ok(copy)
+}
+
+// The new place of the node at an old one.
+fn place_in(places: &[u32], at: u32) -> u32
+    ensures { result ≡ unwrap_or (slice_get places.now at) 0 }
+{
+    match places.get(at as usize) {
+        Some(place) => *place,
+        None => 0,
+    }
 }

@@ -13,3 +13,63 @@ returns-clause-value g c =
     filtered_here world c.args.rules.now c.in_ok-table.table c.args.nodes.now c.as_slice.result.now c.as_slice-2.result.now
     c.in_ok-nodes.nodes c.in_ok-homes.homes c.in_ok-kept.field-0 c.in_ok-table.ensures c.as_slice.ensures
     c.as_slice-2.ensures c.in_ok-homes.ensures.value (c.in_ok-kept.ensures world) c.in_ok-nodes.ensures
+
+pub returns-in_err-homes-clause-stand : goal.returns-in_err-homes-clause-stand
+returns-in_err-homes-clause-stand g c = c.of.ensures.stand
+
+pub returns-in_err-homes-clause-founded : goal.returns-in_err-homes-clause-founded
+returns-in_err-homes-clause-founded g c = rw c.as_slice.ensures at c.of.ensures.founded
+
+pub returns-in_err-homes-clause-asks : goal.returns-in_err-homes-clause-asks
+returns-in_err-homes-clause-asks g c = rw c.as_slice.ensures at c.of.ensures.asks
+
+pub returns-in_err-homes-clause-grows : goal.returns-in_err-homes-clause-grows
+returns-in_err-homes-clause-grows g c = c.of.ensures.grows
+
+pub returns-in_err-table-clause-stand : goal.returns-in_err-table-clause-stand
+returns-in_err-table-clause-stand g c = c.of.ensures.stand
+
+pub returns-in_err-table-clause-founded : goal.returns-in_err-table-clause-founded
+returns-in_err-table-clause-founded g c = rw c.as_slice.ensures at c.of.ensures.founded
+
+pub returns-in_err-table-clause-asks : goal.returns-in_err-table-clause-asks
+returns-in_err-table-clause-asks g c = rw c.as_slice.ensures at c.of.ensures.asks
+
+pub returns-in_err-table-clause-grows : goal.returns-in_err-table-clause-grows
+returns-in_err-table-clause-grows g c = c.of.ensures.grows
+
+pub returns-in_err-kept-clause-stand : goal.returns-in_err-kept-clause-stand
+returns-in_err-kept-clause-stand g c = c.of.ensures.stand
+
+pub returns-in_err-kept-clause-founded : goal.returns-in_err-kept-clause-founded
+returns-in_err-kept-clause-founded g c = rw c.as_slice.ensures at c.of.ensures.founded
+
+pub returns-in_err-kept-clause-asks : goal.returns-in_err-kept-clause-asks
+returns-in_err-kept-clause-asks g c = rw c.as_slice.ensures at c.of.ensures.asks
+
+pub returns-in_err-kept-clause-grows : goal.returns-in_err-kept-clause-grows
+returns-in_err-kept-clause-grows g c = c.of.ensures.grows
+
+pub returns-in_err-nodes-clause-stand : goal.returns-in_err-nodes-clause-stand
+returns-in_err-nodes-clause-stand g c = c.of.ensures.stand
+
+pub returns-in_err-nodes-clause-founded : goal.returns-in_err-nodes-clause-founded
+returns-in_err-nodes-clause-founded g c = rw c.as_slice.ensures at c.of.ensures.founded
+
+pub returns-in_err-nodes-clause-asks : goal.returns-in_err-nodes-clause-asks
+returns-in_err-nodes-clause-asks g c = rw c.as_slice.ensures at c.of.ensures.asks
+
+pub returns-in_err-nodes-clause-grows : goal.returns-in_err-nodes-clause-grows
+returns-in_err-nodes-clause-grows g c = c.of.ensures.grows
+
+pub returns-clause-stand : goal.returns-clause-stand
+returns-clause-stand g c = c.of.ensures.stand
+
+pub returns-clause-founded : goal.returns-clause-founded
+returns-clause-founded g c = rw c.as_slice.ensures at c.of.ensures.founded
+
+pub returns-clause-asks : goal.returns-clause-asks
+returns-clause-asks g c = rw c.as_slice.ensures at c.of.ensures.asks
+
+pub returns-clause-grows : goal.returns-clause-grows
+returns-clause-grows g c = c.of.ensures.grows

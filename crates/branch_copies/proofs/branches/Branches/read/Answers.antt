@@ -4,6 +4,9 @@ use Rattle.dita_doc.specs.declared.plan.PlanNode.{PlanNode}
 use Rattle.doc_elements.specs.Walk.{Found, content_in, element_of, found_in}
 use Rattle.map_spec.specs.MapTree.{node_of}
 use Rattle.plan_nodes.specs.Home.{doc_of}
+use Rattle.readers.proofs.DocumentLaws.{asks_same}
+use Rattle.readers.proofs.FoundedLaws.{stays_same}
+use Rattle.readers.proofs.GrowthLaws.{grows_same}
 use Rattle.branch_copies.specs.BranchRead.{IsBranchOf}
 use Rattle.branch_copies.proofs.AppendedLaws.{none_appended, one_appended}
 use Rattle.branch_copies.proofs.DitavalrefLaws.{asks_ref, stays_ref}
@@ -77,3 +80,45 @@ returns-clause-asks g c = λ refs is.
     asks_ref c.args.nodes.now c.args.homes.now c.args.place c.in-Some.node.now
     (c.in-Some-whole.element, c.in-Some-whole.inside) (node_there _ _ _ found.3.0 found.1) c.in-Some-whole.ensures _ _
     c.requires.given refs is c.read_branch.ensures.asks
+
+pub returns-in_default-clause-stand : goal.returns-in_default-clause-stand
+returns-in_default-clause-stand g c = refl
+
+pub returns-in_default-clause-grows : goal.returns-in_default-clause-grows
+returns-in_default-clause-grows g c = grows_same _
+
+pub returns-in_default-clause-founded : goal.returns-in_default-clause-founded
+returns-in_default-clause-founded g c = stays_same _ _ _ refl
+
+pub returns-in_default-clause-asks : goal.returns-in_default-clause-asks
+returns-in_default-clause-asks g c = λ refs is. asks_same _ _ _ _ refl
+
+pub returns-in_default-whole-clause-stand : goal.returns-in_default-whole-clause-stand
+returns-in_default-whole-clause-stand g c = refl
+
+pub returns-in_default-whole-clause-grows : goal.returns-in_default-whole-clause-grows
+returns-in_default-whole-clause-grows g c = grows_same _
+
+pub returns-in_default-whole-clause-founded : goal.returns-in_default-whole-clause-founded
+returns-in_default-whole-clause-founded g c = stays_same _ _ _ refl
+
+pub returns-in_default-whole-clause-asks : goal.returns-in_default-whole-clause-asks
+returns-in_default-whole-clause-asks g c = λ refs is. asks_same _ _ _ _ refl
+
+pub returns-in_err-branch-clause-stand : goal.returns-in_err-branch-clause-stand
+returns-in_err-branch-clause-stand g c = c.read_branch.ensures.stand
+
+pub returns-in_err-branch-clause-grows : goal.returns-in_err-branch-clause-grows
+returns-in_err-branch-clause-grows g c = c.read_branch.ensures.grows
+
+pub returns-in_err-push-clause-stand : goal.returns-in_err-push-clause-stand
+returns-in_err-push-clause-stand g c = c.read_branch.ensures.stand
+
+pub returns-in_err-push-clause-grows : goal.returns-in_err-push-clause-grows
+returns-in_err-push-clause-grows g c = c.read_branch.ensures.grows
+
+pub returns-clause-stand : goal.returns-clause-stand
+returns-clause-stand g c = c.read_branch.ensures.stand
+
+pub returns-clause-grows : goal.returns-clause-grows
+returns-clause-grows g c = c.read_branch.ensures.grows
