@@ -1,4 +1,4 @@
-use Rattle.std.proofs.Common.{◌∙◌, ap, ap₂, subst, sym}
+use Rattle.std.proofs.Common.{refl, ◌∙◌, ap, ap₂, subst, sym}
 use Rattle.dita_doc.specs.Tree.{ArePreorder, tree_of}
 use Rattle.doc_maker.specs.Building as spec
 use Rattle.doc_maker.specs.Made as made_spec
@@ -27,3 +27,6 @@ returns-clause-content c =
     c.from_vec-2.ensures
     ∙ finish_written c.maker.inside.origins c.maker.inside.nodes.items c.maker.inside.hrefs.items
     c.maker.inside.opened.items content is
+
+pub returns-clause-count : goal.returns-clause-count
+returns-clause-count c = refl
