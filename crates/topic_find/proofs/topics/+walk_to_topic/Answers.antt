@@ -1,4 +1,4 @@
-use Rattle.std.proofs.Common.{◌+◌, [], None, sym, ap, ◌∙◌, arith}
+use Rattle.std.proofs.Common.{◌+◌, [], None, sym, ap, ◌∙◌, arith, rules}
 use Rattle.dita_doc.specs.Siblings.{content}
 use Rattle.dita_doc.specs.Tree.{size_of}
 use Rattle.map_spec.specs.Written.{written_in}
@@ -34,3 +34,9 @@ loop-rest-preserved t c = record {
       c.in_ok-here-in-Element.here (c.in_ok-here-in-Element.ensures [] None) in
       omega (arith, past, ap size_of c.in-Element.ensures.content);
 }
+
+pub returns-then-is_topic_wanted : goal.returns-then-is_topic_wanted
+returns-then-is_topic_wanted t c = λ name around. search rules
+
+pub loop-rest-preserved-in-Chars : goal.loop-rest-preserved-in-Chars
+loop-rest-preserved-in-Chars t c = search rules
