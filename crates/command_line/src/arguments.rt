@@ -19,8 +19,9 @@ static MODES: [&str; 1] = ["clean"];
 pub fn command<'a>(alloc: Global) -> Result<Command<'a>, AllocError>
     ensures { IfOk result (λ command. spec.IsCommand (app_of command)) }
 {
+    let with_mode = named(alloc).arg(mode(alloc))?;
     let workers = number(alloc, "workers", 1, 16, "4").help("Threads that work on one build");
-    let start = named(alloc).arg(mode(alloc))?.arg(workers)?;
+    let start = with_mode.arg(workers)?;
     let made = with_project(alloc, start)?;
     let served = with_sessions(alloc, made)?;
     with_folder(alloc, served)
@@ -44,8 +45,9 @@ fn with_project<'a>(alloc: Global, command: Command<'a>) -> Result<Command<'a>, 
     let seed = number(alloc, "number", 0, i64::MAX as u64, "1").help(
         "The number from which a project is made",
     );
+    let numbered = command.arg(seed)?;
     let topics = number(alloc, "topics", 2, 4000, "40").help("Topics of the project that is made");
-    command.arg(seed)?.arg(topics)
+    numbered.arg(topics)
 }
 
 // Adds where sessions connect, and how many.
@@ -55,8 +57,9 @@ fn with_sessions<'a>(alloc: Global, command: Command<'a>) -> Result<Command<'a>,
         (spec.option (codes "connections") (value_parsers.Unsigned 1 1024) (codes "1"))) }
 {
     let port = number(alloc, "port", 0, 65535, "7070").help("The port to which sessions connect");
+    let placed = command.arg(port)?;
     let connections = number(alloc, "connections", 1, 1024, "1").help("Sessions that are served");
-    command.arg(port)?.arg(connections)
+    placed.arg(connections)
 }
 
 // Adds the folder of the pages.

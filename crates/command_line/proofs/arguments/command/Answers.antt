@@ -7,7 +7,7 @@ use Rattle.command_line.proofs.arguments.command.Goals as goal
 pub returns : goal.returns
 returns c =
     let names = c.mode.ensures.rule in
-    let mode = adds _ _ _ _ _ c.named.ensures c.in_ok-arg.ensures c.mode.ensures.here names.2 in
+    let mode = adds _ _ _ _ _ c.named.ensures c.in_ok-with_mode.ensures c.mode.ensures.here names.2 in
     let workers = adds _ _ _ _ _ mode c.in_ok-start.ensures (ap (λ arg. arg.global) c.help-workers.ensures ∙ c.number.ensures.here)
     (ap rule_of c.help-workers.ensures ∙ c.number.ensures.rule) in
     let project = adds_two _ _ _ _ _ workers c.in_ok-made.ensures in

@@ -24,3 +24,6 @@ returns c =
       ];
       rows = tt;
     }
+
+pub returns-in-OutOfMemory : goal.returns-in-OutOfMemory
+returns-in-OutOfMemory c = record { read = tt; rows = tt }
