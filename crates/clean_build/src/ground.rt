@@ -1,6 +1,7 @@
 //! What a build stands on.
 
 ghost use Rattle.std.specs.Prelude.{◌≡◌, IfOk};
+ghost use Rattle.std.specs.Option.{option_copied};
 ghost use Rattle.clean_build.specs.Ground as ground_spec;
 
 use dita_doc::{Context, Name, NoMemory, PageId, PagePlan, Plan};
@@ -20,16 +21,23 @@ impl<'p> Ground<'p> {
     pub fn context_of(self, alloc: Global, page: &PagePlan) -> Result<Context, NoMemory>
         ensures { IfOk result (λ context. context ≡ ground_spec.context_for self.entry page.now) }
     {
-        let val = match self.val {
-            Some(val) => Some(val.clone()?),
-            None => None,
-        };
+        let val = copy_val(self.val)?;
         Ok(Context {
             map: self.map.clone()?,
             val,
             page: copy_id(alloc, &page.id)?,
             name: page.name.clone()?,
         })
+    }
+}
+
+// The name of a DITAVAL, if there is one, which shares it.
+fn copy_val(val: Option<&Name>) -> Result<Option<Name>, NoMemory>
+    ensures { IfOk result (λ copy. copy ≡ option_copied val.entry) }
+{
+    match val {
+        Some(val) => Ok(Some(val.clone()?)),
+        None => Ok(None),
     }
 }
 

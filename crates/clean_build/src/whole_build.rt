@@ -1,6 +1,6 @@
 //! The build of a map over stored sources.
 
-ghost use Rattle.std.specs.Prelude.{◌≡◌, [], IfOk, Ok, OnOk, codes};
+ghost use Rattle.std.specs.Prelude.{◌≡◌, [], IfOk, Ok, OnOk, codes, map};
 ghost use Rattle.std.specs.Option.{option_copied};
 ghost use Rattle.clean_build.specs.Clean as clean_spec;
 ghost use Rattle.clean_build.specs.Gathering as gathering_spec;
@@ -164,8 +164,31 @@ fn put_parts<S: Since>(
         lasting = next;
         gathered.put(alloc, page.name.clone()?, html)?;
     }
+    put_contents::<S>(alloc, lasting, ground, tables, gathered)
+}
+
+// Puts the contents page behind all pages.
+fn put_contents<S: Since>(
+    alloc: Global,
+    lasting: Lasting<'_>,
+    ground: Ground<'_>,
+    tables: &BuildTables,
+    gathered: &mut Gathered,
+) -> Result<(), NoMemory>
+    requires agreed { Agrees S.stand.world S.told }
+    requires tables { AreTables S.told ground.plan.now tables.now }
+    requires goes_on { GoesOn S.stand.world ground.plan.now.documents lasting }
+    requires plan { plan_spec.plan_of plan_spec.limits S.stand.world ground.map.now
+        (option_copied ground.val) ≡ Ok ground.plan.now }
+    requires put { gathering_spec.HasParts ground.plan.now
+        (map (λ page. page.name) ground.plan.now.pages)
+        (parts_spec.page_parts parts_spec.rooms S.stand.world ground.plan.now
+        (option_copied ground.val)) gathered.old }
+    ensures { OnOk result (gathering_spec.HasPartsOf S.stand.world ground.entry.plan.now
+        (option_copied ground.entry.val) gathered.new) }
+{
     let work = ContentsWork { ground };
-    let (html, _) = over_sources::<S, ContentsWork<'_>>(alloc, lasting, plan, tables, work)?;
+    let (html, _) = over_sources::<S, ContentsWork<'_>>(alloc, lasting, ground.plan, tables, work)?;
     gathered.put(alloc, contents_name(alloc)?, html)
 }
 

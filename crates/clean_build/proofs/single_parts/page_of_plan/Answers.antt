@@ -13,3 +13,6 @@ returns-then-is_none-clause-known g c = λ world agrees is.
 
 pub returns-then-is_none-clause-founded : goal.returns-then-is_none-clause-founded
 returns-then-is_none-clause-founded g c = stays_same _ _ _ refl
+
+pub returns-clause-known : goal.returns-clause-known
+returns-clause-known g c = λ world agrees is. c.single.ensures.known world c.args.plan.now agrees is

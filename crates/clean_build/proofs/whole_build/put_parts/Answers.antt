@@ -5,9 +5,9 @@ use Rattle.dita_doc.specs.declared.fact.Html.{Html}
 use Rattle.dita_doc.specs.declared.fault.Fault.{Fault}
 use Rattle.dita_doc.specs.declared.plan.PagePlan.{PagePlan}
 use Rattle.page_spec.specs.Pushes.{pushed}
-use Rattle.part_spec.specs.Parts.{contents_part, page_part, page_parts, rooms}
+use Rattle.part_spec.specs.Parts.{page_part, page_parts, rooms}
 use Rattle.clean_build.specs.Made.{page_behind}
-use Rattle.clean_build.proofs.PartLaws.{all_put, contents_put, next_put, none_put, on_ok_both, without_rows}
+use Rattle.clean_build.proofs.PartLaws.{all_put, next_put, none_put, without_rows}
 use Rattle.clean_build.proofs.PlanLaws.{plan_facts}
 use Rattle.clean_build.proofs.SingleLaws.{page_at}
 use Rattle.clean_build.proofs.whole_build.put_parts.Goals as goal
@@ -53,18 +53,12 @@ loop-index-preserved g c =
           (c.in_ok-put.ensures.faults _ c.loop-index.invariant.put.good);
     }
 
-pub returns : goal.returns
-returns g c =
-    let world = g.S.Since.stand.world in
-    let plan = c.args.ground.plan.now in
-    let val = option_copied c.args.ground.val in
+pub put_contents-requires-clause-put : goal.put_contents-requires-clause-put
+put_contents-requires-clause-put g c =
     let enough = subst (λ (pages : List PagePlan). length pages ≤ c.loop-index.index) c.as_slice-page-items.ensures
     c.loop-index-test.false in
-    let has = all_put world plan val c.loop-index.index c.loop-index.gathered enough c.loop-index.invariant.put in
-    let html = c.in_ok-html.ensures.made (record { is = c.requires.plan; made = refl }) in
-    on_ok_both c.put-2.result _ _ _
-    (contents_put world plan val c.in_ok-contents_name.field-0 c.in_ok-html.html c.put-2.new.self
-    c.in_ok-contents_name.ensures html)
-    (c.put-2.ensures.pages (map (λ (p : PagePlan). p.name) plan.pages) (page_parts rooms world plan val)
-    (contents_part world plan) has.put (ap (λ (h : Html). h.bytes) (sym html)))
-    (c.put-2.ensures.faults _ has.good)
+    all_put g.S.Since.stand.world c.args.ground.plan.now (option_copied c.args.ground.val) c.loop-index.index
+    c.loop-index.gathered enough c.loop-index.invariant.put
+
+pub returns : goal.returns
+returns g c = c.put_contents.ensures
