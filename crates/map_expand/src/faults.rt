@@ -23,10 +23,22 @@ pub(crate) fn append_ignored(
     ensures { OnOk result (faults.new ≡ faults.old
         ++ included_spec.ignored_references (walk_spec.element_of name.now element.now)) }
 {
-    if let Some(value) = element.value_of("conref") {
-        faults.push(fault_at(alloc, name, element, FaultCode::MapConref, value)?)?;
-    }
-    if let Some(value) = element.value_of("conkeyref") {
+    append_ignored_by(alloc, faults, name, element, "conref")?;
+    append_ignored_by(alloc, faults, name, element, "conkeyref")
+}
+
+// Appends a fault if the element has a content reference by this attribute.
+fn append_ignored_by(
+    alloc: Global,
+    faults: &mut List<Fault>,
+    name: &Name,
+    element: &Node,
+    attribute: &str,
+) -> Result<(), NoMemory>
+    ensures { OnOk result (faults.new ≡ faults.old ++ included_spec.ignored_by attribute.now
+        (walk_spec.element_of name.now element.now)) }
+{
+    if let Some(value) = element.value_of(attribute) {
         faults.push(fault_at(alloc, name, element, FaultCode::MapConref, value)?)?;
     }
     Ok(())
