@@ -1,6 +1,6 @@
 //! Scripts with their faults and their requests, derived by hand from the rules of scripts.
 
-use dita_doc::{Body, List, Name, Request, Stop};
+use dita_doc::{Body, Edit, List, Name, Request, Stop};
 use script_text::{ScriptCode, ScriptFault, read_script};
 use std::alloc::{AllocError, Global};
 use std::test::Fail;
@@ -45,16 +45,8 @@ fn shown(alloc: Global, bytes: &[u8]) -> Result<Option<List<u8>>, AllocError> {
 
 fn append_request(alloc: Global, text: &mut List<u8>, request: &Request) -> Result<(), AllocError> {
     match request {
-        Request::Put(name, body) => {
-            append_name(text, b" put ", name)?;
-            append_body(text, body)
-        }
-        Request::PutIf(version, name, body) => {
-            let version = format!(in alloc; " putif {version}")?;
-            text.append(version.as_bytes())?;
-            append_name(text, b" ", name)?;
-            append_body(text, body)
-        }
+        Request::Put(name, body) => append_put(text, name, body),
+        Request::PutIf(version, name, body) => append_put_if(alloc, text, *version, name, body),
         Request::Remove(name) => append_name(text, b" remove ", name),
         Request::Get(name) => append_name(text, b" get ", name),
         Request::Names => text.append(b" names"),
@@ -65,8 +57,41 @@ fn append_request(alloc: Global, text: &mut List<u8>, request: &Request) -> Resu
                 None => Ok(()),
             }
         }
+        Request::Group(edits) => {
+            text.append(b" group")?;
+            for edit in edits.as_slice() {
+                append_edit(alloc, text, edit)?;
+            }
+            text.append(b" end")
+        }
     }?;
     text.append(b"\n")
+}
+
+fn append_edit(alloc: Global, text: &mut List<u8>, edit: &Edit) -> Result<(), AllocError> {
+    match edit {
+        Edit::Put(name, body) => append_put(text, name, body),
+        Edit::PutIf(version, name, body) => append_put_if(alloc, text, *version, name, body),
+        Edit::Remove(name) => append_name(text, b" remove ", name),
+    }
+}
+
+fn append_put(text: &mut List<u8>, name: &Name, body: &Body) -> Result<(), AllocError> {
+    append_name(text, b" put ", name)?;
+    append_body(text, body)
+}
+
+fn append_put_if(
+    alloc: Global,
+    text: &mut List<u8>,
+    version: u64,
+    name: &Name,
+    body: &Body,
+) -> Result<(), AllocError> {
+    let version = format!(in alloc; " putif {version}")?;
+    text.append(version.as_bytes())?;
+    append_name(text, b" ", name)?;
+    append_body(text, body)
 }
 
 fn append_name(text: &mut List<u8>, word: &[u8], name: &Name) -> Result<(), AllocError> {
@@ -161,6 +186,7 @@ fn requests_are_at_most_65536(rt: HostRuntime) -> Result<(), Fail> {
     let rows = [
         // A put is counted where it begins.
         (b"1 put a\n-x\n".as_slice(), ScriptCode::TooManyRequests),
+        (b"1 group\nfly\n".as_slice(), ScriptCode::TooManyRequests),
         // What is wrong with the line itself comes first.
         (b"1 get ../a\n".as_slice(), ScriptCode::BadName),
     ];
@@ -214,6 +240,149 @@ fn forms_of_lines(rt: HostRuntime) -> Result<(), Fail> {
     ];
     for (text, read) in rows {
         assert!(rt; shown(alloc, text)? == same(alloc, read)?, "{text:?}");
+    }
+    Ok(())
+}
+
+#[test]
+fn a_group_is_its_edits(rt: HostRuntime) -> Result<(), Fail> {
+    let alloc = rt.alloc();
+    let rows = [
+        // A group may have none.
+        (b"1 group\nend\n".as_slice(), b"1 group end\n".as_slice()),
+        // The last LF may be missing, and words stand as in other lines.
+        (
+            b" 02  group \n remove  a \nend".as_slice(),
+            b"2 group remove a end\n".as_slice(),
+        ),
+        // Blank lines and comments are passed over; in a body they are lines of it, and so is `end`.
+        (
+            b"1 group\n\n# x\nput m/a\n(p\n)p\n.\n \t\nputif 007 b\n# y\n\nend\n.\nend\n1 names\n".as_slice(),
+            b"1 group put m/a[(p\n)p\n] read putif 7 b[# y\n\nend\n] kept end\n1 names\n".as_slice(),
+        ),
+        // Edits in the order of their lines, of one name too; and a group behind a group.
+        (
+            b"3 group\nremove a\nput a\n.\nremove a\nend\n4 group\nend\n4 remove b\n".as_slice(),
+            b"3 group remove a put a[] kept remove a end\n4 group end\n4 remove b\n".as_slice(),
+        ),
+    ];
+    for (text, read) in rows {
+        assert!(rt; shown(alloc, text)? == same(alloc, read)?, "{text:?}");
+    }
+    Ok(())
+}
+
+#[test]
+fn a_line_of_a_group_has_its_fault(rt: HostRuntime) -> Result<(), Fail> {
+    let alloc = rt.alloc();
+    let rows = [
+        (b"1 group x\nend\n".as_slice(), ScriptCode::BadCommand, 1),
+        // Only edits stand in a group, without a session.
+        (
+            b"1 group\nremove a\nget a\nend\n".as_slice(),
+            ScriptCode::BadCommand,
+            3,
+        ),
+        (
+            b"1 group\nnames\nend\n".as_slice(),
+            ScriptCode::BadCommand,
+            2,
+        ),
+        (
+            b"1 group\ngroup\nend\n".as_slice(),
+            ScriptCode::BadCommand,
+            2,
+        ),
+        (
+            b"1 group\n1 remove a\nend\n".as_slice(),
+            ScriptCode::BadCommand,
+            2,
+        ),
+        // The line of the end is that word alone.
+        (b"1 group\n end\n".as_slice(), ScriptCode::BadCommand, 2),
+        (b"1 group\nend \n".as_slice(), ScriptCode::BadCommand, 2),
+        (b"1 group\nend\r\n".as_slice(), ScriptCode::BadCommand, 2),
+        (b"1 group\n.\n".as_slice(), ScriptCode::BadCommand, 2),
+        // Outside a group this ends none.
+        (b"1 group\nend\nend\n".as_slice(), ScriptCode::BadNumber, 3),
+        (
+            b"1 group\nremove a b\n".as_slice(),
+            ScriptCode::BadCommand,
+            2,
+        ),
+        (
+            b"1 group\nputif x ../a\n".as_slice(),
+            ScriptCode::BadNumber,
+            2,
+        ),
+        (
+            b"1 group\nputif 1 ../a\n".as_slice(),
+            ScriptCode::BadName,
+            2,
+        ),
+        (b"1 group\nfly \xff\n".as_slice(), ScriptCode::NotUtf8, 2),
+    ];
+    for (text, code, line) in rows {
+        assert_eq!(rt; fault(alloc, text)?, at(code, line), "{text:?}");
+    }
+    Ok(())
+}
+
+#[test]
+fn a_group_without_end_has_a_fault(rt: HostRuntime) -> Result<(), Fail> {
+    let alloc = rt.alloc();
+    let rows = [
+        (b"1 group\n".as_slice(), ScriptCode::NoEnd, 1),
+        (b"1 group".as_slice(), ScriptCode::NoEnd, 1),
+        (
+            b"1 group\nremove a\n# end\n\n".as_slice(),
+            ScriptCode::NoEnd,
+            4,
+        ),
+        // This `end` is a line of the body.
+        (b"1 group\nput a\nend\n".as_slice(), ScriptCode::NoEnd, 3),
+        (b"1 group\nput a\nend\n.\n".as_slice(), ScriptCode::NoEnd, 4),
+        // The fault of the last line itself comes first.
+        (
+            b"1 group\nremove a\nget a\n".as_slice(),
+            ScriptCode::BadCommand,
+            3,
+        ),
+    ];
+    for (text, code, line) in rows {
+        assert_eq!(rt; fault(alloc, text)?, at(code, line), "{text:?}");
+    }
+    Ok(())
+}
+
+#[test]
+fn edits_of_a_group_are_at_most_1000(rt: HostRuntime) -> Result<(), Fail> {
+    let alloc = rt.alloc();
+    let mut text = List::from_slice(alloc, b"1 group\n")?;
+    text.append(repeated(alloc, b"remove a\n", 1_000)?.as_slice())?;
+    // Lines that are passed over are no edits.
+    text.append(b"# x\n\n")?;
+    let rows = [
+        (b"end\n".as_slice(), None),
+        // The next group begins with none.
+        (b"end\n1 group\nremove a\nend\n".as_slice(), None),
+        (
+            b"remove a\nend\n".as_slice(),
+            at(ScriptCode::TooManyEdits, 1_004),
+        ),
+        // A put is counted where it begins.
+        (
+            b"put a\n.\n".as_slice(),
+            at(ScriptCode::TooManyEdits, 1_004),
+        ),
+        // What is wrong with the line itself comes first.
+        (b"get a\n".as_slice(), at(ScriptCode::BadCommand, 1_004)),
+        (b"remove ../a\n".as_slice(), at(ScriptCode::BadName, 1_004)),
+    ];
+    for (last, found) in rows {
+        let mut longer = text.clone()?;
+        longer.append(last)?;
+        assert_eq!(rt; fault(alloc, longer.as_slice())?, found);
     }
     Ok(())
 }

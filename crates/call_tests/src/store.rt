@@ -1,10 +1,13 @@
 //! Requests with the replies that the rules give them, derived by hand.
 
 ghost use Rattle.std.specs.Prelude.{IfOk};
+ghost use Rattle.dita_doc.specs.Request as request_spec;
 ghost use Rattle.dita_doc.specs.Seen as seen_spec;
 
 use crate::given::name;
-use dita_doc::{Body, List, Name, PyxCode, PyxFault, Reply, Request, Sources, Stop};
+use dita_doc::{
+    Body, Edit, EditFault, List, Name, PyxCode, PyxFault, Reply, Request, Sources, Stop,
+};
 use pyx_text::read_body;
 use std::alloc::{AllocError, Global};
 use std::sync::Arc;
@@ -33,16 +36,50 @@ fn nothing(alloc: Global, name: &Name) -> Result<Body, AllocError>
 }
 
 fn put(alloc: Global, name: &Name) -> Result<Request, AllocError>
-    ensures { IfOk result (λ request. seen_spec.HasOwnOrigin request) }
+    ensures origin { IfOk result (λ request. seen_spec.HasOwnOrigin request) }
+    ensures edits { IfOk result (λ request. request_spec.HasFewEdits
+        (seen_spec.request_seen request)) }
 {
     Ok(Request::Put(name.clone()?, element(alloc, name)?))
 }
 
 fn put_if(alloc: Global, version: u64, name: &Name) -> Result<Request, AllocError>
-    ensures { IfOk result (λ request. seen_spec.HasOwnOrigin request) }
+    ensures origin { IfOk result (λ request. seen_spec.HasOwnOrigin request) }
+    ensures edits { IfOk result (λ request. request_spec.HasFewEdits
+        (seen_spec.request_seen request)) }
 {
     let body = element(alloc, name)?;
     Ok(Request::PutIf(version, name.clone()?, body))
+}
+
+// The group that removes one name, and puts a text under another one at this version.
+fn remove_and_put_if(
+    alloc: Global,
+    gone: &Name,
+    version: u64,
+    name: &Name,
+) -> Result<Request, AllocError>
+    ensures origin { IfOk result (λ request. seen_spec.HasOwnOrigin request) }
+    ensures edits { IfOk result (λ request. request_spec.HasFewEdits
+        (seen_spec.request_seen request)) }
+{
+    let mut edits = List::new(alloc);
+    edits.push(Edit::Remove(gone.clone()?))?;
+    let body = element(alloc, name)?;
+    edits.push(Edit::PutIf(version, name.clone()?, body))?;
+    Ok(Request::Group(edits))
+}
+
+// The group that puts a text under a name, and removes it again.
+fn put_and_remove(alloc: Global, name: &Name) -> Result<Request, AllocError>
+    ensures origin { IfOk result (λ request. seen_spec.HasOwnOrigin request) }
+    ensures edits { IfOk result (λ request. request_spec.HasFewEdits
+        (seen_spec.request_seen request)) }
+{
+    let mut edits = List::new(alloc);
+    edits.push(Edit::Put(name.clone()?, element(alloc, name)?))?;
+    edits.push(Edit::Remove(name.clone()?))?;
+    Ok(Request::Group(edits))
 }
 
 // What a reply tells: its number or its fault, whether its bytes are the text that was stored, and
@@ -57,6 +94,8 @@ enum Told {
     Text(bool),
     Names(usize),
     Begun,
+    Grouped(u32),
+    Stopped(u32, EditFault),
     Other,
 }
 
@@ -70,12 +109,15 @@ fn told_by(reply: &Reply) -> Told {
         Reply::Bytes(bytes) => Told::Text(bytes.as_slice() == TEXT),
         Reply::NameList(names) => Told::Names(names.len()),
         Reply::Begun => Told::Begun,
+        Reply::Grouped(edits) => Told::Grouped(*edits),
+        Reply::Stopped(number, fault) => Told::Stopped(*number, *fault),
         _ => Told::Other,
     }
 }
 
 fn ask(store: &mut Store, alloc: Global, request: Request) -> Result<Told, AllocError>
-    requires { seen_spec.HasOwnOrigin request }
+    requires origin { seen_spec.HasOwnOrigin request }
+    requires edits { request_spec.HasFewEdits (seen_spec.request_seen request) }
 {
     match store.answer_with_reply(alloc, 1, 1, request) {
         Ok((_, reply)) => Ok(told_by(&reply)),
@@ -130,9 +172,60 @@ fn what_is_removed_is_gone(rt: HostRuntime) -> Result<(), Fail> {
     Ok(())
 }
 
+#[test]
+fn a_group_that_is_refused_leaves_everything(rt: HostRuntime) -> Result<(), Fail> {
+    let alloc = rt.alloc();
+    let a = name(alloc, "a")?;
+    let b = name(alloc, "b")?;
+    let mut store = stored(alloc, &a)?;
+    let request = remove_and_put_if(alloc, &a, 1, &b)?;
+    let conflict = EditFault::Conflict(0);
+    assert!(rt; ask(&mut store, alloc, request)? == Told::Stopped(2, conflict));
+    assert!(rt; version_of(store.sources(), &a) == Some(1));
+    assert!(rt; version_of(store.sources(), &b) == None);
+    let request = remove_and_put_if(alloc, &b, 0, &a)?;
+    assert!(rt; ask(&mut store, alloc, request)? == Told::Stopped(1, EditFault::Absent));
+    Ok(())
+}
+
+#[test]
+fn the_edits_of_a_group_have_its_version(rt: HostRuntime) -> Result<(), Fail> {
+    let alloc = rt.alloc();
+    let a = name(alloc, "a")?;
+    let b = name(alloc, "b")?;
+    let mut store = stored(alloc, &a)?;
+    let request = remove_and_put_if(alloc, &a, 0, &b)?;
+    assert!(rt; ask(&mut store, alloc, request)? == Told::Grouped(2));
+    assert!(rt; version_of(store.sources(), &a) == None);
+    assert!(rt; version_of(store.sources(), &b) == Some(2));
+    assert!(rt; ask(&mut store, alloc, Request::Names)? == Told::Names(1));
+    Ok(())
+}
+
+#[test]
+fn an_edit_of_a_group_sees_those_before_it(rt: HostRuntime) -> Result<(), Fail> {
+    let alloc = rt.alloc();
+    let a = name(alloc, "a")?;
+    let b = name(alloc, "b")?;
+    let mut store = stored(alloc, &a)?;
+    let request = Request::Group(List::new(alloc));
+    assert!(rt; ask(&mut store, alloc, request)? == Told::Grouped(0));
+    let request = put_and_remove(alloc, &b)?;
+    assert!(rt; ask(&mut store, alloc, request)? == Told::Grouped(2));
+    assert!(rt; version_of(store.sources(), &a) == Some(1));
+    assert!(rt; version_of(store.sources(), &b) == None);
+    Ok(())
+}
+
 const FULL: Full = Full {
     entries: 1,
     bytes: 1,
+};
+
+// Of a history without an entry.
+const NOTHING: Full = Full {
+    entries: 0,
+    bytes: 0,
 };
 
 #[test]
@@ -153,6 +246,21 @@ fn a_history_of_one_byte_answers_what_takes_none(rt: HostRuntime) -> Result<(), 
     assert!(rt; short.answer(alloc, 1, 1, Request::Get(a.clone()?)) == Ok(0));
     assert!(rt; short.answer(alloc, 1, 2, Request::Get(a)) == Err(Stop::Fault(FULL)));
     assert!(rt; short.answer(alloc, 1, 2, Request::Names) == Ok(1));
+    Ok(())
+}
+
+#[test]
+fn all_edits_of_a_group_are_counted(rt: HostRuntime) -> Result<(), Fail> {
+    let alloc = rt.alloc();
+    let a = name(alloc, "a")?;
+    let b = name(alloc, "b")?;
+    // Two names of one byte, and a text of six.
+    let mut short = Store::with_limits(alloc, 9, 7).map_err(|_| AllocError)?;
+    let request = remove_and_put_if(alloc, &a, 0, &b)?;
+    assert!(rt; short.answer(alloc, 1, 1, request) == Err(Stop::Fault(NOTHING)));
+    let mut enough = Store::with_limits(alloc, 9, 8).map_err(|_| AllocError)?;
+    let request = remove_and_put_if(alloc, &a, 0, &b)?;
+    assert!(rt; enough.answer(alloc, 1, 1, request) == Ok(0));
     Ok(())
 }
 

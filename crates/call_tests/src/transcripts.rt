@@ -6,8 +6,8 @@ ghost use Rattle.transcript_text.specs.Written as written_spec;
 
 use crate::given::{name, text};
 use dita_doc::{
-    Entry, Fault, FaultCode, List, Part, PlanStop, PyxCode, PyxFault, Read, Reply, Request, Stop,
-    is_utf8,
+    EditFault, Entry, Fault, FaultCode, List, Part, PlanStop, PyxCode, PyxFault, Read, Reply,
+    Request, Stop, is_utf8,
 };
 use std::alloc::{AllocError, Global};
 use std::sync::Arc;
@@ -91,6 +91,39 @@ fn replies_are_written(rt: HostRuntime) -> Result<(), Fail> {
             "refused TextOutside 12\n"
         )?
     );
+    Ok(())
+}
+
+#[test]
+fn groups_are_written(rt: HostRuntime) -> Result<(), Fail> {
+    let alloc = rt.alloc();
+    let fault = PyxFault {
+        code: PyxCode::TooDeep,
+        line: 4_294_967_295,
+    };
+    let rows = [
+        (Reply::Grouped(0), "grouped 0\n"),
+        (Reply::Grouped(1000), "grouped 1000\n"),
+        (
+            Reply::Stopped(3, EditFault::Refused(fault)),
+            "stopped 3 refused TooDeep 4294967295\n",
+        ),
+        (
+            Reply::Stopped(1, EditFault::Conflict(20)),
+            "stopped 1 conflict 20\n",
+        ),
+        (
+            Reply::Stopped(1000, EditFault::Absent),
+            "stopped 1000 absent\n",
+        ),
+        (
+            Reply::Stopped(2, EditFault::TooManyNames(10000)),
+            "stopped 2 toomanynames 10000\n",
+        ),
+    ];
+    for (reply, expected) in rows {
+        assert!(rt; writes(alloc, reply, None, expected)?, "{expected:?}");
+    }
     Ok(())
 }
 
@@ -227,6 +260,32 @@ fn tells_its_lines(entry: &EntryText) -> bool {
 }
 
 #[test]
+fn groups_tell_their_words(rt: HostRuntime) -> Result<(), Fail> {
+    let rows = [
+        "grouped 0",
+        "grouped 4294967295",
+        "stopped 0 absent",
+        "stopped 4294967295 conflict 18446744073709551615",
+        "stopped 12 refused TooDeep 0",
+        "stopped 1 toomanynames 10000",
+    ];
+    for reply in rows {
+        let text = format!(in rt.alloc(); "dita transcript 1\nentry 4 1 5 {reply}\nend 1 0 0\n")?;
+        let transcript = read(rt.alloc(), text.as_str())?;
+        assert!(rt; is_alone(transcript.entries.as_slice(), reply), "{reply:?}");
+    }
+    Ok(())
+}
+
+// Whether there is one entry, with this reply and no lines.
+fn is_alone(entries: &[EntryText], reply: &str) -> bool {
+    match entries {
+        [entry] => is_entry(entry, (4, 1, 5), reply, 0),
+        _ => false,
+    }
+}
+
+#[test]
 fn rows_tell_their_keys(rt: HostRuntime) -> Result<(), Fail> {
     let text = "dita transcript 1\nrow 2 page m.ditamap - 4 2\n|<p>\n||\n\
         row 2 contents m.ditamap d.ditaval 0 0\nend 0 2 0\n";
@@ -315,6 +374,58 @@ fn a_fault_has_its_line(rt: HostRuntime) -> Result<(), Fail> {
         text.append(rest)?;
         let found = fault(alloc, text.as_slice())?;
         assert_eq!(rt; found, Some(BadTranscript { line }), "{rest:?}");
+    }
+    Ok(())
+}
+
+// Replies that are none, each of the second of three entries.
+#[test]
+fn other_words_of_groups_are_no_reply(rt: HostRuntime) -> Result<(), Fail> {
+    let alloc = rt.alloc();
+    let rows = [
+        "grouped",
+        "grouped ",
+        "grouped 01",
+        "grouped +1",
+        "grouped 4294967296",
+        "grouped 1 1",
+        "stopped",
+        "stopped 1",
+        "stopped absent",
+        "stopped 01 absent",
+        "stopped 4294967296 absent",
+        "stopped 1 absent ",
+        "stopped 1 stored 2",
+        "stopped 1 noditaval",
+        "stopped 1 stopped 1 absent",
+        "stopped 1 grouped 1",
+        "stopped 1 conflict",
+        "stopped 1 conflict 18446744073709551616",
+        "stopped 1 refused TooDeep",
+        "stopped 1 refused TooDeep 4294967296",
+        "stopped 1 refused NoClass 1",
+        "stopped 1 refused TooDeep 1 1",
+        "stopped 1 toomanynames 9999",
+    ];
+    for reply in rows {
+        let text = format!(in alloc;
+            "dita transcript 1\nentry 0 1 1 absent\nentry 1 1 2 {reply}\nentry 2 1 3 absent\n\
+            end 3 0 0\n"
+        )?;
+        let found = fault(alloc, text.as_bytes())?;
+        assert_eq!(rt; found, Some(BadTranscript { line: 3 }), "{reply:?}");
+    }
+    Ok(())
+}
+
+// No line stands below the reply to a group.
+#[test]
+fn a_line_below_a_group_has_its_fault(rt: HostRuntime) -> Result<(), Fail> {
+    let alloc = rt.alloc();
+    for reply in ["grouped 1", "stopped 1 absent"] {
+        let text = format!(in alloc; "dita transcript 1\nentry 0 1 1 {reply}\n|a\nend 1 0 0\n")?;
+        let found = fault(alloc, text.as_bytes())?;
+        assert_eq!(rt; found, Some(BadTranscript { line: 3 }), "{reply:?}");
     }
     Ok(())
 }

@@ -12,10 +12,10 @@ use Rattle.fault_report.specs.Report.{IsAmong}
 use Rattle.map_spec.specs.Included.{root_in}
 use Rattle.map_spec.specs.Titles.{title_in}
 use Rattle.map_spec.specs.Written.{Whole}
-use Rattle.page_spec.specs.Anchors.{anchor_faults, anchors, element_links}
-use Rattle.page_spec.specs.Blocks.{body_html}
-use Rattle.page_spec.specs.Content.{resolved_page}
-use Rattle.page_spec.specs.PageHtml.{page_text, page_within, too_large}
+use Rattle.html_spec.specs.Anchors.{anchor_faults, anchors, element_links}
+use Rattle.html_spec.specs.Blocks.{body_html}
+use Rattle.conref_spec.specs.Content.{resolved_page}
+use Rattle.html_spec.specs.PageHtml.{page_text, page_within, too_large}
 use Rattle.part_spec.specs.Parts.{here_of, links_of, no_html, rooms, setting_of, too_many}
 use Rattle.reader_spec.specs.World.{World}
 use Rattle.clean_build.specs.Made.{page_behind, page_of_root}

@@ -14,9 +14,9 @@ use Rattle.dita_doc.specs.declared.plan.Context.{Context}
 use Rattle.doc_maker.specs.Made.{resolved_tree, written_from}
 use Rattle.html_blocks.specs.Body.{AreNodesOf, with_own_hrefs}
 use Rattle.map_spec.specs.Written.{Element, Written, Chars, Node}
-use Rattle.page_spec.specs.Anchors.{Here, anchor_faults, anchors, element_links}
-use Rattle.page_spec.specs.Blocks.{body_html}
-use Rattle.page_spec.specs.Content.{Made}
+use Rattle.html_spec.specs.Anchors.{Here, anchor_faults, anchors, element_links}
+use Rattle.html_spec.specs.Blocks.{body_html}
+use Rattle.conref_spec.specs.Content.{Made}
 use Rattle.readers.specs.Founded.{AreAllowed, Grows, StaysFounded, homes, is_allowed, is_among}
 use Rattle.readers.specs.Named.{linked_in, named}
 use Rattle.readers.specs.Setting.{Stand}

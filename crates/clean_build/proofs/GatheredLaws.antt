@@ -9,7 +9,7 @@ use Rattle.std.proofs.lemmas.List.{length-append, map-append}
 use Rattle.std.proofs.lemmas.List.Sums.{sum_by_push}
 use Rattle.build_spec.specs.Built.{Page, Done, TooLarge}
 use Rattle.clean_build.specs.Clean.{HasPageName, Made, page_seen}
-use Rattle.language_laws.specs.PageNames.{IsPageName}
+use Rattle.build_plan.specs.PageNames.{IsPageName}
 use Rattle.dita_doc.specs.declared.fact.Html.{Html}
 use Rattle.dita_doc.specs.declared.fault.Fault.{Fault}
 use Rattle.dita_doc.specs.declared.plan.Plan.{Plan}

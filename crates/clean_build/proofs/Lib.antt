@@ -1,4 +1,5 @@
 pub mod BehindLaws
+pub mod AskLaws
 pub mod BodyLaws
 pub mod FoundLaws
 pub mod GatheredLaws

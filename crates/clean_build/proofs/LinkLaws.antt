@@ -18,7 +18,7 @@ use Rattle.dita_doc.specs.declared.plan.Plan.{Plan}
 use Rattle.href_text.specs.Joined.{relative_path}
 use Rattle.map_spec.specs.Titles.{title_in}
 use Rattle.node_links.specs.NodeTable.{links_by_nodes, node_links}
-use Rattle.page_spec.specs.Links.{LinkTo, family_links, links_of_kind, page_link, page_links, row_links, to_each_once}
+use Rattle.link_spec.specs.Links.{LinkTo, family_links, links_of_kind, page_link, page_links, row_links, to_each_once}
 use Rattle.part_spec.specs.Parts.{hrefs_once, links_of}
 use Rattle.reader_spec.specs.World.{World}
 use Rattle.clean_build.proofs.OnceLaws.{both_swap, filter_both, has_other, other_passes}

@@ -20,10 +20,10 @@ use Rattle.map_spec.specs.Included.{root_in}
 use Rattle.map_spec.specs.Titles.{title_in}
 use Rattle.map_spec.specs.Written.{Whole}
 use Rattle.node_links.specs.NodeTable.{node_links}
-use Rattle.page_spec.specs.Anchors.{element_links}
-use Rattle.page_spec.specs.Content.{Made, count_limit, resolved_page}
-use Rattle.page_spec.specs.Links.{row_faults}
-use Rattle.page_spec.specs.PageHtml.{page_html}
+use Rattle.html_spec.specs.Anchors.{element_links}
+use Rattle.conref_spec.specs.Content.{Made, count_limit, resolved_page}
+use Rattle.link_spec.specs.Links.{row_faults}
+use Rattle.html_spec.specs.PageHtml.{page_html}
 use Rattle.part_spec.specs.Parts.{here_of, hrefs_once, no_html, page_part, rooms, rules_of, setting_of, too_many}
 use Rattle.reader_spec.specs.World.{World}
 use Rattle.clean_build.specs.Bodies.{IsBodyMade, body_of, content_of}

@@ -7,7 +7,7 @@ use Rattle.std.proofs.lemmas.List.{flat_map_more, length-map, take_all, take_mor
 use Rattle.std.proofs.lemmas.Option.{get_or_from_slice_get, slice_get-map, slice_get_within}
 use Rattle.build_spec.specs.Built.{Stopped}
 use Rattle.clean_build.specs.Clean.{clean_seen}
-use Rattle.language_laws.specs.PageNames.{IsPageName}
+use Rattle.build_plan.specs.PageNames.{IsPageName}
 use Rattle.clean_build.specs.declared.built.Clean.{Clean}
 use Rattle.dita_doc.specs.Gives.{GivesSeen}
 use Rattle.dita_doc.specs.declared.fact.Html.{Html}
@@ -18,11 +18,11 @@ use Rattle.dita_doc.specs.declared.plan.PlanStop.{PlanStop}
 use Rattle.dita_doc.specs.declared.stop.Stop.{Stop}
 use Rattle.dita_doc.specs.declared.stop.Stop.TheVariants as stops
 use Rattle.fault_report.specs.Report.{IsAmong}
-use Rattle.language_laws.proofs.FitLaws.{plan_short}
+use Rattle.build_plan.proofs.FitLaws.{plan_short}
 use Rattle.map_spec.specs.Pages.{contents_name}
 use Rattle.map_spec.specs.PlanOf.{limits, plan_of}
 use Rattle.map_spec.specs.Scopes.{places_from}
-use Rattle.page_spec.specs.Links.{row_faults}
+use Rattle.link_spec.specs.Links.{row_faults}
 use Rattle.part_spec.specs.Parts.{build_by, clean_build, contents_part, faults_of, names_of, page_part, page_parts, parts_of, rooms, total_limit}
 use Rattle.reader_spec.specs.World.{World}
 use Rattle.clean_build.specs.Gathering.{AreAsGood, HasGathered, HasPages, HasPagesOf, HasPartsOf, IsBuilt, faults_before, faults_of_each}

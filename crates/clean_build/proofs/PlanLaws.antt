@@ -24,8 +24,8 @@ use Rattle.reader_spec.specs.World.{World}
 use Rattle.build_plan.specs.Stages.{IsMapTree}
 use Rattle.build_plan.proofs.TreeLaws.{copied_tree, filtered_tree, included_tree, one_root}
 use Rattle.toc_page.specs.Made.{AreOnce}
-use Rattle.language_laws.specs.PageNames.{IsItsOwn}
-use Rattle.language_laws.proofs.UseLaws.{pages_own}
+use Rattle.build_plan.specs.PageNames.{IsItsOwn}
+use Rattle.build_plan.proofs.UseLaws.{pages_own}
 use Rattle.clean_build.proofs.TopicLaws.{AreOfTopics, pages_of_topics}
 
 -- what a plan names is what is defined of its own nodes

@@ -11,7 +11,7 @@ use Rattle.dita_doc.specs.declared.plan.Plan.{Plan}
 use Rattle.fault_report.specs.Report.{IsAmong}
 use Rattle.map_spec.specs.Pages.{local_name}
 use Rattle.map_spec.specs.Scopes.{places}
-use Rattle.page_spec.specs.Links.{cell_of, has_page, lost_in, row_faults, rows, target_of}
+use Rattle.link_spec.specs.Links.{cell_of, has_page, lost_in, row_faults, rows, target_of}
 use Rattle.reltable_links.proofs.ListLaws.{any_here, any_where}
 use Rattle.reltable_links.specs.CellTable.{is_below, is_lost, is_lost_below}
 use Rattle.reltable_links.specs.RowTable.{cell_faults, lost_fault}

@@ -14,7 +14,7 @@ use Rattle.map_spec.specs.Scopes.{places}
 use Rattle.map_spec.specs.Titles.{kind_in, kind_of_document, kind_of_root}
 use Rattle.map_spec.specs.Written.{Whole, Written, document, first_sibling}
 use Rattle.reader_spec.specs.World.{World}
-use Rattle.language_laws.proofs.UseLaws.{all_that_stay, page_holds}
+use Rattle.build_plan.proofs.UseLaws.{all_that_stay, page_holds}
 
 -- a document of topics
 abbrev pub is_of_topics : World → List ℕ → Bool

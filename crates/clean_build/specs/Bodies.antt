@@ -9,10 +9,10 @@ use Rattle.dita_doc.specs.declared.fault.Fault.{Fault}
 use Rattle.dita_doc.specs.declared.plan.Context.{Context}
 use Rattle.dita_doc.specs.declared.plan.PagePlan.{PagePlan}
 use Rattle.dita_doc.specs.declared.plan.Plan.{Plan}
-use Rattle.page_spec.specs.Anchors.{Here, anchor_faults, anchors, element_links}
-use Rattle.page_spec.specs.Blocks.{body_html}
-use Rattle.page_spec.specs.Content.{Made}
-use Rattle.page_spec.specs.Pushes.{pushed}
+use Rattle.html_spec.specs.Anchors.{Here, anchor_faults, anchors, element_links}
+use Rattle.html_spec.specs.Blocks.{body_html}
+use Rattle.conref_spec.specs.Content.{Made}
+use Rattle.map_spec.specs.Pushes.{pushed}
 use Rattle.part_spec.specs.Parts.{here_of}
 use Rattle.reader_spec.specs.World.{World}
 use Rattle.clean_build.specs.Tables.{made_for}

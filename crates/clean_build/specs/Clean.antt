@@ -5,7 +5,7 @@ use Rattle.std.specs.List.{All}
 use Rattle.std.specs.declared.alloc.Global.{Global}
 use Rattle.std.specs.declared.sync.Arc.{Arc}
 use Rattle.build_spec.specs.Built.{Built, Page, Done, Stopped, TooLarge}
-use Rattle.language_laws.specs.PageNames.{IsPageName}
+use Rattle.build_plan.specs.PageNames.{IsPageName}
 use Rattle.clean_build.specs.declared.built.Clean.{Clean}
 use Rattle.clean_build.specs.declared.built.Clean.TheVariants as given
 use Rattle.dita_doc.specs.declared.fact.Html.{Html}

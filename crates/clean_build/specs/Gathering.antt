@@ -3,14 +3,14 @@
 use Rattle.std.specs.Prelude.{◌≡◌, ◌++◌, ℕ, true, List, [], ◌∷◌, Option, length, map, nat_le, take}
 use Rattle.std.specs.List.{AllByRecursion, flat_map}
 use Rattle.clean_build.specs.Clean.{HasPageNames, clean_seen, page_seen}
-use Rattle.language_laws.specs.PageNames.{IsPageName}
+use Rattle.build_plan.specs.PageNames.{IsPageName}
 use Rattle.clean_build.specs.declared.built.Clean.{Clean}
 use Rattle.dita_doc.specs.declared.fact.Html.{Html}
 use Rattle.dita_doc.specs.declared.fault.Fault.{Fault}
 use Rattle.dita_doc.specs.declared.plan.PagePlan.{PagePlan}
 use Rattle.dita_doc.specs.declared.plan.Plan.{Plan}
 use Rattle.fault_report.specs.Report.{IsAmong}
-use Rattle.page_spec.specs.Links.{row_faults}
+use Rattle.link_spec.specs.Links.{row_faults}
 use Rattle.part_spec.specs.Parts.{build_of, names_of, page_parts, pages_with, parts_of, rooms, total_limit, total_of}
 use Rattle.reader_spec.specs.World.{World}
 use Rattle.clean_build.specs.declared.gathered.Gathered.{Gathered}

@@ -11,9 +11,9 @@ use Rattle.map_spec.specs.Titles.{title_in}
 use Rattle.map_spec.specs.Written.{Whole}
 use Rattle.node_links.specs.NodeTable.{AreNodeLinks}
 use Rattle.node_links.specs.declared.table.NodeLinks.{NodeLinks}
-use Rattle.page_spec.specs.Anchors.{element_links}
-use Rattle.page_spec.specs.Content.{Made, resolved_page}
-use Rattle.page_spec.specs.PageHtml.{page_within}
+use Rattle.html_spec.specs.Anchors.{element_links}
+use Rattle.conref_spec.specs.Content.{Made, resolved_page}
+use Rattle.html_spec.specs.PageHtml.{page_within}
 use Rattle.part_spec.specs.Parts.{Rooms, contents_part, here_of, links_of, no_html, rooms, setting_of, too_many}
 use Rattle.reader_spec.specs.World.{World}
 use Rattle.readers.specs.Setting.{Setting}

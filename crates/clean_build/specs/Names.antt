@@ -2,6 +2,7 @@
 use Rattle.std.specs.Prelude.{ℕ, List, ◌∷◌, ◌++◌}
 use Rattle.std.specs.List.{filter_map, flat_map}
 use Rattle.std.specs.Option.{option_copied, option_to_list}
+use Rattle.conref_pull.specs.Rules.{ditavals}
 use Rattle.dita_doc.specs.declared.plan.PagePlan.{PagePlan}
 use Rattle.dita_doc.specs.declared.plan.Plan.{Plan}
 use Rattle.map_spec.specs.Pages.{local_name}
@@ -24,6 +25,10 @@ names_of_plan plan = homes plan.nodes ++ (filter_map local_name plan.targets
 abbrev pub names_of : Ground → List (List ℕ)
 names_of given = option_to_list (option_copied given.val) ++ names_of_plan given.plan.now
 
+-- the document of a page and the DITAVALs by which its content is filtered
+abbrev pub names_of_content : Ground → PagePlan → List (List ℕ)
+names_of_content given page = page.id.doc ∷ ditavals (option_copied given.val) page.id.filters
+
 -- What each work is about
 
 abbrev pub about_links : LinksWork → List (List ℕ)
@@ -34,3 +39,14 @@ about_contents work = names_of work.ground
 
 abbrev pub about_page : PageWork → List (List ℕ)
 about_page work = names_of_page work.page.now ++ names_of work.ground
+
+-- What each work asks for as a whole
+
+abbrev pub documents_of_links : LinksWork → List (List ℕ)
+documents_of_links work = homes work.ground.plan.now.nodes
+
+abbrev pub documents_of_contents : ContentsWork → List (List ℕ)
+documents_of_contents work = homes work.ground.plan.now.nodes
+
+abbrev pub documents_of_page : PageWork → List (List ℕ)
+documents_of_page work = names_of_content work.ground work.page.now

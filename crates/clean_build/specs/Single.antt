@@ -1,13 +1,15 @@
 -- Parts of a build that stand alone, in a world (own).
-use Rattle.std.specs.Prelude.{◌≡◌, ℕ, List, Option}
-use Rattle.std.specs.Option.{option_copied}
+use Rattle.std.specs.Prelude.{◌≡◌, ◌++◌, ℕ, List, [], Option, slice_get}
+use Rattle.std.specs.Option.{option_copied, option_map_or}
 use Rattle.dita_doc.specs.declared.fact.Html.{Html}
 use Rattle.dita_doc.specs.declared.plan.Plan.{Plan}
 use Rattle.part_spec.specs.Parts.{contents_part, page_part, rooms}
 use Rattle.reader_spec.specs.World.{World}
+use Rattle.readers.specs.Founded.{homes}
 use Rattle.readers.specs.Setting.{Setting}
 use Rattle.clean_build.specs.Ground.{IsReady}
-use Rattle.clean_build.specs.Names.{names_of}
+use Rattle.clean_build.specs.Names.{names_of, names_of_content}
+use Rattle.clean_build.specs.declared.ground.Ground.{Ground}
 use Rattle.clean_build.specs.declared.single_parts.Part.{Part}
 use Rattle.clean_build.specs.declared.single_parts.Part.TheVariants as parts
 use Rattle.clean_build.specs.declared.single_parts.PartWork.{PartWork}
@@ -22,3 +24,16 @@ MakesPart work world setting made = IsReady world work.ground setting
 
 abbrev pub about_part : PartWork → List (List ℕ)
 about_part work = names_of work.ground
+
+-- What is asked for as a whole. A page that stands alone finds the links of its plan for itself.
+
+abbrev pub documents_of_alone : Ground → ℕ → List (List ℕ)
+documents_of_alone given index = homes given.plan.now.nodes
+    ++ option_map_or (names_of_content given) (slice_get given.plan.now.pages index) []
+
+abbrev pub documents_for : Ground → Part → List (List ℕ)
+documents_for given (parts.Page index) = documents_of_alone given index
+documents_for given parts.Contents = homes given.plan.now.nodes
+
+abbrev pub documents_of_part : PartWork → List (List ℕ)
+documents_of_part work = documents_for work.ground work.part

@@ -7,7 +7,7 @@ use Rattle.key_layer.specs.Ready.{AreReady}
 use Rattle.key_scopes.specs.Made.{IsTableOf}
 use Rattle.page_table.specs.Pages.{IsPageTable}
 use Rattle.plan_layer.specs.Carried.{WereAllowed}
-use Rattle.plan_layer.specs.Made.{AreKept}
+use Rattle.pushed_docs.specs.Made.{AreKept}
 use Rattle.reader_spec.specs.World.{World, world_of}
 use Rattle.readers.specs.Setting.{Setting}
 use Rattle.readers.specs.Told.{Told, Knows}

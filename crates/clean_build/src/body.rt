@@ -4,11 +4,13 @@ ghost use Rattle.std.specs.Prelude.{◌≡◌, ◌++◌, ◌∷◌, ℕ, [], IfO
 ghost use Rattle.clean_build.specs.Bodies as bodies_spec;
 ghost use Rattle.clean_build.specs.Bodies.{AreKnown, IsBodyMade};
 ghost use Rattle.clean_build.specs.Tables.{made_for};
+ghost use Rattle.conref_pull.specs.Asking as asking_spec;
 ghost use Rattle.conref_pull.specs.Rules.{ditavals};
 ghost use Rattle.dita_doc.specs.declared.plan.PagePlan.{PagePlan};
-ghost use Rattle.page_spec.specs.Blocks as blocks_spec;
+ghost use Rattle.html_spec.specs.Blocks as blocks_spec;
 ghost use Rattle.part_spec.specs.Parts as parts_spec;
 ghost use Rattle.reader_spec.specs.World.{World};
+ghost use Rattle.readers.specs.Documents.{AsksOnly};
 ghost use Rattle.readers.specs.Founded as founded_spec;
 ghost use Rattle.readers.specs.Founded.{Grows, StaysFounded};
 ghost use Rattle.readers.specs.Told.{Agrees};
@@ -48,6 +50,9 @@ pub(crate) fn page_body<A: Asker>(
     ensures founded { StaysFounded (founded_spec.homes (A.stand asker.old).setting.nodes
         ++ context.now.page.doc ∷ ditavals context.now.val context.now.page.filters)
         (A.told asker.old) (A.told asker.new) }
+    ensures asks { AsksOnly asking_spec.of_content (context.now.page.doc
+        ∷ ditavals context.now.val context.now.page.filters) (A.told asker.old)
+        (A.told asker.new) }
     ensures stand { A.stand asker.new ≡ A.stand asker.old }
     ensures grows { Grows (A.told asker.old) (A.told asker.new) }
 {

@@ -3,8 +3,9 @@
 ghost use Rattle.std.specs.Prelude.{◌≡◌, ◌++◌, [], ℕ, List, IfOk};
 ghost use Rattle.clean_build.specs.Tables.{AreTables};
 ghost use Rattle.plan_layer.specs.Carried as carried_spec;
-ghost use Rattle.plan_layer.specs.Made.{AreKept};
+ghost use Rattle.pushed_docs.specs.Made.{AreKept};
 ghost use Rattle.reader_spec.specs.World.{World};
+ghost use Rattle.readers.specs.Documents.{AsksOnly, Follows};
 ghost use Rattle.readers.specs.Founded as founded_spec;
 ghost use Rattle.readers.specs.Founded.{Grows, StaysFounded};
 ghost use Rattle.readers.specs.Setting.{Setting};
@@ -12,7 +13,8 @@ ghost use Rattle.readers.specs.Told.{Agrees};
 
 use crate::build_tables::BuildTables;
 use dita_doc::{NoMemory, Plan};
-use plan_layer::{PlanLayer, PushedDocs, PushedMemo};
+use plan_layer::PlanLayer;
+use pushed_docs::{PushedDocs, PushedMemo};
 use readers::{Asker, Keys, Questions, Since};
 use std::alloc::Global;
 use std::marker::{Brand, PhantomData};
@@ -27,12 +29,20 @@ pub(crate) trait PlanWork {
     /// The documents that it asks about, beside those in which the reader's nodes stand.
     ghost about: { Self → List (List ℕ) };
 
+    /// The documents that it asks for as a whole, beside those that follow from answers.
+    ghost documents: { Self → List (List ℕ) };
+
+    /// The documents that follow from an answer.
+    ghost follows: { Self → Follows };
+
     fn run<A: Asker>(self, alloc: Global, asker: &mut A) -> Result<Self::Made, NoMemory>
         ensures known { (world : World) → Agrees world (A.told asker.new)
             → IfOk result (makes self world (A.stand asker.old).setting) }
         ensures founded { StaysFounded
             (founded_spec.homes (A.stand asker.old).setting.nodes ++ about self)
             (A.told asker.old) (A.told asker.new) }
+        ensures asks { AsksOnly (follows self) (documents self) (A.told asker.old)
+            (A.told asker.new) }
         ensures stand { A.stand asker.new ≡ A.stand asker.old }
         ensures grows { Grows (A.told asker.old) (A.told asker.new) };
 }

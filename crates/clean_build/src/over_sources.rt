@@ -2,7 +2,7 @@
 
 ghost use Rattle.std.specs.Prelude.{◌≡◌, [], IfOk};
 ghost use Rattle.clean_build.specs.Tables.{AreTables, GoesOn, made_for};
-ghost use Rattle.plan_layer.specs.Made.{AreKept};
+ghost use Rattle.pushed_docs.specs.Made.{AreKept};
 ghost use Rattle.reader_spec.specs.World.{World};
 ghost use Rattle.readers.specs.Told.{Agrees};
 
@@ -11,8 +11,9 @@ use crate::over_plan::PlanWork;
 use crate::over_titles::over_titles;
 use dita_doc::{NoMemory, Plan};
 use later_reader::LaterReader;
-use plan_layer::PushedDocs;
-use readers::{KnownTitles, Since, SourceReader, Titles};
+use pushed_docs::PushedDocs;
+use readers::{Since, Titles};
+use source_reader::{KnownTitles, SourceReader};
 use std::alloc::Global;
 use std::marker::PhantomData;
 

@@ -2,7 +2,7 @@
 
 ghost use Rattle.std.specs.Prelude.{◌≡◌, ◌++◌, [], IfOk};
 ghost use Rattle.clean_build.specs.Tables.{AreTables, made_for};
-ghost use Rattle.plan_layer.specs.Made.{AreKept};
+ghost use Rattle.pushed_docs.specs.Made.{AreKept};
 ghost use Rattle.reader_spec.specs.World.{World};
 ghost use Rattle.readers.specs.Founded as founded_spec;
 ghost use Rattle.readers.specs.Founded.{Grows, StaysFounded};
@@ -12,7 +12,7 @@ use crate::build_tables::BuildTables;
 use crate::over_plan::{PlanWork, over_plan};
 use dita_doc::{NoMemory, Plan};
 use key_layer::{KeyLayer, KeyMemo};
-use plan_layer::PushedDocs;
+use pushed_docs::PushedDocs;
 use readers::{Questions, Since, Titles};
 use std::alloc::Global;
 use std::marker::{Brand, PhantomData};

@@ -6,11 +6,13 @@ ghost use Rattle.clean_build.specs.Ground.{IsReady};
 ghost use Rattle.clean_build.specs.Names as names_spec;
 ghost use Rattle.clean_build.specs.Single as single_spec;
 ghost use Rattle.build_plan.specs.Documents as documents_spec;
+ghost use Rattle.conref_pull.specs.Asking as asking_spec;
 ghost use Rattle.dita_doc.specs.declared.plan.Plan as plan_declared;
 ghost use Rattle.map_spec.specs.PlanOf as plan_spec;
 ghost use Rattle.node_links.specs.NodeTable.{AreNodeLinks};
 ghost use Rattle.part_spec.specs.Parts as parts_spec;
 ghost use Rattle.reader_spec.specs.World.{World};
+ghost use Rattle.readers.specs.Documents.{AsksOnly};
 ghost use Rattle.readers.specs.Founded as founded_spec;
 ghost use Rattle.readers.specs.Founded.{Grows, StaysFounded};
 ghost use Rattle.readers.specs.Told.{Agrees};
@@ -25,7 +27,7 @@ use build_plan::{Planned, planned};
 use conref_pull::Tables;
 use dita_doc::{Html, Name, NoMemory, Plan, Stop};
 use node_links::NodeLinks;
-use plan_layer::PushedDocs;
+use pushed_docs::PushedDocs;
 use readers::{Asker, Titles};
 use std::alloc::Global;
 use toc_page::contents;
@@ -173,12 +175,17 @@ struct PartWork<'p> {
 
 impl<'p> PlanWork for PartWork<'p> {
     ghost use Rattle.clean_build.specs.Single as single_spec;
+    ghost use Rattle.conref_pull.specs.Asking as asking_spec;
 
     type Made = Html;
 
     ghost makes = { single_spec.MakesPart };
 
     ghost about = { single_spec.about_part };
+
+    ghost documents = { single_spec.documents_of_part };
+
+    ghost follows = { λ work. asking_spec.of_content };
 
     fn run<A: Asker>(self, alloc: Global, asker: &mut A) -> Result<Html, NoMemory> {
         match self.part {
@@ -201,6 +208,9 @@ fn page_alone<A: Asker>(
         ground.entry.plan.now (option_copied ground.entry.val) index) }
     ensures founded { StaysFounded (founded_spec.homes (A.stand asker.old).setting.nodes
         ++ names_spec.names_of ground.entry) (A.told asker.old) (A.told asker.new) }
+    ensures asks { AsksOnly asking_spec.of_content
+        (single_spec.documents_of_alone ground.entry index) (A.told asker.old)
+        (A.told asker.new) }
     ensures stand { A.stand asker.new ≡ A.stand asker.old }
     ensures grows { Grows (A.told asker.old) (A.told asker.new) }
 {

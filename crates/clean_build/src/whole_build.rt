@@ -12,8 +12,8 @@ ghost use Rattle.map_spec.specs.PlanOf as plan_spec;
 ghost use Rattle.node_links.specs.NodeTable.{AreNodeLinks};
 ghost use Rattle.part_spec.specs.Parts as parts_spec;
 ghost use Rattle.reader_spec.specs.World.{World, world_of};
-ghost use Rattle.readers.specs.Noted.{told_alone};
 ghost use Rattle.readers.specs.Told.{Agrees, Knows};
+ghost use Rattle.source_reader.specs.Stored.{told_alone};
 
 use crate::build_tables::BuildTables;
 use crate::built::Clean;
@@ -25,9 +25,10 @@ use build_plan::{Planned, planned};
 use conref_pull::Tables;
 use dita_doc::{List, Name, NoMemory, Plan, Sources, Stop, Text, copy_faults};
 use node_links::NodeLinks;
-use plan_layer::PushedDocs;
 use plan_nodes::place_of;
-use readers::{KnownTitles, Questions, Since, SourceReader};
+use pushed_docs::PushedDocs;
+use readers::{Questions, Since};
+use source_reader::{KnownTitles, SourceReader};
 use std::alloc::{AllocError, Global};
 use std::marker::Brand;
 

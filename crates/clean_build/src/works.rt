@@ -6,12 +6,15 @@ ghost use Rattle.clean_build.specs.Made as made_spec;
 ghost use Rattle.clean_build.specs.Names as names_spec;
 ghost use Rattle.clean_build.specs.Bodies.{AreKnown, IsBodyMade};
 ghost use Rattle.clean_build.specs.Ground.{IsReady, context_for};
+ghost use Rattle.conref_pull.specs.Asking as asking_spec;
 ghost use Rattle.conref_pull.specs.Rules.{ditavals};
 ghost use Rattle.map_spec.specs.Titles.{title_in};
 ghost use Rattle.node_links.specs.NodeTable.{AreNodeLinks};
-ghost use Rattle.page_spec.specs.PageHtml as page_html_spec;
+ghost use Rattle.html_spec.specs.PageHtml as page_html_spec;
 ghost use Rattle.part_spec.specs.Parts as parts_spec;
 ghost use Rattle.reader_spec.specs.World.{World};
+ghost use Rattle.readers.specs.Documents as documents_spec;
+ghost use Rattle.readers.specs.Documents.{AsksOnly};
 ghost use Rattle.readers.specs.Founded as founded_spec;
 ghost use Rattle.readers.specs.Founded.{Grows, StaysFounded};
 ghost use Rattle.readers.specs.Told.{Agrees};
@@ -38,12 +41,17 @@ pub(crate) struct LinksWork<'p> {
 impl<'p> PlanWork for LinksWork<'p> {
     ghost use Rattle.clean_build.specs.Made as made_spec;
     ghost use Rattle.clean_build.specs.Names as names_spec;
+    ghost use Rattle.readers.specs.Documents as documents_spec;
 
     type Made = NodeLinks;
 
     ghost makes = { made_spec.MakesLinks };
 
     ghost about = { names_spec.about_links };
+
+    ghost documents = { names_spec.documents_of_links };
+
+    ghost follows = { λ work. documents_spec.nothing };
 
     fn run<A: Asker>(self, alloc: Global, asker: &mut A) -> Result<NodeLinks, NoMemory> {
         NodeLinks::of(alloc, asker, self.ground.plan)
@@ -59,12 +67,17 @@ pub(crate) struct ContentsWork<'p> {
 impl<'p> PlanWork for ContentsWork<'p> {
     ghost use Rattle.clean_build.specs.Made as made_spec;
     ghost use Rattle.clean_build.specs.Names as names_spec;
+    ghost use Rattle.readers.specs.Documents as documents_spec;
 
     type Made = Html;
 
     ghost makes = { made_spec.MakesContents };
 
     ghost about = { names_spec.about_contents };
+
+    ghost documents = { names_spec.documents_of_contents };
+
+    ghost follows = { λ work. documents_spec.nothing };
 
     fn run<A: Asker>(self, alloc: Global, asker: &mut A) -> Result<Html, NoMemory> {
         contents(alloc, asker, self.ground.plan)
@@ -93,12 +106,17 @@ pub(crate) struct PageMade {
 impl<'p, 'b> PlanWork for PageWork<'p, 'b> {
     ghost use Rattle.clean_build.specs.Made as made_spec;
     ghost use Rattle.clean_build.specs.Names as names_spec;
+    ghost use Rattle.conref_pull.specs.Asking as asking_spec;
 
     type Made = PageMade;
 
     ghost makes = { made_spec.MakesPage };
 
     ghost about = { names_spec.about_page };
+
+    ghost documents = { names_spec.documents_of_page };
+
+    ghost follows = { λ work. asking_spec.of_content };
 
     fn run<A: Asker>(self, alloc: Global, asker: &mut A) -> Result<PageMade, NoMemory> {
         let Some(doc) = asker.doc(alloc, &self.page.id.doc)? else {
@@ -136,6 +154,8 @@ fn rooted<A: Asker>(
         → IfOk result (made_spec.IsMadeAt world work.entry line) }
     ensures founded { StaysFounded (founded_spec.homes (A.stand asker.old).setting.nodes
         ++ names_spec.about_page work.entry) (A.told asker.old) (A.told asker.new) }
+    ensures asks { AsksOnly asking_spec.of_content (names_spec.documents_of_page work.entry)
+        (A.told asker.old) (A.told asker.new) }
     ensures stand { A.stand asker.new ≡ A.stand asker.old }
     ensures grows { Grows (A.told asker.old) (A.told asker.new) }
 {
@@ -169,6 +189,8 @@ fn body_on_ground<A: Asker>(
     ensures founded { StaysFounded (founded_spec.homes (A.stand asker.old).setting.nodes
         ++ page.now.id.doc ∷ ditavals (option_copied ground.entry.val) page.now.id.filters)
         (A.told asker.old) (A.told asker.new) }
+    ensures asks { AsksOnly asking_spec.of_content
+        (names_spec.names_of_content ground.entry page.now) (A.told asker.old) (A.told asker.new) }
     ensures stand { A.stand asker.new ≡ A.stand asker.old }
     ensures grows { Grows (A.told asker.old) (A.told asker.new) }
 {
@@ -189,6 +211,7 @@ fn titled<A: Asker>(
         → IfOk result (λ html. html ≡ page_html_spec.page_html name.now line
         (title_in world name.now []) body.now hrefs.now) }
     ensures founded { StaysFounded (name.now ∷ []) (A.told asker.old) (A.told asker.new) }
+    ensures asks { AsksOnly documents_spec.nothing [] (A.told asker.old) (A.told asker.new) }
     ensures stand { A.stand asker.new ≡ A.stand asker.old }
     ensures grows { Grows (A.told asker.old) (A.told asker.new) }
 {

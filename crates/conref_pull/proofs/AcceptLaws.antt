@@ -18,8 +18,8 @@ use Rattle.dita_doc.specs.declared.fault.FaultCode.TheVariants as faults
 use Rattle.map_spec.specs.Elements.{attribute, fault_at, is_special}
 use Rattle.map_spec.specs.Written as written
 use Rattle.map_spec.specs.Written.{Element, Written, End, size}
-use Rattle.page_spec.specs.Content as content
-use Rattle.page_spec.specs.Content.{depth_limit, is_place, path_limit, range_by, refused_by}
+use Rattle.conref_spec.specs.Content as content
+use Rattle.conref_spec.specs.Content.{depth_limit, is_place, path_limit, range_by, refused_by}
 use Rattle.conref_pull.specs.Accepting.{IsRangeEnd, IsUpTo, is_too_deep, link_of, refusal_by}
 use Rattle.conref_pull.specs.Found.{IsFound}
 use Rattle.conref_pull.specs.Linked.{IsLink, IsStep}

@@ -12,8 +12,8 @@ use Rattle.doc_maker.specs.Building.{depth}
 use Rattle.doc_maker.specs.Made.{building}
 use Rattle.map_spec.specs.Elements.{attribute, fault_at, is_special}
 use Rattle.map_spec.specs.Written.{Element}
-use Rattle.page_spec.specs.Content as content
-use Rattle.page_spec.specs.Content.{is_place, range_by, refused_by}
+use Rattle.conref_spec.specs.Content as content
+use Rattle.conref_spec.specs.Content.{is_place, range_by, refused_by}
 use Rattle.conref_pull.specs.Accepting.{GoesOn, IsRangeEnd, IsUpTo, is_too_deep, link_of, place_of, refusal_by}
 use Rattle.conref_pull.specs.Found.{IsFound}
 use Rattle.conref_pull.specs.Linked.{IsLink, IsStep}

@@ -13,7 +13,7 @@ use Rattle.doc_maker.specs.Building as building
 use Rattle.doc_maker.proofs.BuildingLaws.{behind_end}
 use Rattle.map_spec.specs.Judged.{group_faults}
 use Rattle.map_spec.specs.Written.{Element, Written}
-use Rattle.page_spec.specs.Content.{Made, Setting, count_limit, element_made, goes, made_with, merged_element, nothing_made, topic_within, without_id}
+use Rattle.conref_spec.specs.Content.{Made, Setting, count_limit, element_made, goes, made_with, merged_element, nothing_made, topic_within, without_id}
 use Rattle.conref_pull.specs.Count.{OneMore}
 use Rattle.conref_pull.specs.Judging.{with_attributes}
 use Rattle.conref_pull.specs.Merging.{IsMerged}

@@ -12,7 +12,7 @@ use Rattle.doc_maker.specs.Building.{Building, behind, depth, nothing, whole}
 use Rattle.doc_maker.specs.Made.{resolved_tree}
 use Rattle.doc_maker.proofs.BuildingLaws.{whole_of_behind}
 use Rattle.map_spec.specs.Written.{Written, End}
-use Rattle.page_spec.specs.Content.{Made, Setting, count_limit, depth_limit, nothing_made, page_root, resolved_in, resolved_page, within}
+use Rattle.conref_spec.specs.Content.{Made, Setting, count_limit, depth_limit, nothing_made, page_root, resolved_in, resolved_page, within}
 use Rattle.reader_spec.specs.World.{World}
 use Rattle.readers.specs.Setting.{Stand}
 use Rattle.conref_pull.specs.Around.{alone_at, around_at, nothing_around}

@@ -9,8 +9,8 @@ use Rattle.doc_maker.specs.Building.{depth}
 use Rattle.map_spec.specs.Elements.{has_types}
 use Rattle.map_spec.specs.Judged.{group_faults}
 use Rattle.map_spec.specs.Written.{Element, Whole, Written}
-use Rattle.page_spec.specs.Content as content
-use Rattle.page_spec.specs.Content.{Followed, Made, Place, Setting, count_limit, followed, goes, has_reference, made_beside, made_with, merged_element, nothing_made, path_limit, sought_by, topic_for}
+use Rattle.conref_spec.specs.Content as content
+use Rattle.conref_spec.specs.Content.{Followed, Made, Place, Setting, count_limit, followed, goes, has_reference, made_beside, made_with, merged_element, nothing_made, path_limit, sought_by, topic_for}
 use Rattle.reader_spec.specs.World.{World}
 use Rattle.readers.specs.Setting.{Stand}
 use Rattle.conref_pull.specs.Linked.{AreLinks, IsFollowed}

@@ -4,7 +4,7 @@ use Rattle.std.proofs.Common.{refl, sym, ap, ◌∙◌}
 use Rattle.dita_doc.specs.declared.fault.Fault.{Fault}
 use Rattle.map_spec.specs.Judged.{group_faults}
 use Rattle.map_spec.specs.Written.{Element, Written, End, Chars, Node}
-use Rattle.page_spec.specs.Content.{Followed, Made, Place, Resolve, Setting, element_made, found_by, followed, followed_from, goes, has_reference, made_beside, made_with, merged_element, nothing_made, resolved_among, resolved_from, sought_by, topic_for, topic_within}
+use Rattle.conref_spec.specs.Content.{Followed, Made, Place, Resolve, Setting, element_made, found_by, followed, followed_from, goes, has_reference, made_beside, made_with, merged_element, nothing_made, resolved_among, resolved_from, sought_by, topic_for, topic_within}
 use Rattle.conref_pull.specs.Step.{Step, Taken, after_step, followed_to_all, merged_onto, step_of, step_to}
 use Rattle.conref_pull.specs.Walking.{Here, among_made, inside_of, kept_made, merged_made, ranges_put, whole_made}
 use Rattle.conref_pull.proofs.PutLaws.{beside_nothing}

@@ -10,7 +10,7 @@ use Rattle.doc_elements.specs.Walk.{element_of}
 use Rattle.map_spec.specs.Elements.{has_types}
 use Rattle.map_spec.specs.Judged.{group_faults}
 use Rattle.map_spec.specs.Written.{Element, Written}
-use Rattle.page_spec.specs.Content.{Place, Setting, followed, goes, merged_element, sought_by, topic_for}
+use Rattle.conref_spec.specs.Content.{Place, Setting, followed, goes, merged_element, sought_by, topic_for}
 use Rattle.reader_spec.specs.World.{World}
 use Rattle.readers.specs.Setting.{Stand}
 use Rattle.conref_pull.specs.Asking.{element_around}

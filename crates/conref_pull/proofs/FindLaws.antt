@@ -13,9 +13,9 @@ use Rattle.href_text.specs.Reference.{reference_of}
 use Rattle.map_spec.specs.Keys.{key_of}
 use Rattle.map_spec.specs.Target.{if_read, is_same_topic}
 use Rattle.map_spec.specs.Written.{Element, Written}
-use Rattle.page_spec.specs.Content as content
-use Rattle.page_spec.specs.Content.{Setting, Sought, by_conref, by_key, found_by, found_in, key_faults, key_named, missing_fault, has_reference, sought_by, value_used}
-use Rattle.page_spec.specs.Places.{Standing, target_in}
+use Rattle.conref_spec.specs.Content as content
+use Rattle.conref_spec.specs.Content.{Setting, Sought, by_conref, by_key, found_by, found_in, key_faults, key_named, missing_fault, has_reference, sought_by, value_used}
+use Rattle.map_spec.specs.Places.{Standing, target_in}
 use Rattle.readers.specs.Documents.{IsGiven}
 use Rattle.readers.specs.Named.{named_tree}
 use Rattle.topic_find.specs.Walk.{place_of, target_place}

@@ -10,7 +10,7 @@ use Rattle.dita_doc.specs.declared.fault.Fault.{Fault}
 use Rattle.dita_doc.specs.declared.plan.Context.{Context}
 use Rattle.map_spec.specs.Written as written
 use Rattle.map_spec.specs.Written.{Element, Written}
-use Rattle.page_spec.specs.Content.{Found, Place, Setting, Sought, followed_from, found_by, has_reference, sought_by, taken}
+use Rattle.conref_spec.specs.Content.{Found, Place, Setting, Sought, followed_from, found_by, has_reference, sought_by, taken}
 use Rattle.reader_spec.specs.World.{World}
 use Rattle.readers.specs.Setting.{Stand}
 use Rattle.conref_pull.specs.Linked.{IsFollowed, IsLink, IsLinked, IsPathAfter, IsStep}

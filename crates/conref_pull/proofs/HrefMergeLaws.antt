@@ -6,7 +6,7 @@ use Rattle.std.proofs.lemmas.Slice.Eq.{bytes_eq-Decides}
 use Rattle.dita_doc.specs.ClassValue.{value_of}
 use Rattle.dita_doc.specs.declared.doc.Attribute.{Attribute}
 use Rattle.map_spec.specs.Written.{Element}
-use Rattle.page_spec.specs.Content.{has_href, without_id}
+use Rattle.conref_spec.specs.Content.{has_href, without_id}
 use Rattle.readers.specs.Told.{Told}
 use Rattle.conref_pull.specs.Hrefs.{AreNamed, HasNamed, MergedNamed}
 use Rattle.conref_pull.specs.Merging.{IsMerged, is_missing, is_taken, own_part, part_of, taking}

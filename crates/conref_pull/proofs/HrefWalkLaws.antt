@@ -6,7 +6,7 @@ use Rattle.doc_maker.specs.Building.{Building, closed, opened}
 use Rattle.doc_maker.specs.Made.{building}
 use Rattle.doc_maker.specs.declared.maker.DocMaker.{DocMaker}
 use Rattle.map_spec.specs.Written.{Element}
-use Rattle.page_spec.specs.Content.{Made}
+use Rattle.conref_spec.specs.Content.{Made}
 use Rattle.readers.specs.Told.{Told}
 use Rattle.conref_pull.specs.Count.{OneMore}
 use Rattle.conref_pull.specs.Hrefs.{HasNamed, HaveNamed, HaveNamedIn, PutNamed}

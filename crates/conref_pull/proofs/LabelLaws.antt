@@ -10,7 +10,7 @@ use Rattle.dita_doc.specs.Tree.{Content, size_of}
 use Rattle.dita_doc.specs.declared.doc.Attribute.{Attribute}
 use Rattle.map_spec.specs.Elements.{is_value, tokens_by}
 use Rattle.map_spec.specs.Written.{Element, size, written_in}
-use Rattle.page_spec.specs.Places.{Standing, TopicAt, first_topic, is_element_meant, is_topic_meant, is_topic_there, is_topic_with, standing_from, target_among, topic_inside}
+use Rattle.map_spec.specs.Places.{Standing, TopicAt, first_topic, is_element_meant, is_topic_meant, is_topic_there, is_topic_with, standing_from, target_among, topic_inside}
 use Rattle.readers.specs.Named.{name_at, named}
 use Rattle.topic_find.specs.Table.{IsTableFor, IsTableOf, has_topic_around}
 use Rattle.topic_find.specs.Walk.{place_of}

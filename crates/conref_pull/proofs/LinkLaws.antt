@@ -4,7 +4,7 @@ use Rattle.std.specs.Arc.{arc_value}
 use Rattle.std.proofs.Common.{refl, sym, ap, subst, ◌∙◌, arith}
 use Rattle.dita_doc.specs.Tree.{Content, Element, tree_of}
 use Rattle.dita_doc.specs.declared.doc.Doc.{Doc}
-use Rattle.page_spec.specs.Content.{Place}
+use Rattle.conref_spec.specs.Content.{Place}
 use Rattle.readers.specs.Told.{Told}
 use Rattle.conref_pull.specs.Asking.{AreGivenTo}
 use Rattle.conref_pull.specs.Linked.{AreLinks, IsLink}

@@ -4,8 +4,8 @@ use Rattle.std.proofs.Common.{refl, sym, ap, subst, arith}
 use Rattle.dita_doc.specs.declared.doc.Attribute.{Attribute}
 use Rattle.dita_doc.specs.declared.stop.NoMemory.{NoMemory}
 use Rattle.map_spec.specs.Written.{Element, Whole, Written}
-use Rattle.page_spec.specs.Content.{Place, is_written_in, merged_element, names_not_taken}
-use Rattle.page_spec.specs.Pushes.{without_names}
+use Rattle.conref_spec.specs.Content.{Place, is_written_in, merged_element, names_not_taken}
+use Rattle.map_spec.specs.Pushes.{without_names}
 use Rattle.conref_pull.specs.Linked.{AreLinks, IsLink}
 use Rattle.conref_pull.specs.Merging.{IsMerged, is_missing, is_taken}
 use Rattle.conref_pull.specs.Step.{Taken, followed_to_all, merged_onto}

@@ -11,7 +11,7 @@ use Rattle.dita_doc.specs.declared.stop.Stop.TheVariants as stops
 use Rattle.doc_elements.specs.Walk.{element_of}
 use Rattle.map_spec.specs.Written as written
 use Rattle.map_spec.specs.Written.{Whole, Written}
-use Rattle.page_spec.specs.Content.{Made}
+use Rattle.conref_spec.specs.Content.{Made}
 use Rattle.readers.specs.Named.{name_at, named}
 use Rattle.conref_pull.specs.Asking.{element_around}
 use Rattle.conref_pull.specs.Origin.{named_content}

@@ -8,7 +8,7 @@ use Rattle.doc_maker.specs.Made.{building}
 use Rattle.doc_maker.specs.declared.maker.DocMaker.{DocMaker}
 use Rattle.map_spec.specs.Judged.{group_faults}
 use Rattle.map_spec.specs.Written.{Element, Whole, Written}
-use Rattle.page_spec.specs.Content.{Made, Setting, merged_element, topic_within, without_id}
+use Rattle.conref_spec.specs.Content.{Made, Setting, merged_element, topic_within, without_id}
 use Rattle.reader_spec.specs.World.{World}
 use Rattle.readers.specs.Setting.{Stand}
 use Rattle.conref_pull.specs.Count.{OneMore}

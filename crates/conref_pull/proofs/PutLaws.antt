@@ -5,7 +5,7 @@ use Rattle.dita_doc.specs.declared.fault.Fault.{Fault}
 use Rattle.doc_maker.specs.Building.{Building, behind}
 use Rattle.doc_maker.proofs.BuildingLaws.{behind_behind, behind_end, beside_end}
 use Rattle.map_spec.specs.Written.{Written}
-use Rattle.page_spec.specs.Content.{Made, count_limit, made_beside, nothing_made}
+use Rattle.conref_spec.specs.Content.{Made, count_limit, made_beside, nothing_made}
 use Rattle.conref_pull.specs.Putting.{IsPut, IsSameMaker, built}
 use Rattle.conref_pull.specs.declared.resolver.Resolver.{Resolver}
 use Rattle.conref_pull.proofs.SettingLaws.{paging}

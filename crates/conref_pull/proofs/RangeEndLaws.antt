@@ -11,9 +11,9 @@ use Rattle.dita_doc.specs.declared.doc.Node.{Node}
 use Rattle.doc_elements.specs.Walk.{element_of}
 use Rattle.map_spec.specs.Elements.{is_value}
 use Rattle.map_spec.specs.Written.{Whole, End}
-use Rattle.page_spec.specs.Content as content
-use Rattle.page_spec.specs.Content.{end_id, has_end_id, range_by, range_from, up_to_end}
-use Rattle.page_spec.specs.Places.{Standing}
+use Rattle.conref_spec.specs.Content as content
+use Rattle.conref_spec.specs.Content.{end_id, has_end_id, range_by, range_from, up_to_end}
+use Rattle.map_spec.specs.Places.{Standing}
 use Rattle.readers.specs.Named.{named, named_tree}
 use Rattle.conref_pull.specs.Accepting.{IsRangeEnd}
 use Rattle.conref_pull.specs.Found.{IsFound}

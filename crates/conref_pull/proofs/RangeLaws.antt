@@ -6,7 +6,7 @@ use Rattle.dita_doc.specs.declared.doc.Doc.{Doc}
 use Rattle.dita_doc.specs.declared.doc.Node.{Node}
 use Rattle.doc_elements.specs.Walk.{element_of}
 use Rattle.map_spec.specs.Written.{size}
-use Rattle.page_spec.specs.Content.{has_end_id}
+use Rattle.conref_spec.specs.Content.{has_end_id}
 use Rattle.readers.specs.Named.{name_at, named}
 use Rattle.conref_pull.specs.Parts.{IsPart, end_place, past, past_text}
 use Rattle.conref_pull.proofs.PartLaws.{element_node_there, size_named, text_there}

@@ -5,7 +5,7 @@ use Rattle.std.proofs.Common.{refl, sym, ap, ◌∙◌}
 use Rattle.dita_doc.specs.declared.fault.Fault.{Fault}
 use Rattle.map_spec.specs.Judged.{group_faults}
 use Rattle.map_spec.specs.Written.{Element, Written, End, Chars, Node}
-use Rattle.page_spec.specs.Content.{Followed, Made, Place, Range, Resolve, Setting, element_made, element_resolved, followed, goes, made_beside, made_of, made_with, merged_element, nothing_made, range_behind, ranges_made, resolved_from, topic_for, topic_within}
+use Rattle.conref_spec.specs.Content.{Followed, Made, Place, Range, Resolve, Setting, element_made, element_resolved, followed, goes, made_beside, made_of, made_with, merged_element, nothing_made, range_behind, ranges_made, resolved_from, topic_for, topic_within}
 use Rattle.conref_pull.specs.Step.{Taken, followed_to_all, merged_onto, range_of_one}
 use Rattle.conref_pull.proofs.PutLaws.{beside_nothing, nothing_beside}
 

@@ -5,7 +5,7 @@ use Rattle.std.specs.declared.vec.Vec.{Vec}
 use Rattle.std.proofs.Common.{sym, ap, subst}
 use Rattle.dita_doc.specs.declared.stop.Stop.{Stop}
 use Rattle.map_spec.specs.Written.{Element, Written, End, Chars, Node}
-use Rattle.page_spec.specs.Content.{Made, nothing_made, text_made}
+use Rattle.conref_spec.specs.Content.{Made, nothing_made, text_made}
 use Rattle.conref_pull.specs.Putting.{IsPut}
 use Rattle.conref_pull.specs.Tables.{AreTables, Documents}
 use Rattle.conref_pull.specs.Walking.{Here, IsWalked, Walks, among_made, whole_made}

@@ -10,7 +10,7 @@ use Rattle.dita_doc.specs.declared.doc.Node.{Node}
 use Rattle.dita_doc.specs.declared.stop.Stop.{Stop}
 use Rattle.map_spec.specs.Written as written
 use Rattle.map_spec.specs.Written.{Written, size}
-use Rattle.page_spec.specs.Content.{Made, Place, count_limit, made_beside, nothing_made, resolved_from}
+use Rattle.conref_spec.specs.Content.{Made, Place, count_limit, made_beside, nothing_made, resolved_from}
 use Rattle.reader_spec.specs.World.{World}
 use Rattle.readers.specs.Named.{name_at, named}
 use Rattle.readers.specs.Setting.{Stand}

@@ -6,7 +6,7 @@ use Rattle.dita_doc.specs.Tree.{Content, size_of, tree_of}
 use Rattle.dita_doc.specs.declared.doc.Attribute.{Attribute}
 use Rattle.dita_doc.specs.declared.doc.Doc.{Doc}
 use Rattle.map_spec.specs.Written.{Element, Written, size}
-use Rattle.page_spec.specs.Places.{Standing, TopicAt, all_standing, first_topic, is_element_meant, is_topic_there, is_topic_with, standing_from, target_in, topic_inside, topic_meant}
+use Rattle.map_spec.specs.Places.{Standing, TopicAt, all_standing, first_topic, is_element_meant, is_topic_there, is_topic_with, standing_from, target_in, topic_inside, topic_meant}
 use Rattle.readers.specs.Named.{name_at, named, named_tree}
 use Rattle.conref_pull.specs.Found.{StandsIn}
 use Rattle.conref_pull.specs.Parts.{IsPart, whole, past_text, within, past, ends_from, ends_of}

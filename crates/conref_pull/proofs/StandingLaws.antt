@@ -16,7 +16,7 @@ use Rattle.map_spec.specs.Written.{Written, size}
 use Rattle.readers.specs.Named.{name_at, named, named_tree}
 use Rattle.conref_pull.specs.Around.{Around, alone_at, around_at, entered, entered_all, nothing_around, within_element}
 use Rattle.conref_pull.specs.Parts.{IsPart, has_first, past, past_text, whole, within}
-use Rattle.page_spec.specs.Content.{nothing_made}
+use Rattle.conref_spec.specs.Content.{nothing_made}
 use Rattle.conref_pull.specs.Tables.{Documents}
 use Rattle.conref_pull.specs.Walking.{Here, Walks, among_made, first_alone}
 use Rattle.conref_pull.specs.declared.resolver.Resolver.{Resolver}

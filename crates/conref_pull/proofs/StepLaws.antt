@@ -5,7 +5,7 @@ use Rattle.std.proofs.Common.{refl, sym, ap, subst, ◌∙◌, arith, append-nil
 use Rattle.std.proofs.lemmas.List.Concat.{flat_map-append}
 use Rattle.dita_doc.specs.declared.fault.Fault.{Fault}
 use Rattle.map_spec.specs.Written.{Element, Written}
-use Rattle.page_spec.specs.Content.{Followed, Found, Place, Range, Setting, Sought, followed_from, followed_to, found_by, has_reference, key_faults, merged_element, refused_by, sought_by, taken, taken_or, unchanged, value_used}
+use Rattle.conref_spec.specs.Content.{Followed, Found, Place, Range, Setting, Sought, followed_from, followed_to, found_by, has_reference, key_faults, merged_element, refused_by, sought_by, taken, taken_or, unchanged, value_used}
 use Rattle.conref_pull.specs.Linked.{AreLinks, IsLink}
 use Rattle.conref_pull.specs.Step.{Step, Taken, after_step, followed_to_all, merged_onto, range_of_one, step_of, step_to, step_with}
 use Rattle.conref_pull.specs.declared.chain.Link.{Link}

@@ -9,8 +9,8 @@ use Rattle.doc_maker.specs.Building.{depth}
 use Rattle.doc_maker.specs.Made.{building}
 use Rattle.doc_maker.specs.declared.maker.DocMaker.{DocMaker}
 use Rattle.map_spec.specs.Written.{Element}
-use Rattle.page_spec.specs.Content as content
-use Rattle.page_spec.specs.Content.{Place, Setting, Sought, found_by, has_reference, key_faults, missing_fault, refused_by, sought_by, value_used}
+use Rattle.conref_spec.specs.Content as content
+use Rattle.conref_spec.specs.Content.{Place, Setting, Sought, found_by, has_reference, key_faults, missing_fault, refused_by, sought_by, value_used}
 use Rattle.conref_pull.specs.Found.{AreFound, IsFound, IsSought, search_faults}
 use Rattle.conref_pull.specs.Linked.{IsStep}
 use Rattle.conref_pull.specs.Setting.{IsDepth, path_within, place_shown}

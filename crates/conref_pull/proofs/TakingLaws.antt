@@ -9,7 +9,7 @@ use Rattle.dita_doc.specs.ClassValue.{value_of}
 use Rattle.dita_doc.specs.declared.doc.Attribute.{Attribute}
 use Rattle.dita_doc.specs.declared.stop.NoMemory.{NoMemory}
 use Rattle.map_spec.specs.Written.{Element}
-use Rattle.page_spec.specs.Content.{Place, has_href, merged_element, specified}
+use Rattle.conref_spec.specs.Content.{Place, has_href, merged_element, specified}
 use Rattle.conref_pull.specs.Linked.{AreLinks, IsLink}
 use Rattle.conref_pull.specs.Merging.{AreAlike, IsMerged, TakesAll, is_given, is_missing, is_specified, is_taken, own_part, part_of, taking}
 use Rattle.conref_pull.specs.Step.{Taken, merged_onto}

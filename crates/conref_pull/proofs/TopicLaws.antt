@@ -12,9 +12,9 @@ use Rattle.doc_elements.proofs.ChildLaws.{is_of_type}
 use Rattle.map_spec.specs.Elements.{has_types, is_special, tokens_by}
 use Rattle.map_spec.specs.Titles.{id_of}
 use Rattle.map_spec.specs.Written.{Element, Written}
-use Rattle.page_spec.specs.Content.{Followed, Found, Place, Setting, Sought, followed, followed_from, found_by, has_reference, id_shown, is_written_in, key_faults, merged, merged_element, names_not_taken, refused_by, sought_by, specified, topic_for, topic_within, use_target, value_used}
-use Rattle.page_spec.specs.Places.{is_topic}
-use Rattle.page_spec.specs.Pushes.{without_names}
+use Rattle.conref_spec.specs.Content.{Followed, Found, Place, Setting, Sought, followed, followed_from, found_by, has_reference, id_shown, is_written_in, key_faults, merged, merged_element, names_not_taken, refused_by, sought_by, specified, topic_for, topic_within, use_target, value_used}
+use Rattle.map_spec.specs.Places.{is_topic}
+use Rattle.map_spec.specs.Pushes.{without_names}
 use Rattle.conref_pull.specs.Merging.{own_id}
 use Rattle.conref_pull.specs.Step.{Step, after_step, step_to, step_with}
 use Rattle.conref_pull.proofs.StepLaws.{follows}

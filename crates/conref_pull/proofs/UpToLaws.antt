@@ -2,7 +2,7 @@
 use Rattle.std.specs.Prelude.{◌≡◌, ◌+◌, ◌-◌, ◌==◌, ◌<◌, ℕ, Bool, true, false, List, Option, Some, None, option_map, if◌then◌else◌}
 use Rattle.std.proofs.Common.{refl, sym, ap, ◌∙◌, arith, ne_eqb}
 use Rattle.map_spec.specs.Written.{Element, Written, End, Chars, Node, size}
-use Rattle.page_spec.specs.Content.{has_end_id, up_to_end}
+use Rattle.conref_spec.specs.Content.{has_end_id, up_to_end}
 use Rattle.conref_pull.specs.Accepting.{IsRangeEnd, IsUpTo}
 use Rattle.conref_pull.specs.Parts.{among_first, end_place}
 

@@ -12,7 +12,7 @@ use Rattle.dita_doc.specs.declared.stop.Stop.{Stop}
 use Rattle.doc_elements.specs.Walk.{element_of}
 use Rattle.doc_maker.specs.Building.{Building, closed, opened}
 use Rattle.map_spec.specs.Written as written
-use Rattle.page_spec.specs.Content.{text_made, without_id}
+use Rattle.conref_spec.specs.Content.{text_made, without_id}
 use Rattle.readers.specs.Founded.{Grows}
 use Rattle.readers.specs.Named.{name_at, named_tree}
 use Rattle.readers.specs.Told.{Told}

@@ -14,7 +14,7 @@ use Rattle.dita_doc.specs.declared.stop.Stop.TheVariants as stops
 use Rattle.doc_maker.specs.Building.{Building, behind, depth, opened}
 use Rattle.doc_maker.proofs.BuildingLaws.{beside_beside, depth_behind}
 use Rattle.map_spec.specs.Written.{Element, Written}
-use Rattle.page_spec.specs.Content.{Made, count_limit, depth_limit, made_beside, made_with, nothing_made}
+use Rattle.conref_spec.specs.Content.{Made, count_limit, depth_limit, made_beside, made_with, nothing_made}
 use Rattle.reader_spec.specs.World.{World}
 use Rattle.readers.specs.Setting.{Stand}
 use Rattle.conref_pull.specs.Putting.{built}

@@ -7,7 +7,7 @@ use Rattle.dita_doc.specs.declared.doc.Doc.{Doc}
 use Rattle.dita_doc.specs.declared.doc.Node.{Node}
 use Rattle.dita_doc.specs.declared.siblings.Siblings.{Siblings}
 use Rattle.dita_doc.specs.declared.stop.Stop.{Stop}
-use Rattle.page_spec.specs.Content.{Made, nothing_made, text_made}
+use Rattle.conref_spec.specs.Content.{Made, nothing_made, text_made}
 use Rattle.reader_spec.specs.World.{World}
 use Rattle.readers.specs.Named.{name_at, named, reused_in}
 use Rattle.readers.specs.Setting.{Stand}

@@ -3,7 +3,7 @@ use Rattle.std.specs.Prelude.{◌≡◌, ◌+◌, ◌-◌, ◌||◌, ◌≤◌, 
 use Rattle.dita_doc.specs.declared.fault.FaultCode.{FaultCode}
 use Rattle.dita_doc.specs.declared.fault.FaultCode.TheVariants as faults
 use Rattle.map_spec.specs.Written.{Written, size}
-use Rattle.page_spec.specs.Content.{Place, is_place, path_limit}
+use Rattle.conref_spec.specs.Content.{Place, is_place, path_limit}
 use Rattle.conref_pull.specs.Parts.{among_first}
 use Rattle.conref_pull.specs.Setting.{place_shown}
 use Rattle.conref_pull.specs.declared.chain.Link.{Link}

@@ -4,7 +4,7 @@ use Rattle.dita_doc.specs.declared.doc.Node as doc
 use Rattle.doc_elements.specs.Walk.{element_of}
 use Rattle.map_spec.specs.Titles.{id_of}
 use Rattle.map_spec.specs.Written.{Element, Written, End, Chars, Node, size}
-use Rattle.page_spec.specs.Places.{is_topic}
+use Rattle.map_spec.specs.Places.{is_topic}
 use Rattle.conref_pull.specs.declared.standing.Standing.{Standing}
 
 pub record Around : Type 0 where

@@ -2,7 +2,7 @@
 use Rattle.std.specs.Prelude.{◌≡◌, ◌+◌, ◌<◌, ◌≤◌, Result, Ok, Err}
 use Rattle.dita_doc.specs.declared.stop.Stop.{Stop}
 use Rattle.dita_doc.specs.declared.stop.Stop.TheVariants as stops
-use Rattle.page_spec.specs.Content.{count_limit}
+use Rattle.conref_spec.specs.Content.{count_limit}
 use Rattle.conref_pull.specs.declared.resolver.Resolver.{Resolver}
 use Rattle.conref_pull.specs.declared.resolver.TooMany.{TooMany}
 

@@ -11,9 +11,9 @@ use Rattle.dita_doc.specs.declared.fault.FaultCode.TheVariants as faults
 use Rattle.map_spec.specs.Elements.{fault_at}
 use Rattle.map_spec.specs.Keys.{key_of}
 use Rattle.map_spec.specs.Written.{Element}
-use Rattle.page_spec.specs.Content as content
-use Rattle.page_spec.specs.Content.{Setting, Sought, by_key, found_by, key_faults, missing_fault, value_used}
-use Rattle.page_spec.specs.Places.{Standing}
+use Rattle.conref_spec.specs.Content as content
+use Rattle.conref_spec.specs.Content.{Setting, Sought, by_key, found_by, key_faults, missing_fault, value_used}
+use Rattle.map_spec.specs.Places.{Standing}
 use Rattle.readers.specs.Named.{named, named_tree}
 use Rattle.conref_pull.specs.Origin.{first_whole}
 use Rattle.conref_pull.specs.Parts.{IsPart, ends_of}

@@ -6,7 +6,7 @@ use Rattle.dita_doc.specs.Tree.{Content, size_of, tree_of}
 use Rattle.dita_doc.specs.declared.doc.Attribute.{Attribute}
 use Rattle.dita_doc.specs.declared.fault.Fault.{Fault}
 use Rattle.map_spec.specs.Written.{Element, Written}
-use Rattle.page_spec.specs.Content.{Followed, Place}
+use Rattle.conref_spec.specs.Content.{Followed, Place}
 use Rattle.readers.specs.Named.{named}
 use Rattle.conref_pull.specs.Origin.{first_whole}
 use Rattle.conref_pull.specs.Parts.{IsPart, among_first}

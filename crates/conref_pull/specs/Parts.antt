@@ -6,7 +6,7 @@ use Rattle.dita_doc.specs.Tree.{Content, size_of, tree_of}
 use Rattle.dita_doc.specs.declared.doc.Attribute.{Attribute}
 use Rattle.dita_doc.specs.declared.doc.Doc.{Doc}
 use Rattle.map_spec.specs.Written.{Written, End, Chars, Node, size}
-use Rattle.page_spec.specs.Content.{has_end_id}
+use Rattle.conref_spec.specs.Content.{has_end_id}
 
 -- these siblings of the tree stand at this place
 pub data IsPart (all : Content) : ℕ → Content → Type 0 where

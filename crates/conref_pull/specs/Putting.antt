@@ -4,7 +4,7 @@ use Rattle.dita_doc.specs.declared.stop.Stop.{Stop}
 use Rattle.dita_doc.specs.declared.stop.Stop.TheVariants as stops
 use Rattle.doc_maker.specs.Building.{Building, behind}
 use Rattle.doc_maker.specs.Made.{building}
-use Rattle.page_spec.specs.Content.{Made, count_limit}
+use Rattle.conref_spec.specs.Content.{Made, count_limit}
 use Rattle.conref_pull.specs.declared.resolver.Resolver.{Resolver}
 use Rattle.conref_pull.specs.declared.resolver.TooMany.{TooMany}
 

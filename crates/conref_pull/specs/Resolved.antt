@@ -11,7 +11,7 @@ use Rattle.doc_maker.specs.Building.{whole}
 use Rattle.doc_maker.specs.Made.{resolved_tree}
 use Rattle.map_spec.specs.Elements.{fault_at}
 use Rattle.map_spec.specs.Written.{Whole, End, document, first_sibling}
-use Rattle.page_spec.specs.Content.{Made, count_limit, page_root, resolved_in, resolved_page, within}
+use Rattle.conref_spec.specs.Content.{Made, count_limit, page_root, resolved_in, resolved_page, within}
 use Rattle.reader_spec.specs.World.{World}
 use Rattle.readers.specs.Setting as made
 use Rattle.conref_pull.specs.Around.{alone_at, around_at, nothing_around}

@@ -6,9 +6,9 @@ use Rattle.doc_maker.specs.Building.{depth}
 use Rattle.doc_maker.specs.Made.{building}
 use Rattle.map_spec.specs.Keys.{key_answer}
 use Rattle.map_spec.specs.Written.{Written}
-use Rattle.page_spec.specs.Content as content
-use Rattle.page_spec.specs.Content.{depth_limit}
-use Rattle.page_spec.specs.Pushes.{pushed}
+use Rattle.conref_spec.specs.Content as content
+use Rattle.conref_spec.specs.Content.{depth_limit}
+use Rattle.map_spec.specs.Pushes.{pushed}
 use Rattle.reader_spec.specs.World.{World}
 use Rattle.readers.specs.Setting as made
 use Rattle.conref_pull.specs.declared.place.Place.{Place}

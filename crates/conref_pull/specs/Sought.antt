@@ -1,8 +1,8 @@
 -- The reference of an element, as the code keeps it, is that of the definition.
 use Rattle.std.specs.Prelude.{Option, Some, None, option_map, if◌then◌else◌}
 use Rattle.std.specs.Option.{option_copied}
-use Rattle.page_spec.specs.Content as content
-use Rattle.page_spec.specs.Content.{has_reference}
+use Rattle.conref_spec.specs.Content as content
+use Rattle.conref_spec.specs.Content.{has_reference}
 use Rattle.conref_pull.specs.declared.reference.Sought.{Sought}
 
 abbrev pub sought_shown : Sought → content.Sought

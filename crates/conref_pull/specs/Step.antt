@@ -4,7 +4,7 @@ use Rattle.std.specs.List.{flat_map}
 use Rattle.dita_doc.specs.declared.fault.Fault.{Fault}
 use Rattle.map_spec.specs.Elements.{attribute}
 use Rattle.map_spec.specs.Written.{Element, Written, End}
-use Rattle.page_spec.specs.Content.{Followed, Found, Place, Range, Setting, Sought, found_by, has_reference, key_faults, merged_element, missing_fault, range_behind, range_by, refused_by, sought_by, taken, unchanged, value_used}
+use Rattle.conref_spec.specs.Content.{Followed, Found, Place, Range, Setting, Sought, found_by, has_reference, key_faults, merged_element, missing_fault, range_behind, range_by, refused_by, sought_by, taken, unchanged, value_used}
 
 -- a target that was taken: the element, what it holds, the range behind it, and the targets that it is resolved within
 pub record Taken : Type 0 where

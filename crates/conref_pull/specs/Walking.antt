@@ -6,7 +6,7 @@ use Rattle.dita_doc.specs.declared.stop.Stop.TheVariants as stops
 use Rattle.doc_maker.specs.Building.{depth}
 use Rattle.map_spec.specs.Judged.{group_faults}
 use Rattle.map_spec.specs.Written.{Element, Written, End, Chars, Node}
-use Rattle.page_spec.specs.Content.{Made, Place, Setting, count_limit, depth_limit, element_made, element_resolved, goes, made_with, nothing_made, path_limit, ranges_made, resolved_among, resolved_from, topic_within}
+use Rattle.conref_spec.specs.Content.{Made, Place, Setting, count_limit, depth_limit, element_made, element_resolved, goes, made_with, nothing_made, path_limit, ranges_made, resolved_among, resolved_from, topic_within}
 use Rattle.reader_spec.specs.World.{World}
 use Rattle.readers.specs.Setting.{Stand}
 use Rattle.conref_pull.specs.Putting.{IsPut, built}

@@ -5,7 +5,7 @@ ghost use Rattle.std.specs.Arc.{arc_value};
 ghost use Rattle.std.specs.List.{list_any};
 ghost use Rattle.std.specs.Option.{option_copied};
 ghost use Rattle.doc_elements.specs.Walk as walk_spec;
-ghost use Rattle.page_spec.specs.Content as content_spec;
+ghost use Rattle.conref_spec.specs.Content as content_spec;
 ghost use Rattle.conref_pull.specs.Accepting as accepting_spec;
 ghost use Rattle.conref_pull.specs.Found as found_spec;
 ghost use Rattle.conref_pull.specs.Tables.{AreTables, Documents};
@@ -34,7 +34,7 @@ impl<'a> Resolver<'a> {
     ghost use Rattle.doc_maker.specs.Building.{depth};
     ghost use Rattle.doc_maker.specs.Made.{building};
     ghost use Rattle.map_spec.specs.Elements as elements_spec;
-    ghost use Rattle.page_spec.specs.Content as content_spec;
+    ghost use Rattle.conref_spec.specs.Content as content_spec;
     ghost use Rattle.conref_pull.specs.Accepting as accepting_spec;
     ghost use Rattle.conref_pull.specs.Found as found_spec;
     ghost use Rattle.conref_pull.specs.Linked as linked_spec;

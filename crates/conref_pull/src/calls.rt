@@ -3,8 +3,8 @@
 ghost use Rattle.std.specs.Prelude.{◌≡◌, ◌+◌, ◌++◌, [], ◌∷◌, ℕ, List, IfOk, OnOk};
 ghost use Rattle.dita_doc.specs.declared.plan.PlanNode.{PlanNode};
 ghost use Rattle.doc_maker.specs.Made as made_spec;
-ghost use Rattle.page_spec.specs.Content as content_spec;
-ghost use Rattle.page_spec.specs.Content.{Made, count_limit, within};
+ghost use Rattle.conref_spec.specs.Content as content_spec;
+ghost use Rattle.conref_spec.specs.Content.{Made, count_limit, within};
 ghost use Rattle.reader_spec.specs.World.{World};
 ghost use Rattle.readers.specs.Documents.{AsksOnly};
 ghost use Rattle.readers.specs.Founded as founded_spec;

@@ -52,7 +52,7 @@ pub(crate) struct Chain {
 
 impl Chain {
     ghost use Rattle.std.specs.Prelude.{◌≡◌, ◌∷◌, ℕ, List, Some, IfSome};
-    ghost use Rattle.page_spec.specs.Content.{Place};
+    ghost use Rattle.conref_spec.specs.Content.{Place};
     ghost use Rattle.readers.specs.Told.{Told};
     ghost use Rattle.conref_pull.specs.Asking as asking_spec;
     ghost use Rattle.conref_pull.specs.Hrefs.{WholeNamed};
@@ -83,7 +83,7 @@ impl<'a> Resolver<'a> {
     ghost use Rattle.dita_doc.specs.declared.plan.PlanNode.{PlanNode};
     ghost use Rattle.doc_elements.specs.Walk as walk_spec;
     ghost use Rattle.map_spec.specs.Written.{Written};
-    ghost use Rattle.page_spec.specs.Content as content_spec;
+    ghost use Rattle.conref_spec.specs.Content as content_spec;
     ghost use Rattle.reader_spec.specs.World.{World};
     ghost use Rattle.readers.specs.Founded.{Grows};
     ghost use Rattle.readers.specs.Named.{reused_by};

@@ -4,8 +4,8 @@ ghost use Rattle.std.specs.Prelude.{◌≡◌, ◌&&◌, ℕ, List, [], ◌++◌
 ghost use Rattle.dita_doc.specs.ClassValue as class_value_spec;
 ghost use Rattle.doc_elements.specs.Walk as walk_spec;
 ghost use Rattle.map_spec.specs.Written.{Element, Written};
-ghost use Rattle.page_spec.specs.Content as content_spec;
-ghost use Rattle.page_spec.specs.Content.{Place};
+ghost use Rattle.conref_spec.specs.Content as content_spec;
+ghost use Rattle.conref_spec.specs.Content.{Place};
 ghost use Rattle.readers.specs.Told.{Told};
 ghost use Rattle.conref_pull.specs.Asking.{AreGivenTo, IsGivenTo};
 ghost use Rattle.conref_pull.specs.Hrefs.{HasNamed, MergedNamed};
@@ -36,8 +36,8 @@ impl Merged {
     ghost use Rattle.std.specs.Prelude.{ℕ, List, IfOk};
     ghost use Rattle.doc_elements.specs.Walk as walk_spec;
     ghost use Rattle.map_spec.specs.Written.{Element};
-    ghost use Rattle.page_spec.specs.Content as content_spec;
-    ghost use Rattle.page_spec.specs.Content.{Place};
+    ghost use Rattle.conref_spec.specs.Content as content_spec;
+    ghost use Rattle.conref_spec.specs.Content.{Place};
     ghost use Rattle.readers.specs.Told.{Told};
     ghost use Rattle.conref_pull.specs.Asking.{AreGivenTo, IsGivenTo};
     ghost use Rattle.conref_pull.specs.Hrefs.{HasNamed, MergedNamed};

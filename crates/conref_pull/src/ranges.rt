@@ -5,7 +5,7 @@ ghost use Rattle.std.specs.Option.{option_copied};
 ghost use Rattle.dita_doc.specs.Tree as tree_spec;
 ghost use Rattle.dita_doc.specs.Tree.{Content};
 ghost use Rattle.doc_elements.specs.Walk as walk_spec;
-ghost use Rattle.page_spec.specs.Content as content_spec;
+ghost use Rattle.conref_spec.specs.Content as content_spec;
 ghost use Rattle.readers.specs.Named as named_spec;
 ghost use Rattle.conref_pull.specs.Parts as parts_spec;
 

@@ -3,7 +3,7 @@
 ghost use Rattle.std.specs.Prelude.{◌≡◌, ℕ, List, IfOk};
 ghost use Rattle.href_text.specs.Reference as reference_spec;
 ghost use Rattle.map_spec.specs.Target as target_spec;
-ghost use Rattle.page_spec.specs.Content as content_spec;
+ghost use Rattle.conref_spec.specs.Content as content_spec;
 ghost use Rattle.doc_elements.specs.Walk as walk_spec;
 ghost use Rattle.conref_pull.specs.Sought as sought_spec;
 

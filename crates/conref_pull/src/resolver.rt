@@ -50,7 +50,7 @@ impl<'a> Resolver<'a> {
     ghost use Rattle.doc_elements.specs.Walk as walk_spec;
     ghost use Rattle.doc_maker.specs.Building.{nothing, whole};
     ghost use Rattle.doc_maker.specs.Made.{resolved_tree};
-    ghost use Rattle.page_spec.specs.Content as content_spec;
+    ghost use Rattle.conref_spec.specs.Content as content_spec;
     ghost use Rattle.readers.specs.Named.{name_at};
     ghost use Rattle.conref_pull.specs.Putting.{Puts, built};
     ghost use Rattle.map_spec.specs.Elements as elements_spec;

@@ -3,7 +3,7 @@
 ghost use Rattle.std.specs.Prelude.{◌≡◌, ◌<◌, [], length, if◌then◌else◌};
 ghost use Rattle.doc_elements.specs.Walk as walk_spec;
 ghost use Rattle.map_spec.specs.Titles as titles_spec;
-ghost use Rattle.page_spec.specs.Places as places_spec;
+ghost use Rattle.map_spec.specs.Places as places_spec;
 ghost use Rattle.conref_pull.specs.Around as around_spec;
 
 use dita_doc::{Doc, Node};

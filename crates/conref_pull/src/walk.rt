@@ -4,7 +4,7 @@ ghost use Rattle.std.specs.Prelude.{◌≡◌, ℕ, List, true};
 ghost use Rattle.doc_elements.specs.Walk as walk_spec;
 ghost use Rattle.map_spec.specs.Elements as elements_spec;
 ghost use Rattle.map_spec.specs.Written.{Element};
-ghost use Rattle.page_spec.specs.Content as content_spec;
+ghost use Rattle.conref_spec.specs.Content as content_spec;
 
 use crate::chain::{Chain, Link};
 use crate::merge::{Merged, USE_TARGET, merged_with, own_id};
@@ -24,8 +24,8 @@ impl<'a> Resolver<'a> {
     ghost use Rattle.dita_doc.specs.declared.plan.PlanNode.{PlanNode};
     ghost use Rattle.doc_elements.specs.Walk as walk_spec;
     ghost use Rattle.map_spec.specs.Elements as elements_spec;
-    ghost use Rattle.page_spec.specs.Content as content_spec;
-    ghost use Rattle.page_spec.specs.Content.{Place};
+    ghost use Rattle.conref_spec.specs.Content as content_spec;
+    ghost use Rattle.conref_spec.specs.Content.{Place};
     ghost use Rattle.reader_spec.specs.World.{World};
     ghost use Rattle.readers.specs.Founded.{Grows};
     ghost use Rattle.readers.specs.Named as named_spec;

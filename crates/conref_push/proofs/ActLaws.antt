@@ -9,7 +9,7 @@ use Rattle.dita_doc.specs.Tree.{ArePreorder, Content, nodes_of, size_of, tree_of
 use Rattle.dita_doc.specs.declared.doc.Node as doc
 use Rattle.doc_elements.specs.Walk.{element_of}
 use Rattle.map_spec.specs.Written.{elements_below, written_in}
-use Rattle.page_spec.specs.Pushes.{acts}
+use Rattle.map_spec.specs.Pushes.{acts}
 use Rattle.conref_push.specs.Acting.{acts_there, any_acts}
 
 module _ (name : List ℕ) where

@@ -12,8 +12,8 @@ use Rattle.dita_doc.specs.declared.content.PushKind.{PushKind}
 use Rattle.dita_doc.specs.declared.content.PushKind.TheVariants as kinds
 use Rattle.map_spec.specs.Elements.{attribute, has_value}
 use Rattle.map_spec.specs.Written.{Element, Whole, Written, End, Chars, Node, first_sibling, size, written_in}
-use Rattle.page_spec.specs.Places.{Standing, TopicAt, standing_from, topic_inside}
-use Rattle.page_spec.specs.Pushes.{if_mark, push_kind}
+use Rattle.map_spec.specs.Places.{Standing, TopicAt, standing_from, topic_inside}
+use Rattle.map_spec.specs.Pushes.{if_mark, push_kind}
 use Rattle.readers.specs.Documents.{AsksOnly, nothing}
 use Rattle.readers.specs.Founded.{StaysFounded, is_among}
 use Rattle.readers.specs.Named.{name_joined, names_in, names_of_element}

@@ -11,7 +11,7 @@ use Rattle.dita_doc.specs.Tree.{Content}
 use Rattle.dita_doc.specs.declared.content.Push.{Push}
 use Rattle.dita_doc.specs.declared.doc.Doc.{Doc}
 use Rattle.map_spec.specs.Written.{Written, document, written_in}
-use Rattle.page_spec.specs.Pushes.{pushed_from}
+use Rattle.map_spec.specs.Pushes.{pushed_from}
 use Rattle.reader_spec.specs.World.{World}
 use Rattle.readers.specs.Documents.{IsGiven, may_ask, of_documents}
 use Rattle.readers.specs.Founded.{Grows, is_among}

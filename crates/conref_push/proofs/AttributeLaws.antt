@@ -4,7 +4,7 @@ use Rattle.std.specs.List.{list_any}
 use Rattle.std.proofs.Common.{refl, sym, ap, ◌∙◌, append_assoc, get_or}
 use Rattle.std.proofs.lemmas.List.Elements.{filter-append}
 use Rattle.dita_doc.specs.declared.doc.Attribute.{Attribute}
-use Rattle.page_spec.specs.Pushes.{pushing_names, without_names}
+use Rattle.map_spec.specs.Pushes.{pushing_names, without_names}
 use Rattle.plan_nodes.proofs.HomeLaws.{push_of}
 
 abbrev one_kept : List (List ℕ) → Attribute → List Attribute

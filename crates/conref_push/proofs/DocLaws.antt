@@ -12,8 +12,8 @@ use Rattle.href_text.specs.Reference.{reference_of}
 use Rattle.map_spec.specs.Elements.{is_special}
 use Rattle.map_spec.specs.Target.{if_read}
 use Rattle.map_spec.specs.Written.{Written, document, written_in}
-use Rattle.page_spec.specs.Places.{Standing, target_in}
-use Rattle.page_spec.specs.Pushes.{PushTarget, if_special, push_target, target_named, topic_of}
+use Rattle.map_spec.specs.Places.{Standing, target_in}
+use Rattle.map_spec.specs.Pushes.{PushTarget, if_special, push_target, target_named, topic_of}
 use Rattle.reader_spec.specs.World.{World}
 use Rattle.readers.specs.Documents.{AsksOnly, nothing}
 use Rattle.readers.specs.Founded.{StaysFounded}

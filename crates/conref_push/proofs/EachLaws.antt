@@ -6,7 +6,7 @@ use Rattle.std.proofs.Common.{refl}
 use Rattle.dita_doc.specs.declared.content.Push.{Push}
 use Rattle.dita_doc.specs.declared.content.PushKind.{PushKind}
 use Rattle.map_spec.specs.Written.{Element, Whole, Written, End, Chars, Node, document, element_at, element_in, side_by_side, size}
-use Rattle.page_spec.specs.Pushes.{acts, all_side_by_side, at_place, copy_beside, is_after, is_before, is_replace, itself_or, pushed_element, pushed_from, pushes_at, with_id_of, without_acting}
+use Rattle.map_spec.specs.Pushes.{acts, all_side_by_side, at_place, copy_beside, is_after, is_before, is_replace, itself_or, pushed_element, pushed_from, pushes_at, with_id_of, without_acting}
 use Rattle.reader_spec.specs.World.{World}
 use Rattle.readers.specs.Founded.{is_among}
 use Rattle.readers.proofs.FoundedLaws.{among_behind, among_first}

@@ -7,7 +7,7 @@ use Rattle.std.proofs.lemmas.List.{map-append, take_all}
 use Rattle.dita_doc.specs.Tree.{Content}
 use Rattle.dita_doc.specs.declared.fault.FaultCode.TheVariants as codes
 use Rattle.map_spec.specs.Written.{Written, written_in}
-use Rattle.page_spec.specs.Pushes.{AllPushes, all_pushes, is_replace, is_replaced_by}
+use Rattle.map_spec.specs.Pushes.{AllPushes, all_pushes, is_replace, is_replaced_by}
 use Rattle.plan_nodes.proofs.HomeLaws.{push_of}
 use Rattle.reader_spec.specs.World.{World}
 use Rattle.conref_push.specs.Acting.{any_acts}

@@ -10,7 +10,7 @@ use Rattle.dita_doc.specs.declared.content.Push.{Push}
 use Rattle.dita_doc.specs.declared.doc.Attribute.{Attribute}
 use Rattle.map_spec.specs.Elements.{attribute}
 use Rattle.map_spec.specs.Written.{Element, Written, End, Chars, Node, document}
-use Rattle.page_spec.specs.Pushes.{id_written, pushed_element, pushed_from, pushing_names, with_id_of, without_names}
+use Rattle.map_spec.specs.Pushes.{id_written, pushed_element, pushed_from, pushing_names, with_id_of, without_names}
 use Rattle.reader_spec.specs.World.{World}
 use Rattle.readers.specs.Founded.{is_among}
 use Rattle.readers.specs.Named.{given_in, given_in_found, name_joined, name_written, names_of_element, names_of_found, reused_by, reused_of_found}

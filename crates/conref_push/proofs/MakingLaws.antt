@@ -15,7 +15,7 @@ use Rattle.dita_doc.specs.declared.doc.Node as doc
 use Rattle.doc_elements.specs.Walk.{element_of}
 use Rattle.doc_maker.proofs.BuildingLaws.{behind_behind, behind_end, beside_beside, beside_end}
 use Rattle.map_spec.specs.Written.{Element, Written, End, Node, side_by_side, size}
-use Rattle.page_spec.specs.Pushes.{acts, all_side_by_side, at_place, copy_beside, is_after, is_before, is_replace, itself_or, pushed_from, pushes_at, without_acting}
+use Rattle.map_spec.specs.Pushes.{acts, all_side_by_side, at_place, copy_beside, is_after, is_before, is_replace, itself_or, pushed_from, pushes_at, without_acting}
 use Rattle.plan_nodes.proofs.HomeLaws.{push_of}
 use Rattle.reader_spec.specs.World.{World}
 use Rattle.readers.specs.Founded.{is_among}

@@ -6,7 +6,7 @@ use Rattle.dita_doc.specs.Tree.{Content}
 use Rattle.dita_doc.specs.declared.content.Push.{Push}
 use Rattle.doc_maker.specs.Building.{own_hrefs}
 use Rattle.map_spec.specs.Written.{Element, Written, End, Chars, Node, written_in}
-use Rattle.page_spec.specs.Pushes.{pushed_from}
+use Rattle.map_spec.specs.Pushes.{pushed_from}
 use Rattle.reader_spec.specs.World.{World}
 use Rattle.conref_push.proofs.EachLaws.{EachOf, InFroms, TreeOf, each_pushed}
 

@@ -7,7 +7,7 @@ use Rattle.std.proofs.lemmas.List.Folds.{find-append}
 use Rattle.dita_doc.specs.declared.plan.Reference.{Reference}
 use Rattle.map_spec.specs.Elements.{is_special}
 use Rattle.map_spec.specs.Written.{Element, Whole, Written, End, Chars, Node, element_at, size}
-use Rattle.page_spec.specs.Places.{Standing, TopicAt, all_standing, is_element_meant, is_topic_there, is_topic_with, standing_from, target_in, topic_inside}
+use Rattle.map_spec.specs.Places.{Standing, TopicAt, all_standing, is_element_meant, is_topic_there, is_topic_with, standing_from, target_in, topic_inside}
 use Rattle.topic_find.specs.Walk.{place_of}
 use Rattle.conref_push.specs.Sight.{Sight, standing_at}
 use Rattle.conref_push.specs.Targets.{fits_at, if_fits, place_meant, topic_meant}

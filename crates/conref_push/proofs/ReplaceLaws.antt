@@ -12,7 +12,7 @@ use Rattle.std.proofs.lemmas.List.Folds.{list_any-append}
 use Rattle.std.proofs.lemmas.Slice.Eq.{bytes_eq-Decides}
 use Rattle.dita_doc.specs.declared.content.PushKind.{PushKind}
 use Rattle.dita_doc.specs.declared.fault.Fault.{Fault}
-use Rattle.page_spec.specs.Pushes.{AllPushes, PushInto, is_replace, is_replaced_by}
+use Rattle.map_spec.specs.Pushes.{AllPushes, PushInto, is_replace, is_replaced_by}
 use Rattle.conref_push.specs.Gathered.{AreReplaced, replaces, with_fault}
 use Rattle.conref_push.specs.Targets.{IsNoted, target_cmp}
 use Rattle.conref_push.specs.declared.target_docs.PushTarget as code

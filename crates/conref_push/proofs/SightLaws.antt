@@ -8,8 +8,8 @@ use Rattle.std.proofs.lemmas.List.Concat.{flat_map-append}
 use Rattle.dita_doc.specs.declared.content.PushKind.{PushKind}
 use Rattle.map_spec.specs.Elements.{attribute}
 use Rattle.map_spec.specs.Written.{Element, Whole, Written, End, Chars, Node, document, elements_below, size}
-use Rattle.page_spec.specs.Places.{Standing, TopicAt, all_standing, standing_from, topic_inside}
-use Rattle.page_spec.specs.Pushes.{AllPushes, Pushing, PushTarget, acts, all_pushes, conref_of, no_pushes, push_kind, pushes_behind, pushing_at, pushing_in, pushing_of, with_pushing}
+use Rattle.map_spec.specs.Places.{Standing, TopicAt, all_standing, standing_from, topic_inside}
+use Rattle.map_spec.specs.Pushes.{AllPushes, Pushing, PushTarget, acts, all_pushes, conref_of, no_pushes, push_kind, pushes_behind, pushing_at, pushing_in, pushing_of, with_pushing}
 use Rattle.reader_spec.specs.World.{World}
 use Rattle.conref_push.specs.Acting.{acts_there, any_acts}
 use Rattle.conref_push.specs.Gathered.{sights_in}

@@ -12,7 +12,7 @@ use Rattle.dita_doc.specs.declared.content.PushList.{PushList}
 use Rattle.dita_doc.specs.declared.fault.Fault.{Fault}
 use Rattle.dita_doc.specs.declared.fault.FaultCode.TheVariants as codes
 use Rattle.map_spec.specs.Written.{Written}
-use Rattle.page_spec.specs.Pushes.{AllPushes, PushInto, PushTarget, all_pushes, is_into, is_replaced_by, no_pushes, pushes_into, stands_in, with_pushing}
+use Rattle.map_spec.specs.Pushes.{AllPushes, PushInto, PushTarget, all_pushes, is_into, is_replaced_by, no_pushes, pushes_into, stands_in, with_pushing}
 use Rattle.reader_spec.specs.World.{World}
 use Rattle.conref_push.specs.Acting.{any_acts}
 use Rattle.conref_push.specs.Gathered.{acting_with, fault_seen, with_fault}

@@ -7,7 +7,7 @@ use Rattle.std.proofs.lemmas.Bool.{false≢true}
 use Rattle.std.proofs.lemmas.Bool.Decides.{nat_tests}
 use Rattle.dita_doc.specs.declared.content.Push.{Push}
 use Rattle.map_spec.specs.Written.{Written, End, Chars, Node, document, elements_below, size}
-use Rattle.page_spec.specs.Pushes.{acts, pushed, pushed_from, pushes_into}
+use Rattle.map_spec.specs.Pushes.{acts, pushed, pushed_from, pushes_into}
 use Rattle.reader_spec.specs.World.{World}
 use Rattle.conref_push.specs.Acting.{acts_in, acts_there, any_acts}
 use Rattle.conref_push.specs.Into.{pushed_by}

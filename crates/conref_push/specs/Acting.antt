@@ -3,7 +3,7 @@ use Rattle.std.specs.Prelude.{Bool, false, ℕ, List}
 use Rattle.std.specs.List.{list_any}
 use Rattle.std.specs.Option.{option_map_or}
 use Rattle.map_spec.specs.Written.{Whole, Written, document, elements_below}
-use Rattle.page_spec.specs.Pushes.{acts}
+use Rattle.map_spec.specs.Pushes.{acts}
 use Rattle.reader_spec.specs.World.{World}
 
 abbrev pub acts_there : Whole → Bool

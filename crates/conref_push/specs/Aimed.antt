@@ -9,7 +9,7 @@ use Rattle.href_text.specs.Joined.{joined}
 use Rattle.href_text.specs.Reference.{reference_of}
 use Rattle.map_spec.specs.Target.{if_read}
 use Rattle.map_spec.specs.Written.{written_in}
-use Rattle.page_spec.specs.Places.{Standing, all_standing}
+use Rattle.map_spec.specs.Places.{Standing, all_standing}
 use Rattle.readers.specs.Documents.{Follows}
 use Rattle.readers.specs.Told.{document}
 

@@ -13,8 +13,8 @@ use Rattle.dita_doc.specs.declared.fault.Fault.{Fault}
 use Rattle.dita_doc.specs.declared.fault.FaultCode.{FaultCode}
 use Rattle.map_spec.specs.Elements.{fault_at}
 use Rattle.map_spec.specs.Written.{Written}
-use Rattle.page_spec.specs.Places.{all_standing}
-use Rattle.page_spec.specs.Pushes.{AllPushes, PushInto, is_replace}
+use Rattle.map_spec.specs.Places.{all_standing}
+use Rattle.map_spec.specs.Pushes.{AllPushes, PushInto, is_replace}
 use Rattle.reader_spec.specs.World.{World}
 
 -- a push replaces this element

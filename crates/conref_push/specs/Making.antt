@@ -15,7 +15,7 @@ use Rattle.dita_doc.specs.declared.content.PushKind.{PushKind}
 use Rattle.dita_doc.specs.declared.content.PushKind.TheVariants as kinds
 use Rattle.dita_doc.specs.declared.doc.Doc.{Doc}
 use Rattle.map_spec.specs.Written.{Element, Whole, Written, End, Node, element_in}
-use Rattle.page_spec.specs.Pushes.{acts, all_side_by_side, at_place, copy_beside, is_after, is_before, is_replace, pushed_element, pushed_from, with_id_of, without_acting}
+use Rattle.map_spec.specs.Pushes.{acts, all_side_by_side, at_place, copy_beside, is_after, is_before, is_replace, pushed_element, pushed_from, with_id_of, without_acting}
 use Rattle.reader_spec.specs.World.{World}
 use Rattle.readers.specs.Founded.{is_among}
 use Rattle.readers.specs.Told.{Told, tree_found}

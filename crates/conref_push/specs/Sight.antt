@@ -10,8 +10,8 @@ use Rattle.dita_doc.specs.declared.doc.Node as doc
 use Rattle.doc_elements.specs.Walk.{element_of}
 use Rattle.map_spec.specs.Elements.{attribute}
 use Rattle.map_spec.specs.Written.{Element, Whole, Written, End}
-use Rattle.page_spec.specs.Places.{Standing, TopicAt}
-use Rattle.page_spec.specs.Pushes.{AllPushes, Pushing, conref_of, if_special, push_kind, push_target, with_pushing}
+use Rattle.map_spec.specs.Places.{Standing, TopicAt}
+use Rattle.map_spec.specs.Pushes.{AllPushes, Pushing, conref_of, if_special, push_kind, push_target, with_pushing}
 use Rattle.reader_spec.specs.World.{World}
 
 pub record Sight : Type 0 where

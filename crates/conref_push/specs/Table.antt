@@ -12,7 +12,7 @@ use Rattle.conref_push.specs.declared.entries.Entry.{Entry}
 use Rattle.conref_push.specs.declared.table.PushTable.{PushTable}
 use Rattle.dita_doc.specs.declared.content.Push.{Push}
 use Rattle.dita_doc.specs.declared.fault.Fault.{Fault}
-use Rattle.page_spec.specs.Pushes.{AllPushes, PushInto, all_pushes, is_into, pushes_into, stands_in}
+use Rattle.map_spec.specs.Pushes.{AllPushes, PushInto, all_pushes, is_into, pushes_into, stands_in}
 use Rattle.reader_spec.specs.World.{World}
 use Rattle.readers.specs.Founded.{is_among}
 

@@ -17,8 +17,8 @@ use Rattle.dita_doc.specs.declared.plan.Reference.{Reference}
 use Rattle.map_spec.specs.Elements.{is_special}
 use Rattle.map_spec.specs.Target.{is_same_topic}
 use Rattle.map_spec.specs.Written.{Whole, Written, document, element_at, written_in}
-use Rattle.page_spec.specs.Places.{Standing, target_in}
-use Rattle.page_spec.specs.Pushes.{PushTarget, is_replace, topic_of}
+use Rattle.map_spec.specs.Places.{Standing, target_in}
+use Rattle.map_spec.specs.Pushes.{PushTarget, is_replace, topic_of}
 use Rattle.reader_spec.specs.World.{World}
 use Rattle.topic_find.specs.Table.{IsTableFor}
 use Rattle.topic_find.specs.Walk.{place_of}

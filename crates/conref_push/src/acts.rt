@@ -5,7 +5,7 @@ ghost use Rattle.conref_push.specs.Acting as acting_spec;
 ghost use Rattle.dita_doc.specs.Tree as tree_spec;
 ghost use Rattle.doc_elements.specs.Walk as walk_spec;
 ghost use Rattle.map_spec.specs.Written as written_spec;
-ghost use Rattle.page_spec.specs.Pushes as pushes_spec;
+ghost use Rattle.map_spec.specs.Pushes as pushes_spec;
 
 use dita_doc::{Doc, Node};
 

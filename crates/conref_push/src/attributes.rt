@@ -4,7 +4,7 @@ ghost use Rattle.std.specs.Prelude.{◌≡◌, ◌++◌, ◌∷◌, ◌||◌, []
 ghost use Rattle.std.specs.List.{list_any};
 ghost use Rattle.std.specs.Option.{option_copied};
 ghost use Rattle.dita_doc.specs.ClassValue as class_value_spec;
-ghost use Rattle.page_spec.specs.Pushes as pushes_spec;
+ghost use Rattle.map_spec.specs.Pushes as pushes_spec;
 
 use dita_doc::{Attribute, List, Node, Text};
 use std::alloc::{AllocError, Global};

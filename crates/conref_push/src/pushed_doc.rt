@@ -12,7 +12,7 @@ ghost use Rattle.doc_elements.specs.Walk as walk_spec;
 ghost use Rattle.doc_maker.specs.Building as building_spec;
 ghost use Rattle.doc_maker.specs.Made as made_spec;
 ghost use Rattle.map_spec.specs.Written as written_spec;
-ghost use Rattle.page_spec.specs.Pushes as pushes_spec;
+ghost use Rattle.map_spec.specs.Pushes as pushes_spec;
 ghost use Rattle.reader_spec.specs.World.{World};
 ghost use Rattle.readers.specs.Documents as documents_spec;
 ghost use Rattle.readers.specs.Documents.{AsksOnly, IsGiven};

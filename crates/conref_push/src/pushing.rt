@@ -9,9 +9,9 @@ ghost use Rattle.doc_elements.specs.Walk as walk_spec;
 ghost use Rattle.map_spec.specs.Elements as elements_spec;
 ghost use Rattle.map_spec.specs.Written as written_spec;
 ghost use Rattle.map_spec.specs.Written.{Written};
-ghost use Rattle.page_spec.specs.Places as places_spec;
-ghost use Rattle.page_spec.specs.Places.{TopicAt};
-ghost use Rattle.page_spec.specs.Pushes as pushes_spec;
+ghost use Rattle.map_spec.specs.Places as places_spec;
+ghost use Rattle.map_spec.specs.Places.{TopicAt};
+ghost use Rattle.map_spec.specs.Pushes as pushes_spec;
 
 use dita_doc::{Doc, First, Node, PushKind, Siblings};
 use std::alloc::{AllocError, Global};

@@ -10,7 +10,7 @@ ghost use Rattle.conref_push.specs.Aimed as aimed_spec;
 ghost use Rattle.conref_push.specs.Sight as sight_spec;
 ghost use Rattle.conref_push.specs.Targets as spec;
 ghost use Rattle.map_spec.specs.Written as written_spec;
-ghost use Rattle.page_spec.specs.Pushes as pushes_spec;
+ghost use Rattle.map_spec.specs.Pushes as pushes_spec;
 ghost use Rattle.reader_spec.specs.World.{World};
 ghost use Rattle.readers.specs.Documents as documents_spec;
 ghost use Rattle.readers.specs.Documents.{AsksOnly};

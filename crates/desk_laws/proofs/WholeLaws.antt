@@ -82,7 +82,7 @@ ends_as_all old new held input status own pages output tells read runs is put wr
 
 pub answered_whole : (old new : Outside) (held : Bytes) (status : Status) → old.left ≡ Some held
     → AnswersWhole FinishesClean old new status → EndsAsAll held old new status
-answered_whole old new held status tells (run, is, put, written) =
+answered_whole old new held status tells (run, is, put, written, none) =
     ends_as_all old new held run.input status run.status run.pages run.output tells run.read run.is.0 is put written
 
 -- A run that is done
@@ -109,8 +109,8 @@ read_whole limit held input (Some left) read short =
 pub done_whole : (old new : Outside) (held : Bytes) → old.left ≡ Some held
     → AnswersWhole FinishesClean old new statuses.Done → IsDone held old new
 unfolding clean_run
-done_whole old new held tells (run, is, put, written) =
-    let all = answered_whole old new held statuses.Done tells (run, is, put, written) in
+done_whole old new held tells (run, is, put, written, none) =
+    let all = answered_whole old new held statuses.Done tells (run, is, put, written, none) in
     let found = done_steps (script_of held) all.ends in
     let answers = ap run_of found.1 in
     let read = read_whole script_limit held run.input new.left

@@ -7,10 +7,10 @@ use Rattle.std.specs.Str.{is_utf8}
 use Rattle.std.proofs.lemmas.Option.{same_Some, slice_get_within, get_or_from_slice_get}
 use Rattle.build_spec.specs.Built.{Built}
 use Rattle.dita_doc.specs.Bytes.{Bytes}
-use Rattle.dita_doc.specs.Desk.{State, Stored, Reply, IsStored, Conflict, TooManyNames, reply, next, found, store_reply, unless_refused, get_reply, remove_reply, version_at, stored_limit}
+use Rattle.dita_doc.specs.Desk.{State, Stored, Halt, Reply, IsStored, Conflict, TooManyNames, reply, next, found, store_reply, unless_refused, get_reply, remove_reply, edit_reply, halt_of, group_reply, version_at, stored_limit}
 use Rattle.dita_doc.specs.History.{Entry, sources}
 use Rattle.dita_doc.specs.Pyx.{document_of}
-use Rattle.dita_doc.specs.Request.{Request, Put, PutIf, Remove, Get, Names, Build, IsUtf8Request}
+use Rattle.dita_doc.specs.Request.{Edit, Put, PutIf, Remove, Request, Single, Get, Names, Build, Group, IsUtf8Edit, IsUtf8Request}
 use Rattle.dita_doc.specs.Tree.{Content}
 use Rattle.dita_doc.specs.declared.fault.PyxFault.{PyxFault}
 use Rattle.dita_outside.specs.Pages.{Pages, TakesPages, TakesPagesFront}
@@ -21,7 +21,8 @@ use Rattle.run_spec.proofs.ShownLaws.{begun_built, some_map}
 use Rattle.script_text.specs.Script.{Step}
 use Rattle.transcript_text.specs.Transcript.{BuildShown, EntryShown, entry_shown}
 use Rattle.transcript_text.specs.Written.{IsText, IsTextOfEntry, is_begun}
-use Rattle.version_store.specs.Entries.{Puts}
+use Rattle.version_store.specs.Entries.{EditPuts, Puts}
+use Rattle.version_store.proofs.EditLaws.{last_among}
 use Rattle.version_store.specs.Kept.{Kept, answered, stored_now}
 use Rattle.version_store.proofs.HistoryLaws.{from_sources, slice_get-end, slice_get-take}
 use Rattle.desk_top.specs.Builds.{built_at, pages_put_by}
@@ -64,12 +65,11 @@ entry_is old new step place number entry kept there =
 -- a build leaves the state, so it may be made behind its entry
 built_same : (state : State) (place : ℕ) (request : Request)
     → built_by (next state place request) request ≡ built_by state request
-built_same state place (Put name body) = refl
-built_same state place (PutIf version name body) = refl
-built_same state place (Remove name) = refl
+built_same state place (Single edit) = refl
 built_same state place (Get name) = refl
 built_same state place Names = refl
-built_same state place (Build map val) = refl
+built_same state place (Build root val) = refl
+built_same state place (Group edits) = refl
 
 pub built_new : (old new : Kept) (step : Step) (place number : ℕ) → HasKept old new step place number
     → built_at new place ≡ (answer_behind old.history step).built
@@ -113,14 +113,20 @@ answer_front old new step place number a b kept front =
 
 -- Texts
 
+edit_utf8 : (edit : Edit) (name bytes : List ℕ) → EditPuts edit name bytes → IsUtf8Edit edit → is_utf8 bytes ≡ true
+edit_utf8 (Put named body) name bytes puts utf8 = ap is_utf8 (sym puts.1) ∙ utf8.1
+edit_utf8 (PutIf version named body) name bytes puts utf8 = ap is_utf8 (sym puts.1) ∙ utf8.1
+edit_utf8 (Remove named) name bytes puts utf8 = absurd puts
+
 puts_utf8 : (request : Request) (name bytes : List ℕ) → Puts request name bytes → IsUtf8Request request
     → is_utf8 bytes ≡ true
-puts_utf8 (Put named body) name bytes puts utf8 = ap is_utf8 (sym puts.1) ∙ utf8.1
-puts_utf8 (PutIf version named body) name bytes puts utf8 = ap is_utf8 (sym puts.1) ∙ utf8.1
-puts_utf8 (Remove named) name bytes puts utf8 = absurd puts
+puts_utf8 (Single edit) name bytes puts utf8 = edit_utf8 edit name bytes puts utf8
 puts_utf8 (Get named) name bytes puts utf8 = absurd puts
 puts_utf8 Names name bytes puts utf8 = absurd puts
-puts_utf8 (Build map val) name bytes puts utf8 = absurd puts
+puts_utf8 (Build root val) name bytes puts utf8 = absurd puts
+puts_utf8 (Group edits) name bytes puts utf8 =
+    let last = last_among IsUtf8Edit name edits puts.edit utf8 puts.last in
+    edit_utf8 puts.edit name bytes puts.puts last
 
 -- what is stored behind a history of UTF-8 is UTF-8
 found_utf8 : (history : List Entry) (name : List ℕ) (hit : Option Stored) → All IsUtf8Entry history
@@ -149,19 +155,25 @@ store_text : (state : State) (place : ℕ) (name : List ℕ) → IsText (store_r
 store_text state place name = if_text (nat_le stored_limit (length state) && not (is_some (found state name)))
     (TooManyNames stored_limit) (IsStored (place + 1)) tt tt
 
+edit_text : (state : State) (place : ℕ) (edit : Edit) → IsText (edit_reply state place edit)
+edit_text state place (Put name body) = refused_text (document_of body) _ (store_text state place name)
+edit_text state place (PutIf version name body) =
+    refused_text (document_of body) _ (if_text (version_at state name == version)
+    (store_reply state place name) (Conflict (version_at state name)) (store_text state place name) tt)
+edit_text state place (Remove name) = remove_text (found state name)
+
+group_text : (count : ℕ) (halt : Option Halt) → IsText (group_reply count halt)
+group_text count None = tt
+group_text count (Some halt) = tt
+
 pub reply_text : (history : List Entry) (request : Request) → All IsUtf8Entry history
     → IsText (reply (sources history (length history)) (length history) request)
-reply_text history (Put name body) utf8 =
-    refused_text (document_of body) _ (store_text (sources history (length history)) (length history) name)
-reply_text history (PutIf version name body) utf8 =
-    let state = sources history (length history) in
-    refused_text (document_of body) _ (if_text (version_at state name == version)
-    (store_reply state (length history) name) (Conflict (version_at state name))
-    (store_text state (length history) name) tt)
-reply_text history (Remove name) utf8 = remove_text (found (sources history (length history)) name)
+reply_text history (Single edit) utf8 = edit_text (sources history (length history)) (length history) edit
 reply_text history (Get name) utf8 = found_utf8 history name (found (sources history (length history)) name) utf8 refl
 reply_text history Names utf8 = tt
-reply_text history (Build map val) utf8 = tt
+reply_text history (Build root val) utf8 = tt
+reply_text history (Group edits) utf8 =
+    group_text (length edits) (halt_of (sources history (length history)) (length history) edits)
 
 -- The whole answer
 

@@ -9,7 +9,7 @@ use Rattle.run_spec.specs.declared.status.Status.{Status}
 use Rattle.run_spec.specs.declared.status.Status.TheVariants as statuses
 use Rattle.script_text.specs.Script.{Step, script_of}
 use Rattle.script_text.specs.declared.fault.ScriptFault.{ScriptFault}
-use Rattle.desk_top.specs.Ends.{RunRelation, RunOf, RunsClean, FinishesClean, EndsClean, WritesLast}
+use Rattle.desk_top.specs.Ends.{RunRelation, RunOf, RunsClean, FinishesClean, EndsClean, NoneRose, WritesLast}
 use Rattle.desk_top.specs.Outside.{Outside}
 use Rattle.desk_top.specs.Reads.{Reads}
 use Rattle.desk_top.proofs.TakesLaws.{takes_none}
@@ -33,26 +33,29 @@ clean_over old new input read = run_over RunsClean old new input read refl
 -- all was put and written: the run ends as it says
 ends_whole : (old new : Outside) (input : Bytes) → Reads read_limit old.left new.left input
     → HasForm (script_of input) → TakesPages old.pages new.pages (clean_run input).pages
-    → Appends old.taken new.taken (clean_run input).output → (found : Result (List Step) ScriptFault)
+    → Appends old.taken new.taken (clean_run input).output → NoneRose old new
+    → (found : Result (List Step) ScriptFault)
     → script_of input ≡ found → EndsClean old new (run_of found).status
 unfolding clean_run
-ends_whole old new input read form put written (Err fault) e =
-    (run_over FinishesClean old new input read (refl, form), ap (λ f. (run_of f).status) e, put, written)
-ends_whole old new input read form put written (Ok steps) e =
-    (run_over FinishesClean old new input read (refl, form), ap (λ f. (run_of f).status) e, put, written)
+ends_whole old new input read form put written none (Err fault) e =
+    (run_over FinishesClean old new input read (refl, form), ap (λ f. (run_of f).status) e, put, written, none)
+ends_whole old new input read form put written none (Ok steps) e =
+    (run_over FinishesClean old new input read (refl, form), ap (λ f. (run_of f).status) e, put, written, none)
 
 -- all was put, and the output was written or not
 pub ends_written : (old new : Outside) (input output : Bytes) (status result : Status)
     → Reads read_limit old.left new.left input → (clean_run input).status ≡ status
     → (clean_run input).output ≡ output → HasForm (script_of input)
     → TakesPages old.pages new.pages (clean_run input).pages
+    → new.read_faults ≡ old.read_faults → new.page_faults ≡ old.page_faults
     → WritesLast old.taken new.taken old.write_faults new.write_faults output status result → EndsClean old new result
 unfolding clean_run
-ends_written old new input output status result read is told form put (inl w) =
-    rw (w.1, ← is) (ends_whole old new input read form put (rw (← told) at w.0) (script_of input) refl)
-ends_written old new input output status result read is told form put (inr (front, inl w)) =
+ends_written old new input output status result read is told form put source outlet (inl w) =
+    let none : NoneRose old new = record { source = source; sink = w.2; outlet = outlet } in
+    rw (w.1, ← is) (ends_whole old new input read form put (rw (← told) at w.0) none (script_of input) refl)
+ends_written old new input output status result read is told form put source outlet (inr (front, inl w)) =
     rw w.1 (w.0, (clean_over old new input read, put, rw (← told) at front))
-ends_written old new input output status result read is told form put (inr (front, inr e)) =
+ends_written old new input output status result read is told form put source outlet (inr (front, inr e)) =
     rw e (inr (
       clean_over old new input read,
       ((clean_run input).pages, [], sym (append-nil (clean_run input).pages), put),

@@ -11,7 +11,7 @@ use Rattle.dita_doc.specs.Request.{text_size}
 use Rattle.dita_outside.specs.Pages.{Pages, TakesPages, TakesPagesFront}
 use Rattle.run_spec.specs.Answers.{Answer, answers_from, answers_to, answer_shown, answers_shown, before_shown, transcript_of, pages_of_answer, pages_of_answers}
 use Rattle.run_spec.proofs.HistoryLaws.{length-answers_from}
-use Rattle.script_text.specs.Facts.{FitsScript, IsUtf8Step, steps_size}
+use Rattle.script_text.specs.Facts.{FitsScript, HasFewStep, IsUtf8Step, steps_size}
 use Rattle.script_text.specs.Script.{Step, script_limit}
 use Rattle.transcript_text.specs.Transcript.{EntryShown, IsEntryShown, IsRowShown, IsTranscript, Totals, entry_text, head_text, end_head, transcript_text}
 use Rattle.version_store.proofs.HistoryLaws.{sources_push, size_push}
@@ -92,6 +92,7 @@ pub record HasAnswered (all : List Step) (history : List Entry) (left : List Ste
   pub size : history_size history + steps_size left ≤ script_limit
   pub utf8 : All IsUtf8Entry history
   pub rest : All IsUtf8Step left
+  pub few : All HasFewStep left
 
 -- one step more
 pub steps_size_cons : (step : Step) (left : List Step)
@@ -112,6 +113,7 @@ none_answered all left history text old fits same none head = rw (same, none, he
   size = omega (arith, fits.size);
   utf8 = λ k d within. absurd (omega arith);
   rest = fits.utf8;
+  few = fits.few_edits;
 })
 
 -- there is room for one that is left
@@ -120,6 +122,7 @@ pub room_left : (all : List Step) (history : List Entry) (step : Step) (left : L
     → FitsScript all → HasAnswered all history (step ∷ left) text old now → HasRoom history step
 room_left all history step left text old now fits before = record {
   few = omega (arith, before.counted, fits.few);
+  edits = before.few 0 step (omega arith);
   size = omega (arith, before.size, steps_size_cons step left);
   utf8 = before.utf8;
   this = before.rest 0 step (omega arith);
@@ -158,6 +161,7 @@ one_answered all history later step left text longer old now new before a put =
       utf8 = All-append IsUtf8Entry history (entry ∷ []) before.utf8
           (All-cons IsUtf8Entry entry [] (before.rest 0 step (omega arith)) (λ k d within. absurd (omega arith)));
       rest = All-tail IsUtf8Step step left before.rest;
+      few = All-tail HasFewStep step left before.few;
     })
 
 -- the answer to one request more was begun

@@ -1,11 +1,8 @@
 -- What an outlet took, one part of the pages after another.
-use Rattle.std.specs.Prelude.{◌≡◌, ◌<◌, ◌≤◌, ◌⊎◌, ℕ, Bool, true, false, [], ◌++◌, Option, Some, None, Result, Ok, Err, IfErr, IsErrAnd}
-use Rattle.std.proofs.Common.{refl, ap, sym, ◌∙◌, append_assoc, append-nil, arith, ltb, inl, inr}
-use Rattle.std.proofs.lemmas.Bool.{ltb-true, ltb-false}
+use Rattle.std.specs.Prelude.{◌≡◌, ℕ, [], ◌++◌, Option, Some, None, Result, Ok, Err, IsErrAnd}
+use Rattle.std.proofs.Common.{refl, ap, sym, ◌∙◌, append_assoc, append-nil, subst}
 use Rattle.dita_doc.specs.declared.stop.Stop.{Stop}
-use Rattle.dita_doc.specs.declared.stop.Stop.TheVariants.{Fault, NoMemory}
-use Rattle.dita_doc.specs.Gives.{OnFault}
-use Rattle.dita_outside.specs.Cause.{Rose, HasCauseOrNoMemory, last_count}
+use Rattle.dita_outside.specs.Cause.{HasCauseOrNoMemory}
 use Rattle.dita_outside.specs.Pages.{Pages, TakesPages, TakesPagesFront, PutsPages}
 
 -- an outlet that stayed as it was took nothing
@@ -50,26 +47,7 @@ pub puts_front : {A E : Type 0} (Q : E → Type 0) (a b : Option Pages) (xs : Pa
 puts_front Q a b xs (Ok x) failed front = absurd failed
 puts_front Q a b xs (Err e) failed front = front
 
--- a count that rose from a later value rose from an earlier one too
-rose_below : (a b c last : ℕ) (below : Bool) → a ≤ b → b ≤ c → b ≡ last → ltb a last ≡ below → (a < c) ⊎ (a ≡ last)
-rose_below a b c last true first then is e = let less = ltb-true a last e in inl (omega arith)
-rose_below a b c last false first then is e = let most = ltb-false a last e in inr (omega arith)
-
-rose_from : (a b c : ℕ) → a ≤ b → b ≤ c → Rose b c → Rose a c
-rose_from a b c first then (inl less) = inl (omega arith)
-rose_from a b c first then (inr is) = rose_below a b c last_count (ltb a last_count) first then is refl
-
-fault_from : {T E : Type 0} (a b c : ℕ) (result : Result T (Stop E)) → a ≤ b → b ≤ c
-    → IfErr result (λ stop. OnFault stop (Rose b c)) → IfErr result (λ stop. OnFault stop (Rose a c))
-fault_from a b c (Ok x) first then f = tt
-fault_from a b c (Err NoMemory) first then f = tt
-fault_from a b c (Err (Fault e)) first then f = rose_from a b c first then f
-
--- the cause of the last of several calls is one of them all
-pub cause_from : {T E : Type 0} (a b c : ℕ) (result : Result T (Stop E)) → a ≤ b → HasCauseOrNoMemory b c result
+-- the cause of the last of several calls, of which those before it left the count, is one of them all
+pub cause_from : {T E : Type 0} (a b c : ℕ) (result : Result T (Stop E)) → b ≡ a → HasCauseOrNoMemory b c result
     → HasCauseOrNoMemory a c result
-cause_from a b c result before h = record {
-  later = omega (arith, h.later);
-  failed =
-      fault_from a b c result before h.later h.failed;
-}
+cause_from a b c result same h = subst (λ (before : ℕ). HasCauseOrNoMemory before c result) same h

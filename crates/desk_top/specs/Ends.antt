@@ -32,11 +32,19 @@ pub record RunOf (runs : RunRelation) (old new : Outside) : Type 0 where
   pub output : Bytes
   pub is : runs input status pages output
 
--- the run has this status, the outlet took its pages in order, and the sink its output and nothing else
+-- no count of faults rose
+pub record NoneRose (old new : Outside) : Type 0 where
+  pub source : new.read_faults ≡ old.read_faults
+  pub sink : new.write_faults ≡ old.write_faults
+  pub outlet : new.page_faults ≡ old.page_faults
+
+-- the run has this status, the outlet took its pages in order, and the sink its output and nothing else; no
+-- count rose
 abbrev pub AnswersWhole : RunRelation → Outside → Outside → Status → Type 0
 AnswersWhole runs old new status = (run : RunOf runs old new) × (run.status ≡ status)
     × TakesPages old.pages new.pages run.pages
     × Appends old.taken new.taken run.output
+    × NoneRose old new
 
 -- If the source failed, nothing was taken. If the outlet failed, it took the first of the pages, and the sink nothing.
 -- If the sink failed, the outlet took all pages, and the sink the beginning of the output. Out of memory, nothing was
@@ -66,11 +74,11 @@ FinishesClean input status pages output = RunsClean input status pages output ×
 abbrev pub EndsClean : Outside → Outside → Status → Type 0
 EndsClean old new status = EndsBy FinishesClean RunsClean old new status
 
--- an output was written: whole, and then the status is that of the run; or its beginning, because the sink failed or
--- memory ran out
+-- an output was written: whole, by a sink that has not failed, and then the status is that of the run; or its beginning,
+-- because the sink failed or memory ran out
 abbrev pub WritesLast : Option Bytes → Option Bytes → ℕ → ℕ → Bytes → Status → Status → Type 0
 WritesLast old new before now output status result =
-    (Appends old new output × (result ≡ status))
+    (Appends old new output × (result ≡ status) × (now ≡ before))
     ⊎ (AppendsFront old new output × ((Rose before now × (result ≡ statuses.WriteFault))
     ⊎ (result ≡ statuses.NoMemory)))
 

@@ -3,7 +3,7 @@ use Rattle.std.specs.Prelude.{◌≡◌, ◌+◌, ◌≤◌, ◌++◌, List, [],
 use Rattle.std.specs.List.{All}
 use Rattle.dita_doc.specs.Bytes.{Bytes}
 use Rattle.dita_doc.specs.History.{Entry, history_size, sources}
-use Rattle.dita_doc.specs.Request.{IsUtf8Request, text_size}
+use Rattle.dita_doc.specs.Request.{HasFewEdits, IsUtf8Request, text_size}
 use Rattle.run_spec.specs.Answers.{Answer, answer_at, answer_shown}
 use Rattle.script_text.specs.Facts.{IsUtf8Step}
 use Rattle.script_text.specs.Script.{Step, script_limit, request_limit}
@@ -13,9 +13,11 @@ use Rattle.version_store.specs.Kept.{Kept}
 abbrev pub IsUtf8Entry : Entry → Type 0
 IsUtf8Entry entry = IsUtf8Request entry.request
 
--- a history of UTF-8 alone that has room for one request more, which is of UTF-8 too
+-- a history of UTF-8 alone that has room for one request more, which is of UTF-8 too and has no more edits than a group
+-- may have
 pub record HasRoom (history : List Entry) (step : Step) : Type 0 where
   pub few : length history + 1 ≤ request_limit
+  pub edits : HasFewEdits step.request
   pub size : history_size history + text_size step.request ≤ script_limit
   pub utf8 : All IsUtf8Entry history
   pub this : IsUtf8Step step

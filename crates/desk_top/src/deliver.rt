@@ -2,7 +2,7 @@
 
 ghost use Rattle.std.specs.Prelude.{◌≤◌, All};
 ghost use Rattle.clean_build.specs.Clean as clean_spec;
-ghost use Rattle.language_laws.specs.PageNames as page_names_spec;
+ghost use Rattle.build_plan.specs.PageNames as page_names_spec;
 ghost use Rattle.script_text.specs.Script as script_spec;
 ghost use Rattle.dita_outside.specs.Cause as cause_spec;
 ghost use Rattle.dita_outside.specs.Pages as pages_spec;

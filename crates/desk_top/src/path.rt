@@ -2,7 +2,7 @@
 
 ghost use Rattle.std.specs.Prelude.{◌≡◌, ◌≤◌, ◌++◌, IfOk, codes};
 ghost use Rattle.std.specs.Fmt.{decimal};
-ghost use Rattle.language_laws.specs.PageNames as page_names_spec;
+ghost use Rattle.build_plan.specs.PageNames as page_names_spec;
 ghost use Rattle.script_text.specs.Script as script_spec;
 
 use dita_doc::{Name, Text};

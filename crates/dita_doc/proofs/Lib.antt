@@ -7,6 +7,7 @@ pub mod TreeLaws
 pub mod PlaceLaws
 pub mod ClassLaws
 pub mod SourcesLaws
+pub mod BlockLaws
 pub mod EscapeLaws
 pub mod EscapeUtf8Laws
 pub mod Utf8Laws

@@ -9,8 +9,8 @@ use Rattle.std.proofs.lemmas.Cmp.{nat_list_cmp_total}
 use Rattle.std.proofs.lemmas.List.{map-append, take-map, drop-map, take-append-drop, length-take-le, get_or-map, get_or_at, set_at, take_at, drop_at, map-set, drop_more, length-map, get_or_default}
 use Rattle.std.proofs.lemmas.List.Sorted.{searchable_from_sorted}
 use Rattle.dita_doc.specs.Desk.{Stored, State, IsBelowAll, IsSortedByName, is_named, found, with_stored, without_name}
-use Rattle.dita_doc.specs.Sources.{AreBelow, IsAt, IsGapFor}
-use Rattle.dita_doc.proofs.NameOrder.{above_from_below, below_from_above, same_from_equal, found_behind, found_above, without_behind, without_above, with_behind, with_above, with_same, below_sorted, sorted_back, named_itself}
+use Rattle.dita_doc.specs.Sources.{AreBelow, IsAt, IsGapFor, IsBlock, block_limit}
+use Rattle.dita_doc.proofs.NameOrder.{above_from_below, below_from_above, same_from_equal, found_behind, found_above, without_behind, without_above, with_order, with_behind, with_above, with_same, below_sorted, sorted_back, sorted_with, named_itself}
 
 add-suc_one : (k : ℕ) → suc k + 1 ≡ suc (k + 1)
 add-suc_one k = omega arith
@@ -215,3 +215,66 @@ copies_alike seen [] (y ∷ ys) same = absurd same
 copies_alike seen (x ∷ xs) [] same = absurd same
 copies_alike seen (x ∷ xs) (y ∷ ys) same = ap (λ first. first ∷ map seen ys) same.0
     ∙ ap (λ rest. seen x ∷ rest) (copies_alike seen xs ys same.1)
+
+pub copies_count : {X : Type 0} (seen : X → Stored) (xs ys : List X) → AllZip (λ x y. seen y ≡ seen x) xs ys
+    → length ys ≡ length xs
+copies_count seen xs ys same =
+    sym (length-map ys seen) ∙ ap length (copies_alike seen xs ys same) ∙ length-map xs seen
+
+-- a block, after an edit
+pub block_with : (new : Stored) (state : State) → IsSortedByName state → length state < block_limit
+    → IsBlock (with_stored new state)
+block_with new state sorted room =
+    let lengths = length_with new state in
+    record { sorted = sorted_with new state sorted; some = lengths.0; few = omega arith }
+  where
+    length_with : (new : Stored) (state : State)
+        → (0 < length (with_stored new state)) × (length (with_stored new state) ≤ length state + 1)
+    length_with new [] = (omega arith, omega arith)
+    length_with new (stored ∷ state) =
+        let rest = length_with new state in
+        elim (slice_cmp nat_cmp new.name stored.name) as
+        (λ order. (0 < length (with_order new stored state order))
+        × (length (with_order new stored state order) ≤ length (stored ∷ state) + 1)) [
+          | Less ↦ (omega arith, omega arith)
+          | Equal ↦ (omega arith, omega arith)
+          | Greater ↦ (omega arith, omega arith)
+        ]
+
+-- the two parts of a list of documents
+pub parts_of : {X : Type 0} (seen : X → Stored) (xs copy front back : List X) (at : ℕ) (state : State)
+    → map seen xs ≡ state → AllZip (λ x y. seen y ≡ seen x) xs copy → front ≡ take at copy → back ≡ drop at copy
+    → map seen front ++ map seen back ≡ state
+parts_of seen xs copy front back at state view same is_front is_back =
+    ap (λ all. map seen all ++ map seen back) is_front
+    ∙ ap (λ all. map seen (take at copy) ++ map seen all) is_back
+    ∙ sym (cut seen copy at) ∙ copies_alike seen xs copy same ∙ view
+
+pub block_of_view : {X : Type 0} (seen : X → Stored) (xs : List X) (state : State) → map seen xs ≡ state
+    → IsBlock (map seen xs) → IsBlock state
+block_of_view seen xs state view block = subst IsBlock view block
+
+sorted_front : (front back : State) → IsSortedByName (front ++ back) → IsSortedByName front
+sorted_front [] back sorted = tt
+sorted_front (stored ∷ front) back sorted =
+    (below_all_front stored.name front back sorted.0, sorted_front front back sorted.1)
+  where
+    below_all_front : (name : List ℕ) (front back : State) → IsBelowAll name (front ++ back) → IsBelowAll name front
+    below_all_front name [] back below = tt
+    below_all_front name (stored ∷ front) back below = (below.0, below_all_front name front back below.1)
+
+pub half_in_front : (front back state : State) → front ++ back ≡ state → IsBlock state → 0 < length front
+    → IsBlock front
+half_in_front front back state is block some = record {
+  sorted = sorted_front front back (subst IsSortedByName (sym is) block.sorted);
+  some = some;
+  few = let few = block.few in omega (arith, ap length is, length-append front back);
+}
+
+pub half_behind : (front back state : State) → front ++ back ≡ state → IsBlock state → 0 < length back
+    → IsBlock back
+half_behind front back state is block some = record {
+  sorted = sorted_back front back (subst IsSortedByName (sym is) block.sorted);
+  some = some;
+  few = let few = block.few in omega (arith, ap length is, length-append front back);
+}

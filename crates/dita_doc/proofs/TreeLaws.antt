@@ -86,6 +86,7 @@ splits_at node more place inside rest same =
 pub record BeginsElement (nodes : List Node) (node : Node) (more : List Node) (place : ℕ) : Type 0 where
   pub after : place + 1 ≤ node.end
   pub fits : node.end - (place + 1) ≤ length more
+  pub end : node.end ≡ place + 1 + size_of (content_of (take (node.end - (place + 1)) more) (place + 1))
   pub inside : ArePreorder (take (node.end - (place + 1)) more) (place + 1)
   pub rest : ArePreorder (drop (node.end - (place + 1)) more) node.end
   pub all : content_of nodes place ≡ Element node.text node.attributes node.origin node.line
@@ -111,6 +112,7 @@ begins_here node more place tree kind =
     record {
       after = omega arith;
       fits = omega arith;
+      end = splits.end ∙ ap (λ (c : Content). place + 1 + size_of c) (sym within);
       inside = splits.front ∙ ap (λ (d : Content). nodes_of d (place + 1)) (sym within);
       rest = splits.back ∙ ap (λ (d : Content). nodes_of d node.end) (sym behind);
       all = rw (within, behind) whole;

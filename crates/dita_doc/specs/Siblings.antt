@@ -1,11 +1,11 @@
 -- What siblings of a document are, and the first of them.
-use Rattle.std.specs.Prelude.{◌≡◌, ℕ, zero, suc, Option, Some, None, slice_get}
+use Rattle.std.specs.Prelude.{◌≡◌, ◌+◌, ℕ, zero, suc, Option, Some, None, slice_get}
 use Rattle.dita_doc.specs.declared.doc.Doc.{Doc}
 use Rattle.dita_doc.specs.declared.doc.Node.{Node}
 use Rattle.dita_doc.specs.declared.siblings.Siblings.{Siblings}
 use Rattle.dita_doc.specs.declared.siblings.First.{First}
 use Rattle.dita_doc.specs.declared.siblings.First.TheVariants as first
-use Rattle.dita_doc.specs.Tree.{Content, End, Chars, Element, content_of, tree_of}
+use Rattle.dita_doc.specs.Tree.{Content, End, Chars, Element, content_of, size_of, tree_of}
 
 abbrev pub content : Siblings → Content
 content siblings = content_of siblings.nodes.now siblings.place
@@ -25,6 +25,13 @@ abbrev pub StandsAt : ℕ → First → Type 0
 StandsAt at first.End = Unit {0}
 StandsAt at (first.Chars place node rest) = place ≡ at
 StandsAt at (first.Element place node inside rest) = place ≡ at
+
+-- what it holds stands directly behind it, and the others behind that
+abbrev pub PartsStandAt : ℕ → First → Type 0
+PartsStandAt at first.End = Unit {0}
+PartsStandAt at (first.Chars place node rest) = rest.place ≡ at + 1
+PartsStandAt at (first.Element place node inside rest) = (inside.place ≡ at + 1)
+    × (rest.place ≡ at + 1 + size_of (content inside))
 
 -- and it is the document's node there
 abbrev pub IsNodeOf : Doc → First → Type 0

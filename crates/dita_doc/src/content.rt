@@ -30,7 +30,7 @@ pub struct Rule {
 
 /// What a key gives where it is used: the node that defines it, if one does, its target, its text,
 /// and the faults met on the way.
-#[derive(Drop)]
+#[derive(PartialEq, Eq, Drop)]
 pub struct KeyAnswer {
     pub node: Option<u32>,
     pub target: Target,
@@ -47,7 +47,7 @@ pub enum PushKind {
 }
 
 /// A push: to the element at the place `at`, from the element at `place` of the document `from`.
-#[derive(Drop)]
+#[derive(PartialEq, Eq, Drop)]
 pub struct Push {
     pub kind: PushKind,
     pub at: u32,
@@ -56,7 +56,7 @@ pub struct Push {
 }
 
 /// The pushes into a document, and the faults of the pushes that stand in it.
-#[derive(Drop)]
+#[derive(PartialEq, Eq, Drop)]
 pub struct PushList {
     pub pushes: List<Push>,
     pub faults: List<Fault>,
@@ -74,6 +74,21 @@ pub struct Resolved {
     pub faults: List<Fault>,
     pub ghost each: { length hrefs ≡ length doc.nodes },
     pub ghost placed: { IsTrue (tree_spec.are_places (length doc.origins) hrefs) },
+}
+
+/// A flag: the element at `place` of resolved content is shown with this class.
+#[derive(Drop)]
+pub struct Mark {
+    pub place: u32,
+    pub text: Text,
+}
+
+/// An entry of an index: the terms from the outermost to the one that is meant, and the page, by its
+/// place in the plan, on which it stands.
+#[derive(Drop)]
+pub struct TermEntry {
+    pub path: List<Text>,
+    pub page: u32,
 }
 
 /// Why one page is linked to another.

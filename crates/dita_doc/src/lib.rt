@@ -1,6 +1,6 @@
 //! The vocabulary that every other crate shares: texts, names, trees of documents, requests and
-//! replies, stored sources, faults, and the types of plans, keys, content, questions and finished
-//! parts.
+//! replies, stored sources, faults, and the types of plans, keys, content, questions and the keys of
+//! finished parts.
 //!
 //! What is used above it: the facts that its types keep. A `Text` is UTF-8 and a `Name` a document
 //! name; the nodes of a `Doc` are the preorder of a tree, and their origins are among its names;
@@ -8,6 +8,8 @@
 //! once.
 #![tactic(auto)]
 
+mod block;
+mod blocks;
 mod body;
 mod bytes;
 mod class;
@@ -23,6 +25,7 @@ mod question;
 mod request;
 mod siblings;
 mod sources;
+mod sources_iter;
 mod stop;
 mod text;
 
@@ -32,11 +35,12 @@ pub use bytes::{
 };
 pub use class::{ClassFault, ClassList, Sign, is_token, split_sign, split_word};
 pub use content::{
-    Action, Anchor, KeyAnswer, LinkKind, PageLink, Push, PushKind, PushList, Resolved, Rule,
+    Action, Anchor, KeyAnswer, LinkKind, Mark, PageLink, Push, PushKind, PushList, Resolved, Rule,
+    TermEntry,
 };
 pub use doc::{Attribute, Doc, Node, NodeKind};
 pub use escapes::{append_html, append_html_value, append_pyx, append_unescaped, fold};
-pub use fact::{Fact, FactKey, FactPair, FactValue, Html, Part, Row};
+pub use fact::{FactKey, Html, Part};
 pub use fault::{Fault, FaultCode, PyxCode, PyxFault, copy_faults};
 pub use list::List;
 pub use name::{NAME_LIMIT, Name, NotName, is_name};
@@ -45,8 +49,9 @@ pub use plan::{
     Scope, Target,
 };
 pub use question::{Answered, Asked, DocKind, Question};
-pub use request::{Entry, Read, Reply, Request};
+pub use request::{Edit, EditFault, Entry, Read, Reply, Request};
 pub use siblings::{First, Siblings};
 pub use sources::{Document, Sources};
+pub use sources_iter::SourcesIter;
 pub use stop::{NoMemory, Stop};
 pub use text::Text;

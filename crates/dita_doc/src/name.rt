@@ -141,7 +141,8 @@ impl Ord for Name {
     ghost matches_eq = { texts_ties };
 
     fn cmp(&self, other: &Self) -> Ordering {
-        self.text.as_bytes().cmp(&other.text.as_bytes())
+        // Texts compare many bytes at a time, other slices one by one.
+        self.text.as_str().cmp(other.text.as_str())
     }
 }
 

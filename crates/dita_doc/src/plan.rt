@@ -5,6 +5,7 @@ use crate::fault::Fault;
 use crate::list::List;
 use crate::name::Name;
 use crate::text::Text;
+use std::alloc::AllocError;
 
 /// The three parts of a reference; a part that is not there is empty.
 #[derive(PartialEq, Eq, Drop)]
@@ -15,10 +16,23 @@ pub struct Reference {
 }
 
 /// What a branch copy puts before and after the names of its pages.
-#[derive(PartialEq, Eq, Drop)]
+#[derive(PartialEq, Eq, PartialOrd, Ord, Drop)]
 pub struct Affix {
     pub prefix: Text,
     pub suffix: Text,
+}
+
+impl Clone for Affix {
+    ghost use Rattle.std.specs.Prelude.{◌≡◌};
+
+    ghost is_clone = { λ affix copy. copy ≡ affix };
+
+    fn clone(&self) -> Result<Affix, AllocError> {
+        Ok(Affix {
+            prefix: self.prefix.clone()?,
+            suffix: self.suffix.clone()?,
+        })
+    }
 }
 
 /// What a node of a map stands for.
@@ -77,12 +91,27 @@ pub struct Scope {
 }
 
 /// What makes two pages of a document different.
-#[derive(Drop)]
+#[derive(PartialEq, Eq, PartialOrd, Ord, Drop)]
 pub struct PageId {
     pub doc: Name,
     pub scope: u32,
     pub filters: List<Name>,
     pub affixes: List<Affix>,
+}
+
+impl Clone for PageId {
+    ghost use Rattle.std.specs.Prelude.{◌≡◌};
+
+    ghost is_clone = { λ page copy. copy ≡ page };
+
+    fn clone(&self) -> Result<PageId, AllocError> {
+        Ok(PageId {
+            doc: self.doc.clone()?,
+            scope: self.scope,
+            filters: self.filters.clone()?,
+            affixes: self.affixes.clone()?,
+        })
+    }
 }
 
 /// A page of a plan: the node of its first use, and its name.
@@ -94,7 +123,7 @@ pub struct PagePlan {
 }
 
 /// What a reference leads to.
-#[derive(Drop)]
+#[derive(PartialEq, Eq, Drop)]
 pub enum Target {
     Nothing,
     /// A DITA document, by the reference that was read.
@@ -114,12 +143,27 @@ pub struct Expanded {
 
 /// Where a page is made: the map and the DITAVAL of its build, what sets it apart from other pages,
 /// and its name.
-#[derive(Drop)]
+#[derive(PartialEq, Eq, Drop)]
 pub struct Context {
     pub map: Name,
     pub val: Option<Name>,
     pub page: PageId,
     pub name: Name,
+}
+
+impl Clone for Context {
+    ghost use Rattle.std.specs.Prelude.{◌≡◌};
+
+    ghost is_clone = { λ context copy. copy ≡ context };
+
+    fn clone(&self) -> Result<Context, AllocError> {
+        Ok(Context {
+            map: self.map.clone()?,
+            val: self.val.clone()?,
+            page: self.page.clone()?,
+            name: self.name.clone()?,
+        })
+    }
 }
 
 /// The plan of a build. Node 0 is the root map, and scope 0 the root scope.

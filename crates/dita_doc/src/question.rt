@@ -35,7 +35,7 @@ pub enum Question {
     /// The pushes into a document.
     Pushes(Name),
     /// The page of a document for a context.
-    PageOf(Name, Context),
+    PageOf(Name, Arc<Context>),
 }
 
 /// The answer to a question of the same name.

@@ -85,6 +85,7 @@ impl<'a> Siblings<'a> {
     pub fn split_first(self) -> First<'a>
         ensures content { siblings_spec.IsFirst (siblings_spec.content self.entry) result }
         ensures place { siblings_spec.StandsAt self.entry.place result }
+        ensures places { siblings_spec.PartsStandAt self.entry.place result }
         ensures node { siblings_spec.IsNodeOf (siblings_spec.document self.entry) result }
         ensures document { siblings_spec.PartsAreOf (siblings_spec.document self.entry) result }
     {

@@ -1,12 +1,15 @@
 //! What is stored: names with their versions, bytes and documents.
 
-ghost use Rattle.std.specs.Prelude.{◌≡◌, [], ◌∷◌, Ok, length, IfOk, IfErr, IfSome, IsOk, IsSome, OnErr, OnOk, map, option_map};
+ghost use Rattle.std.specs.Prelude.{◌≡◌, [], ◌∷◌, Ok, length, IfOk, IfSome, OnErr, OnOk, option_map};
 ghost use Rattle.std.specs.Arc.{arc_value};
 ghost use Rattle.dita_doc.specs.Pyx as pyx_spec;
 
+use crate::block::Block;
+use crate::blocks::{block_for, put_among, remove_among};
 use crate::doc::Doc;
 use crate::list::List;
 use crate::name::Name;
+use crate::sources_iter::SourcesIter;
 use std::alloc::{AllocError, Global};
 use std::marker::Model;
 use std::sync::Arc;
@@ -42,23 +45,25 @@ impl Clone for Document {
     }
 }
 
-/// The documents that are stored, by the bytes of their names, each name once.
+/// The documents that are stored, by the bytes of their names, each name once. They stand in blocks
+/// that copies share: an edit copies the block that it changes and the list of blocks, no more.
 #[derive(Drop)]
 pub struct Sources {
-    documents: Vec<Document>,
+    blocks: Vec<Arc<Block>>,
+    // How many documents the blocks have.
+    count: u64,
 }
 
 impl Model for Sources {
-    ghost use Rattle.std.specs.Prelude.{map};
     ghost use Rattle.dita_doc.specs.Desk as desk_spec;
     ghost use Rattle.dita_doc.specs.Sources as sources_spec;
 
     ghost Value = { desk_spec.State };
 
-    ghost view = { λ sources. map sources_spec.document_seen sources.documents.items };
+    ghost view = { λ sources. sources_spec.all_stored sources.blocks.items };
 
     ghost invariant = { λ sources.
-        desk_spec.IsSortedByName (map sources_spec.document_seen sources.documents.items) };
+        sources_spec.AreSources sources.count (sources_spec.all_stored sources.blocks.items) };
 }
 
 impl Sources {
@@ -70,7 +75,8 @@ impl Sources {
         ensures { result ≡ [] }
     {
         Sources {
-            documents: Vec::new(alloc),
+            blocks: Vec::new(alloc),
+            count: 0,
         }
     }
 
@@ -78,10 +84,10 @@ impl Sources {
     pub fn find(&self, name: &Name) -> Option<&Document>
         ensures { sources_spec.found_seen result ≡ desk_spec.found self.now name.now }
     {
-        match self.position(name) {
-            Ok(at) => Some(&self.documents[at]),
-            Err(_) => None,
+        if self.blocks.is_empty() {
+            return None;
         }
+        self.blocks[block_for(&self.blocks, name)].find(name)
     }
 
     /// The version that stands under a name, and the document that has it.
@@ -90,70 +96,56 @@ impl Sources {
             ≡ option_map sources_spec.version_and_nodes (desk_spec.found self.now name.now) }
         ensures origin { IfSome result (λ pair. (arc_value pair.1.now).origins ≡ name.now ∷ []) }
     {
-        match self.position(name) {
-            Ok(at) => {
-                let document = &self.documents[at];
-                Some((document.version, &document.doc))
-            }
-            Err(_) => None,
-        }
+        let document = self.find(name)?;
+        Some((document.version, &document.doc))
     }
 
     /// How many names are stored.
     pub fn names(&self) -> u64
         ensures { result ≡ length self.now }
     {
-        self.documents.len() as u64
+        self.count
     }
 
     /// All that is stored, by the bytes of the names.
-    pub fn as_slice(&self) -> &[Document]
-        ensures value { map sources_spec.document_seen result.now ≡ self.now }
+    pub fn iter(&self) -> SourcesIter<'_>
+        ensures value { result ≡ self.now }
         ensures sorted { desk_spec.IsSortedByName self.now }
     {
-        &self.documents
+        SourcesIter::of(&self.blocks)
     }
 
     /// Stores a document in the place of what stands under its name. No text and no document is
-    /// copied, and memory is taken for a new name alone.
+    /// copied. Memory is taken for a new name, and for a block that is shared or full.
     pub fn put(&mut self, document: Document) -> Result<(), AllocError>
         ensures ok { OnOk result (self.new
             ≡ desk_spec.with_stored (sources_spec.document_seen document) self.old) }
         ensures err { OnErr result (self.new ≡ self.old) }
-        ensures overwrite_succeeds { IsSome (desk_spec.found self.old document.name) → IsOk result }
     {
-        match self.position(&document.name) {
-            Ok(at) => {
-                self.documents[at] = document;
-                Ok(())
-            }
-            Err(at) => Ok(self.documents.insert(at, document)?),
+        // So many documents are in no memory, but the proof does not know it.
+        if self.count == u64::MAX {
+            return Err(AllocError);
         }
+        let is_new = put_among(&mut self.blocks, document)?;
+        self.count += u64::from(is_new);
+        Ok(())
     }
 
-    /// Takes away what stands under a name, and answers its version.
-    pub fn remove(&mut self, name: &Name) -> Option<u64>
-        ensures version { result
-            ≡ option_map (λ stored. stored.version) (desk_spec.found self.old name.now) }
-        ensures after { self.new ≡ desk_spec.without_name name.now self.old }
+    /// Takes away what stands under a name, and answers its version. Memory is taken for a block
+    /// that is shared.
+    pub fn remove(&mut self, name: &Name) -> Result<Option<u64>, AllocError>
+        ensures version { IfOk result (λ version. version
+            ≡ option_map (λ stored. stored.version) (desk_spec.found self.old name.now)) }
+        ensures ok { OnOk result (self.new ≡ desk_spec.without_name name.now self.old) }
+        ensures err { OnErr result (self.new ≡ self.old) }
     {
-        match self.position(name) {
-            Ok(at) => Some(self.documents.remove(at).version),
-            Err(_) => None,
-        }
-    }
-
-    // Where the name is, or where it would go.
-    fn position(&self, name: &Name) -> Result<usize, usize>
-        ensures found { IfOk result (sources_spec.IsAt self.now name.now) }
-        ensures absent { IfErr result (sources_spec.IsGapFor self.now name.now) }
-    {
-        self.documents
-            .binary_search_by(|document| document.name.cmp(name))
+        let version = remove_among(&mut self.blocks, name)?;
+        self.count -= u64::from(version.is_some());
+        Ok(version)
     }
 }
 
-/// A copy shares the names, bytes and documents.
+/// A copy shares the blocks.
 impl Clone for Sources {
     ghost use Rattle.std.specs.Prelude.{◌≡◌};
 
@@ -161,7 +153,8 @@ impl Clone for Sources {
 
     fn clone(&self) -> Result<Sources, AllocError> {
         Ok(Sources {
-            documents: self.documents.clone()?,
+            blocks: self.blocks.clone()?,
+            count: self.count,
         })
     }
 }

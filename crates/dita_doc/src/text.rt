@@ -6,6 +6,7 @@ ghost use Rattle.std.specs.Str.{IsUtf8};
 use crate::list::List;
 use std::alloc::{AllocError, Global};
 use std::cmp::Ordering;
+use std::hash::{Hash, Hasher};
 use std::marker::Model;
 
 /// A growing text. That it is UTF-8 is a fact of the type, so no reader of one tests it again.
@@ -173,5 +174,20 @@ impl Ord for Text {
 
     fn cmp(&self, other: &Self) -> Ordering {
         self.content.as_bytes().cmp(&other.content.as_bytes())
+    }
+}
+
+/// As its bytes in a string, so that texts are keys of hash maps.
+impl Hash for Text {
+    ghost use Rattle.std.proofs.Common.{ap};
+    ghost use Rattle.std.specs.Cmp.Lexicographic.{bytes_decides};
+    ghost use Rattle.std.specs.Hash as fed;
+
+    ghost hash_input = { fed.str };
+
+    ghost respects_eq = { λ x y same. ap fed.str ((bytes_decides x y).0 same) };
+
+    fn hash<H: Hasher>(&self, state: &mut H) {
+        self.content.as_str().hash(state);
     }
 }

@@ -18,7 +18,7 @@ use Rattle.link_groups.specs.declared.link_nodes.LinkNode.{LinkNode}
 use Rattle.link_groups.proofs.NumberLaws.{number_itself, same_number, turned}
 use Rattle.link_groups.proofs.OrderLaws.{is_linked, link_at}
 use Rattle.map_spec.specs.Scopes.{places}
-use Rattle.page_spec.specs.Links.{LinkTo, are_siblings, is_among, is_page_at, may_link, page_of_node}
+use Rattle.link_spec.specs.Links.{LinkTo, are_siblings, is_among, is_page_at, may_link, page_of_node}
 use Rattle.reader_spec.specs.World.{World}
 use Rattle.family_links.specs.Families.{AreFamiliesOf, first_targets, is_linking, links_to_siblings, siblings_of, targets_from}
 use Rattle.family_links.specs.Grouped.{groups}

@@ -17,7 +17,7 @@ use Rattle.link_groups.specs.declared.link_nodes.LinkNode.{LinkNode}
 use Rattle.map_spec.specs.Cascade.{attribute_at, is_in_table, walk}
 use Rattle.map_spec.specs.Elements.{is_value}
 use Rattle.map_spec.specs.Scopes.{places}
-use Rattle.page_spec.specs.Links.{children_with_pages, collections, has_page, is_child, is_collection, node_attribute, page_of_node}
+use Rattle.link_spec.specs.Links.{children_with_pages, collections, has_page, is_child, is_collection, node_attribute, page_of_node}
 use Rattle.reader_spec.specs.World.{World}
 use Rattle.family_links.specs.Collected.{group_of, groups_of}
 use Rattle.family_links.specs.Grouped.{child_at, groups, kind_at, kind_in, kind_named, kinds_of, nodes_below}

@@ -17,7 +17,7 @@ use Rattle.link_groups.specs.declared.link_nodes.LinkNode.{LinkNode}
 use Rattle.link_groups.specs.declared.link_nodes.LinkNodes.{LinkNodes}
 use Rattle.link_groups.proofs.NumberLaws.{same_number, turned}
 use Rattle.map_spec.specs.Scopes.{places}
-use Rattle.page_spec.specs.Links.{LinkTo, links_of_kind}
+use Rattle.link_spec.specs.Links.{LinkTo, links_of_kind}
 use Rattle.plan_nodes.specs.Preorder.{HasParentsBefore, is_in_table_at, tables_around}
 use Rattle.reader_spec.specs.World.{World}
 use Rattle.family_links.specs.Collected.{AreCollected, IsMade, IsMadeMore, families_of, group_of, groups_of, links_by_collections, sequences_of}

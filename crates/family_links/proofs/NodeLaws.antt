@@ -12,7 +12,7 @@ use Rattle.link_groups.specs.LinkNodes.{is_source_at, is_target_at, link_node_at
 use Rattle.link_groups.specs.declared.link_nodes.LinkNode.{LinkNode}
 use Rattle.map_spec.specs.Pages.{local_name, page_for}
 use Rattle.map_spec.specs.Scopes.{places_from}
-use Rattle.page_spec.specs.Links.{context_of, page_of_node, target_of}
+use Rattle.link_spec.specs.Links.{context_of, page_of_node, target_of}
 use Rattle.reader_spec.specs.World.{World}
 use Rattle.link_groups.proofs.NumberLaws.{same_number}
 use Rattle.family_links.proofs.PlaceLaws.{within_list}

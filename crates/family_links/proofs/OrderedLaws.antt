@@ -19,7 +19,7 @@ use Rattle.link_groups.proofs.NumberLaws.{number_itself, same_number}
 use Rattle.link_groups.proofs.OrderLaws.{flat_same, is_linked, link_at, links_from, once_any}
 use Rattle.link_groups.proofs.OnceLaws.{once_again, once_first_again, once_same}
 use Rattle.map_spec.specs.Scopes.{places, places_from}
-use Rattle.page_spec.specs.Links.{LinkTo, link_to, links_of_kind, to_each_once}
+use Rattle.link_spec.specs.Links.{LinkTo, link_to, links_of_kind, to_each_once}
 use Rattle.reader_spec.specs.World.{World}
 use Rattle.family_links.proofs.NodeLaws.{IsNode, RiseFrom, is_place, node_page, node_within, place_of, rise_any, sorted_rise}
 

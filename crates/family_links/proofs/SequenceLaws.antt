@@ -18,7 +18,7 @@ use Rattle.link_groups.proofs.NumberLaws.{number_itself, same_number, turned}
 use Rattle.link_groups.proofs.OnceLaws.{holds_same, once_same}
 use Rattle.link_groups.proofs.OrderLaws.{is_linked, links_from}
 use Rattle.map_spec.specs.Scopes.{places}
-use Rattle.page_spec.specs.Links.{LinkTo, are_next, collections, is_page_at, links_as, links_of_kind, may_link, to_each_once}
+use Rattle.link_spec.specs.Links.{LinkTo, are_next, collections, is_page_at, links_as, links_of_kind, may_link, to_each_once}
 use Rattle.reader_spec.specs.World.{World}
 use Rattle.family_links.specs.Grouped.{groups}
 use Rattle.family_links.specs.Lists.{listed}

@@ -10,7 +10,7 @@ use Rattle.link_groups.specs.LinkNodes.{AreLinkNodes}
 use Rattle.link_groups.specs.declared.link_list.LinksMade.{LinksMade}
 use Rattle.link_groups.specs.declared.link_nodes.LinkNode.{LinkNode}
 use Rattle.link_groups.specs.declared.link_nodes.LinkNodes.{LinkNodes}
-use Rattle.page_spec.specs.Links.{LinkTo, family_links, links_of_kind}
+use Rattle.link_spec.specs.Links.{LinkTo, family_links, links_of_kind}
 use Rattle.plan_nodes.specs.Carried.{CarryValues}
 use Rattle.plan_nodes.specs.Preorder.{HasParentsBefore}
 use Rattle.reader_spec.specs.World.{World}

@@ -9,7 +9,7 @@ use Rattle.std.specs.declared.vec.Vec.{Vec}
 use Rattle.dita_doc.specs.declared.content.LinkKind.TheVariants as links
 use Rattle.dita_doc.specs.declared.plan.Plan.{Plan}
 use Rattle.link_groups.specs.declared.link_nodes.LinkNode.{LinkNode}
-use Rattle.page_spec.specs.Links.{LinkTo, links_of_kind}
+use Rattle.link_spec.specs.Links.{LinkTo, links_of_kind}
 use Rattle.reader_spec.specs.World.{World}
 use Rattle.family_links.specs.Grouped.{groups}
 use Rattle.family_links.specs.Lists.{listed}

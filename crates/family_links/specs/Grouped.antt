@@ -12,7 +12,7 @@ use Rattle.link_groups.specs.declared.link_nodes.LinkNodes.{LinkNodes}
 use Rattle.map_spec.specs.Cascade.{is_in_table, walk}
 use Rattle.map_spec.specs.Elements.{is_value}
 use Rattle.map_spec.specs.Scopes.{places}
-use Rattle.page_spec.specs.Links.{is_child, is_collection, node_attribute}
+use Rattle.link_spec.specs.Links.{is_child, is_collection, node_attribute}
 use Rattle.reader_spec.specs.World.{World}
 use Rattle.family_links.specs.Lists.{if_there, listed}
 use Rattle.family_links.specs.declared.groups.GroupKind.{GroupKind}

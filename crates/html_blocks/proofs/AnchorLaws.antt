@@ -16,7 +16,7 @@ use Rattle.std.proofs.lemmas.Map.Lookups.{exact_unsigned}
 use Rattle.dita_doc.specs.declared.content.Anchor.{Anchor}
 use Rattle.dita_doc.proofs.LackLaws.{no_equal}
 use Rattle.html_blocks.specs.Anchors.{AreByPlace}
-use Rattle.page_spec.specs.Blocks.{anchor_at}
+use Rattle.html_spec.specs.Blocks.{anchor_at}
 
 same_test : (n : ℕ) → (n == n) ≡ true
 same_test n = grind arith

@@ -7,7 +7,7 @@ use Rattle.doc_elements.proofs.BareLaws.{bare, bare_element, text_same}
 use Rattle.html_tables.proofs.ColumnLaws.{names_column, names_inside, names_other}
 use Rattle.map_spec.specs.Elements.{attribute, first_child, is_a, is_transparent, text_of}
 use Rattle.map_spec.specs.Written.{Element, Whole, Written, End, Chars, Node, written_in}
-use Rattle.page_spec.specs.Tables.{column_names}
+use Rattle.html_spec.specs.Tables.{column_names}
 use Rattle.readers.specs.Named.{named}
 
 -- Columns

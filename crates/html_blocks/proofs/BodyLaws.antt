@@ -11,9 +11,9 @@ use Rattle.doc_elements.proofs.BareLaws.{bare, bare_element, text_same}
 use Rattle.html_blocks.proofs.BareLaws.{columns_same}
 use Rattle.map_spec.specs.Elements.{attribute, class_faults, has_types}
 use Rattle.map_spec.specs.Written.{Element, Written, End, Chars, Node, size}
-use Rattle.page_spec.specs.Blocks as blocks
-use Rattle.page_spec.specs.Blocks.{Context, Form, alt_of, attribute_text, body_html, columns_in, content_or_label, element_shown, form_shown, href_at, linked_at, outside, row_for, row_shown, shown, shown_beside, shown_from, shown_with, start_of, within_type}
-use Rattle.page_spec.specs.Tables.{is_group}
+use Rattle.html_spec.specs.Blocks as blocks
+use Rattle.html_spec.specs.Blocks.{Context, Form, alt_of, attribute_text, body_html, columns_in, content_or_label, element_shown, form_shown, href_at, linked_at, outside, row_for, row_shown, shown, shown_beside, shown_from, shown_with, start_of, within_type}
+use Rattle.html_spec.specs.Tables.{is_group}
 use Rattle.readers.specs.Named.{named_tree}
 
 own_bare : (nodes : Written) → bare (with_own_hrefs nodes) ≡ bare nodes

@@ -10,9 +10,9 @@ use Rattle.html_tables.specs.Walk.{HasColumns, KeepsGroups, columns_within}
 use Rattle.html_tables.proofs.WalkLaws.{context_beside, context_within, kept_context}
 use Rattle.map_spec.specs.Elements.{tokens_of}
 use Rattle.map_spec.specs.Written.{Element, Written}
-use Rattle.page_spec.specs.Blocks as blocks
-use Rattle.page_spec.specs.Blocks.{Form, around_in, columns_in, context_in, head_in, is_type, simple_head_in, within_type}
-use Rattle.page_spec.specs.Tables.{is_group}
+use Rattle.html_spec.specs.Blocks as blocks
+use Rattle.html_spec.specs.Blocks.{Form, around_in, columns_in, context_in, head_in, is_type, simple_head_in, within_type}
+use Rattle.html_spec.specs.Tables.{is_group}
 
 pub kept_within : (old new : Groups) (context : Context) (around : blocks.Context) → KeepsGroups old new
     → IsWithin old context around → IsWithin new context around

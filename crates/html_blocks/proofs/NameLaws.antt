@@ -5,7 +5,7 @@ use Rattle.std.proofs.Common.{sym, ap, ◌∙◌, arith}
 use Rattle.std.proofs.lemmas.Bool.Decides.{nat_tests}
 use Rattle.std.proofs.lemmas.Fmt.{decimal_digit}
 use Rattle.html_blocks.specs.Shown.{counted}
-use Rattle.page_spec.specs.Blocks.{heading, level_of}
+use Rattle.html_spec.specs.Blocks.{heading, level_of}
 
 level_capped : (depth : ℕ) → level_of (counted depth) ≡ level_of depth
 level_capped depth = grind (arith, nat_tests)

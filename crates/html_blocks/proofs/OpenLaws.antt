@@ -16,7 +16,7 @@ use Rattle.html_blocks.proofs.RowLaws.{content_none, form_bytes, form_faults, fo
 use Rattle.html_blocks.proofs.WayLaws.{more_as}
 use Rattle.html_tables.specs.declared.groups.Groups.{Groups}
 use Rattle.map_spec.specs.Elements.{class_faults, has_types, tokens_of}
-use Rattle.page_spec.specs.Blocks.{Context, Form, content_or_label, context_in, end_tag, linked_by, row_for, shown, shown_with}
+use Rattle.html_spec.specs.Blocks.{Context, Form, content_or_label, context_in, end_tag, linked_by, row_for, shown, shown_with}
 
 -- types, by the words that were read
 pub typed : (tokens : List (List ℕ)) (element : Element) (none : Bool) → none ≡ (length tokens == 0)

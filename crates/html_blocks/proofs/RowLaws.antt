@@ -12,8 +12,8 @@ use Rattle.html_blocks.specs.Walk.{is_empty}
 use Rattle.map_spec.specs.Elements.{class_faults, has_types}
 use Rattle.map_spec.specs.Written as written
 use Rattle.map_spec.specs.Written.{Element, Written}
-use Rattle.page_spec.specs.Blocks as blocks
-use Rattle.page_spec.specs.Blocks.{Context, Form, attribute_text, content_or_label, context_in, element_shown, end_tag, form_shown, href_at, label_at, linked_by, row_for, shown, shown_from, shown_with, start_tag}
+use Rattle.html_spec.specs.Blocks as blocks
+use Rattle.html_spec.specs.Blocks.{Context, Form, attribute_text, content_or_label, context_in, element_shown, end_tag, form_shown, href_at, label_at, linked_by, row_for, shown, shown_from, shown_with, start_tag}
 
 -- Content
 

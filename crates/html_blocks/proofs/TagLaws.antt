@@ -10,7 +10,7 @@ use Rattle.html_blocks.specs.Shown.{id_behind, name_begun}
 use Rattle.map_spec.specs.Elements.{attribute}
 use Rattle.map_spec.specs.Titles.{id_of}
 use Rattle.map_spec.specs.Written.{Element}
-use Rattle.page_spec.specs.Blocks.{Context, attribute_text, id_shown, if_some_text, note_class, start_of}
+use Rattle.html_spec.specs.Blocks.{Context, attribute_text, id_shown, if_some_text, note_class, start_of}
 
 -- Ids
 

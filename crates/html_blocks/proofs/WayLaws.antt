@@ -11,7 +11,7 @@ use Rattle.html_tables.specs.declared.groups.Groups.{Groups}
 use Rattle.html_tables.specs.Walk.{HasColumns, KeepsGroups}
 use Rattle.map_spec.specs.Written as written
 use Rattle.map_spec.specs.Written.{Element, Written, size}
-use Rattle.page_spec.specs.Blocks.{Context, element_shown, shown, shown_beside, shown_from}
+use Rattle.html_spec.specs.Blocks.{Context, element_shown, shown, shown_beside, shown_from}
 
 pub same_groups : (old new : Groups) → new ≡ old → KeepsGroups old new
 same_groups old new same = λ group names has. subst (λ groups. HasColumns groups group names) (sym same) has

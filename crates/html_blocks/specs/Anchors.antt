@@ -2,7 +2,7 @@
 use Rattle.std.specs.Prelude.{◌≡◌, ℕ, List, [], Option, map, unwrap_or}
 use Rattle.std.specs.List.Sorted.{IsStrictlyIncreasing}
 use Rattle.dita_doc.specs.declared.content.Anchor.{Anchor}
-use Rattle.page_spec.specs.Blocks.{href_at, label_at}
+use Rattle.html_spec.specs.Blocks.{href_at, label_at}
 
 -- the places rise from one anchor to the next
 abbrev pub AreByPlace : List Anchor → Type 0

@@ -15,8 +15,8 @@ use Rattle.map_spec.specs.Elements.{fault_at}
 use Rattle.map_spec.specs.Titles.{id_of}
 use Rattle.map_spec.specs.Written as written
 use Rattle.map_spec.specs.Written.{Element, Written}
-use Rattle.page_spec.specs.Blocks as blocks
-use Rattle.page_spec.specs.Blocks.{Context, Form, alt_of, attribute_text, end_tag, if_some_text, is_type, note_class, shown, shown_with, spans, start_of, start_tag}
+use Rattle.html_spec.specs.Blocks as blocks
+use Rattle.html_spec.specs.Blocks.{Context, Form, alt_of, attribute_text, end_tag, if_some_text, is_type, note_class, shown, shown_with, spans, start_of, start_tag}
 
 -- Where an element stands: what a token changes for those within
 

@@ -3,8 +3,8 @@ use Rattle.std.specs.Prelude.{◌-◌, ◌^◌, ℕ, Bool, List, [], ◌∷◌, 
 use Rattle.dita_doc.specs.HtmlEscapes.{escaped_value}
 use Rattle.html_blocks.specs.declared.context.Around.{Around}
 use Rattle.html_blocks.specs.declared.context.Around.TheVariants as arounds
-use Rattle.page_spec.specs.Blocks as blocks
-use Rattle.page_spec.specs.Blocks.{attribute_text, cell_tag, reference_tag, title_tag}
+use Rattle.html_spec.specs.Blocks as blocks
+use Rattle.html_spec.specs.Blocks.{attribute_text, cell_tag, reference_tag, title_tag}
 
 -- an id behind that of its topic, if that stands before it; an empty id is none
 abbrev pub id_behind : Option (List ℕ) → List ℕ → Option (List ℕ)

@@ -11,8 +11,8 @@ use Rattle.html_tables.specs.Walk.{IsContext, content_named, element_named}
 use Rattle.html_tables.specs.declared.groups.Groups.{Groups}
 use Rattle.map_spec.specs.Written as written
 use Rattle.map_spec.specs.Written.{Written}
-use Rattle.page_spec.specs.Blocks as blocks
-use Rattle.page_spec.specs.Blocks.{element_shown, shown_from}
+use Rattle.html_spec.specs.Blocks as blocks
+use Rattle.html_spec.specs.Blocks.{element_shown, shown_from}
 
 -- the names of the documents in which the nodes of a document were written
 abbrev pub names_of : Siblings → List (List ℕ)

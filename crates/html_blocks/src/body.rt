@@ -8,7 +8,7 @@ ghost use Rattle.html_blocks.specs.Body as body_spec;
 ghost use Rattle.html_blocks.specs.Opened as opened_spec;
 ghost use Rattle.html_blocks.specs.Walk as walk_spec;
 ghost use Rattle.map_spec.specs.Written.{Written};
-ghost use Rattle.page_spec.specs.Blocks as blocks_spec;
+ghost use Rattle.html_spec.specs.Blocks as blocks_spec;
 
 use crate::context::Context;
 use crate::element::Element;

@@ -2,7 +2,7 @@
 
 ghost use Rattle.std.specs.Prelude.{◌≡◌};
 ghost use Rattle.html_blocks.specs.Shown as shown_spec;
-ghost use Rattle.page_spec.specs.Blocks as blocks_spec;
+ghost use Rattle.html_spec.specs.Blocks as blocks_spec;
 
 use dita_doc::{Node, is_same};
 use html_tables::TableContext;
@@ -33,7 +33,7 @@ impl<'a> Context<'a> {
     ghost use Rattle.html_blocks.specs.Shown as shown_spec;
     ghost use Rattle.html_blocks.specs.Walk as walk_spec;
     ghost use Rattle.html_tables.specs.declared.groups.Groups.{Groups};
-    ghost use Rattle.page_spec.specs.Blocks as blocks_spec;
+    ghost use Rattle.html_spec.specs.Blocks as blocks_spec;
 
     /// Where nothing stands around.
     pub fn outside() -> Context<'a>

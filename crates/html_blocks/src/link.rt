@@ -4,7 +4,7 @@ ghost use Rattle.std.specs.Prelude.{◌≡◌, true};
 ghost use Rattle.std.specs.Bool.{OnTrue};
 ghost use Rattle.std.specs.Option.{option_copied};
 ghost use Rattle.html_blocks.specs.Anchors as anchors_spec;
-ghost use Rattle.page_spec.specs.Blocks as blocks_spec;
+ghost use Rattle.html_spec.specs.Blocks as blocks_spec;
 
 use dita_doc::{Anchor, Text};
 
@@ -28,7 +28,7 @@ impl<'a> Links<'a> {
     ghost use Rattle.std.specs.Prelude.{◌≡◌};
     ghost use Rattle.std.specs.Option.{option_copied};
     ghost use Rattle.html_blocks.specs.Anchors as anchors_spec;
-    ghost use Rattle.page_spec.specs.Blocks as blocks_spec;
+    ghost use Rattle.html_spec.specs.Blocks as blocks_spec;
 
     /// The links by these anchors.
     pub fn of(anchors: &'a [Anchor]) -> Links<'a>

@@ -4,7 +4,7 @@ ghost use Rattle.std.specs.Prelude.{◌≡◌, ◌+◌, ◌-◌, ◌^◌, ℕ, m
 ghost use Rattle.std.specs.Option.{option_copied};
 ghost use Rattle.html_blocks.specs.Shown as shown_spec;
 ghost use Rattle.html_forms.specs.Shown.{form_shown_of};
-ghost use Rattle.page_spec.specs.Blocks as blocks_spec;
+ghost use Rattle.html_spec.specs.Blocks as blocks_spec;
 
 use crate::context::{Around, Context};
 use crate::link::Link;

@@ -48,7 +48,7 @@ impl Page {
     ghost use Rattle.html_forms.specs.Shown.{form_shown_of};
     ghost use Rattle.html_tables.specs.Walk.{HasColumns, KeepsGroups, Names, columns_within};
     ghost use Rattle.map_spec.specs.Elements as elements_spec;
-    ghost use Rattle.page_spec.specs.Blocks as blocks_spec;
+    ghost use Rattle.html_spec.specs.Blocks as blocks_spec;
 
     /// Nothing was written.
     pub fn new(alloc: Global) -> Page

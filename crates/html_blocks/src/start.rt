@@ -8,7 +8,7 @@ ghost use Rattle.html_blocks.specs.Walk as walk_spec;
 ghost use Rattle.html_forms.specs.Shown.{form_shown_of};
 ghost use Rattle.html_tables.specs.Walk.{HasColumns};
 ghost use Rattle.map_spec.specs.Elements as elements_spec;
-ghost use Rattle.page_spec.specs.Blocks as blocks_spec;
+ghost use Rattle.html_spec.specs.Blocks as blocks_spec;
 
 use crate::context::Context;
 use crate::element::Element;

@@ -5,7 +5,7 @@ ghost use Rattle.std.specs.Option.{option_copied};
 ghost use Rattle.doc_elements.specs.Walk as elements_walk;
 ghost use Rattle.html_blocks.specs.Shown as shown_spec;
 ghost use Rattle.map_spec.specs.Titles as titles_spec;
-ghost use Rattle.page_spec.specs.Blocks as blocks_spec;
+ghost use Rattle.html_spec.specs.Blocks as blocks_spec;
 
 use dita_doc::{Node, Text, append_html_value};
 use std::alloc::{AllocError, Global};

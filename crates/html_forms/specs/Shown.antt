@@ -4,8 +4,8 @@ use Rattle.std.specs.Borrow.{Bor}
 use Rattle.std.specs.List.{filter_map}
 use Rattle.html_forms.specs.declared.forms.Form.{Form}
 use Rattle.html_forms.specs.declared.forms.Form.TheVariants as forms
-use Rattle.page_spec.specs.Blocks as blocks
-use Rattle.page_spec.specs.Blocks.{last_of, row_of}
+use Rattle.html_spec.specs.Blocks as blocks
+use Rattle.html_spec.specs.Blocks.{last_of, row_of}
 
 abbrev pub form_shown_of : Form → blocks.Form
 form_shown_of (forms.Tag name class) = blocks.Tag name.now class.now

@@ -18,7 +18,7 @@ pub enum Form {
     Foreign,
 }
 
-// The rows stand in the order of the definition's, `forms` of `page_spec`: a proof compares the two
+// The rows stand in the order of the definition's, `forms` of `html_spec`: a proof compares the two
 // row by row.
 pub(crate) static ROWS: [(&str, Form); 62] = [
     ("topic/topic", Form::Topic),

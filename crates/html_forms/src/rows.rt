@@ -4,7 +4,7 @@ ghost use Rattle.std.specs.Prelude.{◌≡◌, ℕ, List, option_map};
 ghost use Rattle.dita_doc.specs.ClassValue.{words_of};
 ghost use Rattle.doc_elements.specs.Walk as walk_spec;
 ghost use Rattle.html_forms.specs.Shown as shown_spec;
-ghost use Rattle.page_spec.specs.Blocks as blocks_spec;
+ghost use Rattle.html_spec.specs.Blocks as blocks_spec;
 
 use crate::forms::{Form, ROWS};
 use dita_doc::{Node, is_same, split_word};

@@ -19,8 +19,8 @@ use Rattle.map_spec.specs.Pages.{page_for}
 use Rattle.map_spec.specs.Target.{is_far, local_file, target_by}
 use Rattle.map_spec.specs.Titles.{first_in, first_of_document, id_of, topics}
 use Rattle.map_spec.specs.Written.{Element, Whole, Written, document}
-use Rattle.page_spec.specs.Anchors.{Added, Here, Lead, Linked, Read, added_all, added_by, added_of, anchors, answer_of, as_file, defined_key, element_links, format_of, fragment, has_form, holds_link, if_defined, image_added, image_by, image_by_href, image_href, image_of, in_topic, is_image, is_link, is_this_page, is_xref, key_faults_of, keyref_of, lead_by_key, lead_of, lead_to, lead_to_page, link_added, link_label, linked_added, linked_of, linked_with, nothing_added, read_as, read_href, scope_of, shows_href, text_of_target, topic_here, topic_or_first}
-use Rattle.page_spec.specs.Places.{Standing, TopicAt, all_standing, is_topic}
+use Rattle.html_spec.specs.Anchors.{Added, Here, Lead, Linked, Read, added_all, added_by, added_of, anchors, answer_of, as_file, defined_key, element_links, format_of, fragment, has_form, holds_link, if_defined, image_added, image_by, image_by_href, image_href, image_of, in_topic, is_image, is_link, is_this_page, is_xref, key_faults_of, keyref_of, lead_by_key, lead_of, lead_to, lead_to_page, link_added, link_label, linked_added, linked_of, linked_with, nothing_added, read_as, read_href, scope_of, shows_href, text_of_target, topic_here, topic_or_first}
+use Rattle.map_spec.specs.Places.{Standing, TopicAt, all_standing, is_topic}
 use Rattle.html_laws.specs.Utf8.{IsUtf8Anchor, IsUtf8Content, IsUtf8Element, IsUtf8Link, IsUtf8Page, IsUtf8Target, IsUtf8World}
 use Rattle.html_laws.proofs.ContentUtf8Laws.{IsUtf8Whole, utf8_attribute_of, utf8_child, utf8_id, utf8_plain, utf8_title_in, utf8_topics}
 use Rattle.html_laws.proofs.EachLaws.{chosen, of_and_then, of_filter_map, of_map_or, of_mapped, of_option, of_option_map, of_place}

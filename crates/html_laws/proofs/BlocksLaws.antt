@@ -7,8 +7,8 @@ use Rattle.dita_doc.specs.declared.fact.Html.{Html}
 use Rattle.map_spec.specs.Elements.{has_types}
 use Rattle.map_spec.specs.Titles.{id_of}
 use Rattle.map_spec.specs.Written.{Element, Written, End, Chars, Node, size}
-use Rattle.page_spec.specs.Blocks.{Context, Form, Tag, Topic, Title, Note, Reference, Image, Cell, SimpleCell, Left, Foreign, alt_of, attribute_text, body_html, cell_tag, columns_in, content_or_label, element_shown, form_shown, href_at, id_shown, if_some_text, image_tag, label_at, linked_at, linked_by, note_class, outside, reference_tag, row_for, row_shown, shown_from, span_text, spans, tagged, title_tag, within_type}
-use Rattle.page_spec.specs.Tables.{columns_of, rows_of}
+use Rattle.html_spec.specs.Blocks.{Context, Form, Tag, Topic, Title, Note, Reference, Image, Cell, SimpleCell, Left, Foreign, alt_of, attribute_text, body_html, cell_tag, columns_in, content_or_label, element_shown, form_shown, href_at, id_shown, if_some_text, image_tag, label_at, linked_at, linked_by, note_class, outside, reference_tag, row_for, row_shown, shown_from, span_text, spans, tagged, title_tag, within_type}
+use Rattle.html_spec.specs.Tables.{columns_of, rows_of}
 use Rattle.html_laws.specs.Markup.{IsMarkup, attribute_names, element_names, is_among, void_names}
 use Rattle.html_laws.proofs.FormLaws.{IsKnownRow, has_known_name, row_known, title_name}
 use Rattle.html_laws.proofs.MarkupLaws.{AreAttributes, attributes_beside, markup_beside, markup_element, markup_none, markup_text, markup_void, no_attributes, one_attribute}

@@ -6,8 +6,8 @@ use Rattle.dita_doc.specs.declared.fact.Html.{Html}
 use Rattle.map_spec.specs.Elements.{attribute, has_types, is_a, is_transparent, is_whole, without_transparent}
 use Rattle.map_spec.specs.Titles.{id_of}
 use Rattle.map_spec.specs.Written.{Element, Whole, Written, End, Chars, Node, side_by_side, siblings, size}
-use Rattle.page_spec.specs.Blocks.{Context, Form, Tag, Topic, Title, Note, Reference, Image, Cell, SimpleCell, Left, Foreign, alt_of, attribute_text, body_html, cell_tag, columns_in, content_or_label, element_shown, form_shown, href_at, id_shown, if_some_text, image_tag, label_at, linked_at, linked_by, note_class, outside, reference_tag, row_for, row_shown, shown_from, spans, tagged, title_tag, within_type}
-use Rattle.page_spec.specs.Tables.{column_names, is_group}
+use Rattle.html_spec.specs.Blocks.{Context, Form, Tag, Topic, Title, Note, Reference, Image, Cell, SimpleCell, Left, Foreign, alt_of, attribute_text, body_html, cell_tag, columns_in, content_or_label, element_shown, form_shown, href_at, id_shown, if_some_text, image_tag, label_at, linked_at, linked_by, note_class, outside, reference_tag, row_for, row_shown, shown_from, spans, tagged, title_tag, within_type}
+use Rattle.html_spec.specs.Tables.{column_names, is_group}
 use Rattle.html_laws.specs.Markup.{attribute_names, element_names, is_among, void_names}
 use Rattle.html_laws.specs.Tags.{HaveSameTags, with_texts}
 use Rattle.html_laws.proofs.BlocksLaws.{cell_name, href_known, reference_name, spans_known, start_attributes}

@@ -12,8 +12,8 @@ use Rattle.dita_doc.specs.declared.fact.Html.{Html}
 use Rattle.map_spec.specs.Elements.{attribute, first_child, has_types, text_of}
 use Rattle.map_spec.specs.Titles.{id_of}
 use Rattle.map_spec.specs.Written.{Element, Written, End, Chars, Node, size}
-use Rattle.page_spec.specs.Blocks.{Context, Form, Tag, Topic, Title, Note, Reference, Image, Cell, SimpleCell, Left, Foreign, alt_of, anchor_at, attribute_text, body_html, cell_tag, columns_in, content_or_label, element_shown, end_tag, form_shown, href_at, id_shown, if_some_text, image_tag, is_anchor_at, is_type, label_at, linked_at, linked_by, note_class, outside, reference_tag, row_for, row_shown, shown_from, span_text, spans, start_of, start_tag, tagged, title_tag, within_type}
-use Rattle.page_spec.specs.Tables.{column_names, columns_of, is_group, rows_of}
+use Rattle.html_spec.specs.Blocks.{Context, Form, Tag, Topic, Title, Note, Reference, Image, Cell, SimpleCell, Left, Foreign, alt_of, anchor_at, attribute_text, body_html, cell_tag, columns_in, content_or_label, element_shown, end_tag, form_shown, href_at, id_shown, if_some_text, image_tag, is_anchor_at, is_type, label_at, linked_at, linked_by, note_class, outside, reference_tag, row_for, row_shown, shown_from, span_text, spans, start_of, start_tag, tagged, title_tag, within_type}
+use Rattle.html_spec.specs.Tables.{column_names, columns_of, is_group, rows_of}
 use Rattle.html_laws.specs.Utf8.{IsUtf8Anchor, IsUtf8Content}
 use Rattle.html_laws.proofs.BlocksLaws.{cell_name, reference_name}
 use Rattle.html_laws.proofs.ContentUtf8Laws.{HasUtf8Values, utf8_attribute_of, utf8_child, utf8_id, utf8_text_of}

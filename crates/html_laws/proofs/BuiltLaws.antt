@@ -20,17 +20,17 @@ use Rattle.map_spec.specs.PlanOf.{limits, plan_of}
 use Rattle.map_spec.specs.Scopes.{places, places_from}
 use Rattle.map_spec.specs.Titles.{kind_in, kind_of_document, kind_of_root, title_in}
 use Rattle.map_spec.specs.Written.{Whole, Written, document, first_sibling}
-use Rattle.page_spec.specs.Anchors.{anchor_faults, anchors, element_links}
-use Rattle.page_spec.specs.Blocks.{body_html}
-use Rattle.page_spec.specs.Content.{Made, resolved_page}
-use Rattle.page_spec.specs.Links.{row_faults}
+use Rattle.html_spec.specs.Anchors.{anchor_faults, anchors, element_links}
+use Rattle.html_spec.specs.Blocks.{body_html}
+use Rattle.conref_spec.specs.Content.{Made, resolved_page}
+use Rattle.link_spec.specs.Links.{row_faults}
 use Rattle.part_spec.specs.Parts.{Rooms, build_by, build_of, clean_build, contents_part, here_of, links_of, names_of, page_of_root, page_part, page_parts, no_html, page_with, pages_with, parts_of, rooms, setting_of, too_many, total_limit, total_of}
 use Rattle.html_laws.specs.Markup.{IsPage}
 use Rattle.html_laws.proofs.BlocksLaws.{body_markup}
 use Rattle.html_laws.proofs.ContentsLaws.{contents_is_page}
 use Rattle.html_laws.proofs.EachLaws.{always, of_and_then, of_any, of_both, of_filter_map, of_kept, of_mapped, of_place}
 use Rattle.html_laws.proofs.PageLaws.{page_is_page}
-use Rattle.language_laws.proofs.PlanPagesLaws.{plan_pages}
+use Rattle.build_plan.proofs.PlanPagesLaws.{plan_pages}
 
 -- The document of a page is a topic or such a collection, so it has a root
 

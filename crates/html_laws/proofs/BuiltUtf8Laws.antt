@@ -25,10 +25,10 @@ use Rattle.map_spec.specs.PlanOf.{Limits, build_rules, grown_from, limits, plan_
 use Rattle.map_spec.specs.Scopes.{places_from}
 use Rattle.map_spec.specs.Titles.{title_in}
 use Rattle.map_spec.specs.Written.{Whole}
-use Rattle.page_spec.specs.Anchors.{anchor_faults, anchors, element_links}
-use Rattle.page_spec.specs.Blocks.{body_html}
-use Rattle.page_spec.specs.Content.{resolved_page}
-use Rattle.page_spec.specs.Links.{row_faults}
+use Rattle.html_spec.specs.Anchors.{anchor_faults, anchors, element_links}
+use Rattle.html_spec.specs.Blocks.{body_html}
+use Rattle.conref_spec.specs.Content.{resolved_page}
+use Rattle.link_spec.specs.Links.{row_faults}
 use Rattle.part_spec.specs.Parts.{Rooms, build_by, clean_build, contents_part, here_of, links_of, names_of, no_html, page_of_root, page_part, page_parts, pages_with, parts_of, rooms, setting_of, too_many, total_limit}
 use Rattle.html_laws.specs.Utf8.{IsUtf8Node, IsUtf8Page, IsUtf8Plan, IsUtf8World}
 use Rattle.html_laws.proofs.AnchorUtf8Laws.{IsUtf8Here, utf8_anchors, utf8_element_links}

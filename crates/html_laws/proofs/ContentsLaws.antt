@@ -10,9 +10,9 @@ use Rattle.dita_doc.specs.declared.plan.PlanNode.{PlanNode}
 use Rattle.ditaval_rules.specs.Verdict.{conditional_names, is_conditional}
 use Rattle.reader_spec.specs.World.{World}
 use Rattle.map_spec.specs.Scopes.{places}
-use Rattle.page_spec.specs.Blocks.{attribute_text}
-use Rattle.page_spec.specs.Contents.{contents, contents_body, contents_title, data_text, href_by, is_item, item_text, items, items_from, label_of, linked, list_text, node_items}
-use Rattle.page_spec.specs.Links.{is_child, target_of}
+use Rattle.html_spec.specs.Blocks.{attribute_text}
+use Rattle.html_spec.specs.Contents.{contents, contents_body, contents_title, data_text, href_by, is_item, item_text, items, items_from, label_of, linked, list_text, node_items}
+use Rattle.link_spec.specs.Links.{is_child, target_of}
 use Rattle.html_laws.specs.Markup.{IsMarkup, IsPage, attribute_names, element_names, is_among}
 use Rattle.html_laws.proofs.BlocksLaws.{attribute_known}
 use Rattle.html_laws.proofs.MarkupLaws.{AreAttributes, attributes_beside, markup_beside, markup_element, markup_none, markup_text, no_attributes}

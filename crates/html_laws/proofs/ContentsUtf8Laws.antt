@@ -18,9 +18,9 @@ use Rattle.map_spec.specs.Cascade.{attribute_at, whole_at}
 use Rattle.map_spec.specs.Elements.{attribute, first_child, first_under, text_of}
 use Rattle.map_spec.specs.Scopes.{places}
 use Rattle.map_spec.specs.Written.{Whole}
-use Rattle.page_spec.specs.Blocks.{attribute_text, end_tag, start_tag}
-use Rattle.page_spec.specs.Contents.{contents, contents_body, contents_title, data_text, href_by, is_item, is_keyed, is_local, is_locked, is_text, item_text, items, items_from, label_by_target, label_of, linked, list_text, navtitle_element, navtitle_of, node_items, page_named, title_written}
-use Rattle.page_spec.specs.Links.{is_child, page_of_node, target_of}
+use Rattle.html_spec.specs.Blocks.{attribute_text, end_tag, start_tag}
+use Rattle.html_spec.specs.Contents.{contents, contents_body, contents_title, data_text, href_by, is_item, is_keyed, is_local, is_locked, is_text, item_text, items, items_from, label_by_target, label_of, linked, list_text, navtitle_element, navtitle_of, node_items, page_named, title_written}
+use Rattle.link_spec.specs.Links.{is_child, page_of_node, target_of}
 use Rattle.html_laws.specs.Utf8.{HasUtf8Value, IsUtf8Node, IsUtf8Page, IsUtf8Plan, IsUtf8Target, IsUtf8World}
 use Rattle.html_laws.proofs.ContentUtf8Laws.{IsUtf8Whole, utf8_attribute_at, utf8_attribute_of, utf8_child, utf8_first, utf8_text_of, utf8_title_in, utf8_under, utf8_whole_at}
 use Rattle.html_laws.proofs.EachLaws.{always, chosen, of_and_then, of_any, of_map_or, of_option, of_option_map, of_place}

@@ -8,7 +8,7 @@ use Rattle.std.proofs.lemmas.Bool.Decides.{nat_tests}
 use Rattle.std.proofs.lemmas.Fmt.{decimal_digit}
 use Rattle.map_spec.specs.Elements.{tokens_of}
 use Rattle.map_spec.specs.Written.{Element}
-use Rattle.page_spec.specs.Blocks.{Form, Tag, Topic, Title, Note, Reference, Image, Cell, SimpleCell, Left, Foreign, forms, Around, InTopic, InSection, InFigure, InTable, heading, is_form_of, last_of, row_for, row_of, title_tag}
+use Rattle.html_spec.specs.Blocks.{Form, Tag, Topic, Title, Note, Reference, Image, Cell, SimpleCell, Left, Foreign, forms, Around, InTopic, InSection, InFigure, InTable, heading, is_form_of, last_of, row_for, row_of, title_tag}
 use Rattle.html_laws.specs.Markup.{element_names, is_among}
 use Rattle.html_laws.proofs.EachLaws.{of_any, of_filter_map, of_found}
 

@@ -5,7 +5,7 @@ use Rattle.std.specs.Str.{IsUtf8}
 use Rattle.std.proofs.Common.{refl}
 use Rattle.std.proofs.lemmas.Bool.{and_parts}
 use Rattle.map_spec.specs.Written.{Element}
-use Rattle.page_spec.specs.Blocks.{Form, Tag, Topic, Title, Note, Reference, Image, Cell, SimpleCell, Left, Foreign, forms, row_for}
+use Rattle.html_spec.specs.Blocks.{Form, Tag, Topic, Title, Note, Reference, Image, Cell, SimpleCell, Left, Foreign, forms, row_for}
 use Rattle.html_laws.proofs.FormLaws.{each_passes, row_holds}
 use Rattle.html_laws.proofs.TextUtf8Laws.{is_low, utf8_codes}
 

@@ -8,7 +8,7 @@ use Rattle.dita_doc.specs.declared.plan.Plan.{Plan}
 use Rattle.href_text.specs.Joined.{relative_path}
 use Rattle.reader_spec.specs.World.{World}
 use Rattle.map_spec.specs.Titles.{title_in}
-use Rattle.page_spec.specs.Links.{LinkTo, family_links, links_of_kind, page_link, page_links, row_links, to_each_once}
+use Rattle.link_spec.specs.Links.{LinkTo, family_links, links_of_kind, page_link, page_links, row_links, to_each_once}
 use Rattle.part_spec.specs.Parts.{hrefs_once, links_of}
 use Rattle.html_laws.specs.Utf8.{IsUtf8Link, IsUtf8Page, IsUtf8World}
 use Rattle.html_laws.proofs.ContentUtf8Laws.{utf8_title_in}

@@ -7,8 +7,8 @@ use Rattle.dita_doc.specs.declared.content.LinkKind.{LinkKind}
 use Rattle.dita_doc.specs.declared.content.LinkKind.TheVariants as links
 use Rattle.dita_doc.specs.declared.content.PageLink.{PageLink}
 use Rattle.dita_doc.specs.declared.fact.Html.{Html}
-use Rattle.page_spec.specs.Blocks.{attribute_text}
-use Rattle.page_spec.specs.PageHtml.{kind_text, link_item, page_text, page_within, related_line}
+use Rattle.html_spec.specs.Blocks.{attribute_text}
+use Rattle.html_spec.specs.PageHtml.{kind_text, link_item, page_text, page_within, related_line}
 use Rattle.html_laws.specs.Markup.{IsMarkup, IsPage, Itself, NoNodes, Text, attribute_names, element_names, void_names}
 use Rattle.html_laws.proofs.BlocksLaws.{attribute_known}
 use Rattle.html_laws.proofs.MarkupLaws.{markup_beside, markup_element, markup_none, markup_text, markup_void, no_attributes}

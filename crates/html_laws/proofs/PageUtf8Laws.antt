@@ -10,7 +10,7 @@ use Rattle.dita_doc.specs.declared.content.LinkKind.{LinkKind}
 use Rattle.dita_doc.specs.declared.content.LinkKind.TheVariants as links
 use Rattle.dita_doc.specs.declared.content.PageLink.{PageLink}
 use Rattle.dita_doc.specs.declared.fact.Html.{Html}
-use Rattle.page_spec.specs.PageHtml.{kind_text, link_item, page_text, page_within, related_line}
+use Rattle.html_spec.specs.PageHtml.{kind_text, link_item, page_text, page_within, related_line}
 use Rattle.html_laws.specs.Utf8.{IsUtf8Link}
 use Rattle.html_laws.proofs.TextUtf8Laws.{utf8_codes, utf8_escaped, utf8_three, utf8_value}
 

@@ -4,7 +4,7 @@ use Rattle.std.specs.List.{AllByRecursion}
 use Rattle.std.specs.Str.{IsUtf8}
 use Rattle.map_spec.specs.Titles.{id_of}
 use Rattle.map_spec.specs.Written.{Element, Written, End, Chars, Node, size}
-use Rattle.page_spec.specs.Places.{Standing, TopicAt, all_standing, is_element_meant, is_topic, is_topic_there, is_topic_with, standing_from, target_in, topic_inside, topic_meant, first_topic}
+use Rattle.map_spec.specs.Places.{Standing, TopicAt, all_standing, is_element_meant, is_topic, is_topic_there, is_topic_with, standing_from, target_in, topic_inside, topic_meant, first_topic}
 use Rattle.html_laws.specs.Utf8.{IsUtf8Content, IsUtf8Element}
 use Rattle.html_laws.proofs.ContentUtf8Laws.{IsUtf8Whole, utf8_id}
 use Rattle.html_laws.proofs.EachLaws.{chosen, of_both, of_found}

@@ -9,8 +9,8 @@ use Rattle.dita_doc.specs.declared.doc.Attribute.{Attribute}
 use Rattle.reader_spec.specs.World.{World}
 use Rattle.map_spec.specs.Elements.{attribute}
 use Rattle.map_spec.specs.Written.{Element, Whole, Written, End, Chars, Node, document, element_in, side_by_side, size}
-use Rattle.page_spec.specs.Places.{Standing, all_standing}
-use Rattle.page_spec.specs.Pushes.{AllPushes, PushInto, PushTarget, Pushing, acts, all_pushes, all_side_by_side, at_place, copy_beside, copy_instead, id_written, is_after, is_before, is_into, is_replace, is_replaced_by, itself_or, no_pushes, push_kind, push_of, pushed, pushed_element, pushed_from, pushes_at, pushes_behind, pushes_into, pushing_at, pushing_in, pushing_of, with_id_of, with_pushing, without_acting, without_names, pushing_names, twice_fault}
+use Rattle.map_spec.specs.Places.{Standing, all_standing}
+use Rattle.map_spec.specs.Pushes.{AllPushes, PushInto, PushTarget, Pushing, acts, all_pushes, all_side_by_side, at_place, copy_beside, copy_instead, id_written, is_after, is_before, is_into, is_replace, is_replaced_by, itself_or, no_pushes, push_kind, push_of, pushed, pushed_element, pushed_from, pushes_at, pushes_behind, pushes_into, pushing_at, pushing_in, pushing_of, with_id_of, with_pushing, without_acting, without_names, pushing_names, twice_fault}
 use Rattle.html_laws.specs.Utf8.{HasUtf8Value, IsUtf8Content, IsUtf8Element, IsUtf8World}
 use Rattle.html_laws.proofs.ContentUtf8Laws.{IsUtf8Whole, utf8_attribute_of, utf8_beside, utf8_element_in}
 use Rattle.html_laws.proofs.EachLaws.{always, chosen, of_both, of_filter_map, of_found, of_kept, of_lists, of_map_or, of_mapped, of_option_map}

@@ -15,9 +15,9 @@ use Rattle.map_spec.specs.Judged.{group_faults}
 use Rattle.map_spec.specs.Keys.{id_of_key, key_of}
 use Rattle.map_spec.specs.Target.{if_read, is_same_topic}
 use Rattle.map_spec.specs.Written.{Element, Written, End, Chars, Node}
-use Rattle.page_spec.specs.Content.{Followed, Found, Made, Place, Range, Resolve, Setting, Sought, by_conref, by_key, conref_named, element_made, element_resolved, end_id, followed, followed_from, followed_to, found_by, found_in, goes, has_end_id, has_reference, is_written_in, key_faults, key_named, made_beside, made_of, made_with, merged_element, names_not_taken, nothing_made, page_root, path_limit, range_behind, range_by, range_from, ranges_made, refused_by, resolved_among, resolved_from, resolved_in, resolved_page, sought_by, specified, taken_or, takes_href, topic_for, topic_within, unchanged, up_to_end, value_used, without_id}
-use Rattle.page_spec.specs.Places.{Standing, target_in}
-use Rattle.page_spec.specs.Pushes.{without_names}
+use Rattle.conref_spec.specs.Content.{Followed, Found, Made, Place, Range, Resolve, Setting, Sought, by_conref, by_key, conref_named, element_made, element_resolved, end_id, followed, followed_from, followed_to, found_by, found_in, goes, has_end_id, has_reference, is_written_in, key_faults, key_named, made_beside, made_of, made_with, merged_element, names_not_taken, nothing_made, page_root, path_limit, range_behind, range_by, range_from, ranges_made, refused_by, resolved_among, resolved_from, resolved_in, resolved_page, sought_by, specified, taken_or, takes_href, topic_for, topic_within, unchanged, up_to_end, value_used, without_id}
+use Rattle.map_spec.specs.Places.{Standing, target_in}
+use Rattle.map_spec.specs.Pushes.{without_names}
 use Rattle.html_laws.specs.Utf8.{HasUtf8Value, IsUtf8Content, IsUtf8Element, IsUtf8Target}
 use Rattle.html_laws.proofs.ContentUtf8Laws.{utf8_attribute_of, utf8_beside}
 use Rattle.html_laws.proofs.EachLaws.{always, chosen, of_and_then, of_both, of_either, of_kept, of_option, of_option_map}

@@ -9,7 +9,7 @@ use Rattle.std.proofs.lemmas.Bool.Decides.{nat_tests}
 use Rattle.std.proofs.lemmas.Str.{IsUtf8-append, IsUtf8-nil}
 use Rattle.dita_doc.specs.HtmlEscapes.{escaped, escaped_byte, escaped_value, escaped_value_byte}
 use Rattle.dita_doc.proofs.Utf8Laws.{AreHigh, utf8_cons, utf8_grows}
-use Rattle.page_spec.specs.Blocks.{attribute_text, end_tag, start_tag}
+use Rattle.html_spec.specs.Blocks.{attribute_text, end_tag, start_tag}
 use Rattle.html_laws.specs.Markup.{element_names, is_among}
 use Rattle.html_laws.proofs.EachLaws.{chosen}
 use Rattle.html_laws.proofs.WordLaws.{among_passes}

@@ -17,9 +17,9 @@ ghost use Rattle.html_laws.specs.Markup as markup_spec;
 ghost use Rattle.html_laws.specs.Tags as tags_spec;
 ghost use Rattle.html_laws.specs.Utf8 as utf8_spec;
 ghost use Rattle.map_spec.specs.Written.{Written};
-ghost use Rattle.page_spec.specs.Blocks as blocks_spec;
-ghost use Rattle.page_spec.specs.Contents as contents_spec;
-ghost use Rattle.page_spec.specs.PageHtml as page_html_spec;
+ghost use Rattle.html_spec.specs.Blocks as blocks_spec;
+ghost use Rattle.html_spec.specs.Contents as contents_spec;
+ghost use Rattle.html_spec.specs.PageHtml as page_html_spec;
 ghost use Rattle.part_spec.specs.Parts as parts_spec;
 ghost use Rattle.reader_spec.specs.World.{World};
 

@@ -8,7 +8,7 @@ use Rattle.dita_doc.specs.declared.content.PageLink.{PageLink}
 use Rattle.dita_doc.specs.declared.fact.Html.{Html}
 use Rattle.dita_doc.specs.declared.fault.Fault.{Fault}
 use Rattle.dita_doc.specs.declared.stop.NoMemory.{NoMemory}
-use Rattle.page_spec.specs.PageHtml.{page_text, page_within, too_large}
+use Rattle.html_spec.specs.PageHtml.{page_text, page_within, too_large}
 
 -- a page that is written in three pieces
 pub text_written : (page with_body first before body behind related end : List ℕ) → page ≡ with_body ++ behind

@@ -6,7 +6,7 @@ use Rattle.std.proofs.lemmas.Bool.{true≢false}
 use Rattle.std.proofs.lemmas.List.{take_all}
 use Rattle.dita_doc.specs.declared.content.PageLink.{PageLink}
 use Rattle.dita_doc.specs.Lines.{line}
-use Rattle.page_spec.specs.PageHtml.{link_item, related_line}
+use Rattle.html_spec.specs.PageHtml.{link_item, related_line}
 
 -- what stands before the links, and behind them
 abbrev start : List ℕ

@@ -1,7 +1,7 @@
 //! The fault of a page that is too long.
 
 ghost use Rattle.std.specs.Prelude.{◌≡◌, IfOk};
-ghost use Rattle.page_spec.specs.PageHtml as spec;
+ghost use Rattle.html_spec.specs.PageHtml as spec;
 
 use dita_doc::{Fault, FaultCode, Name, Text};
 use std::alloc::{AllocError, Global};

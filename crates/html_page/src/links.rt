@@ -2,7 +2,7 @@
 
 ghost use Rattle.std.specs.Prelude.{◌≡◌, ◌++◌, codes, OnOk};
 ghost use Rattle.dita_doc.specs.HtmlEscapes as html_escapes_spec;
-ghost use Rattle.page_spec.specs.PageHtml as spec;
+ghost use Rattle.html_spec.specs.PageHtml as spec;
 
 use dita_doc::{LinkKind, PageLink, Text, append_html, append_html_value};
 use std::alloc::AllocError;

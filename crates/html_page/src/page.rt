@@ -4,7 +4,7 @@ ghost use Rattle.std.specs.Prelude.{◌≡◌, ◌++◌, [], ◌∷◌, codes, I
 ghost use Rattle.dita_doc.specs.Bytes.{line_feed};
 ghost use Rattle.dita_doc.specs.HtmlEscapes as html_escapes_spec;
 ghost use Rattle.dita_doc.specs.Lines as lines_spec;
-ghost use Rattle.page_spec.specs.PageHtml as spec;
+ghost use Rattle.html_spec.specs.PageHtml as spec;
 
 use crate::faults::too_large;
 use crate::links::append_related_line;

@@ -13,7 +13,7 @@ use Rattle.html_tables.specs.Walk.{AreColumns, HasNameMore, Names, or_at}
 use Rattle.map_spec.specs.Elements.{attribute, children, is_a, is_transparent, is_value, is_whole, without_transparent}
 use Rattle.map_spec.specs.Pages.{place_of}
 use Rattle.map_spec.specs.Written.{Element, Whole, Written, Node}
-use Rattle.page_spec.specs.Tables.{column_at, column_names, columns_from, columns_of}
+use Rattle.html_spec.specs.Tables.{column_at, column_names, columns_from, columns_of}
 
 -- A place among names
 

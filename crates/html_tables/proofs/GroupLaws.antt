@@ -8,7 +8,7 @@ use Rattle.html_tables.specs.declared.groups.Groups.{Groups}
 use Rattle.html_tables.specs.Walk.{AreColumns, IsGroupAt, KeepsGroups, Names, columns_within}
 use Rattle.map_spec.specs.Elements.{is_dita, is_transparent, tokens_of}
 use Rattle.map_spec.specs.Written.{Element, Written}
-use Rattle.page_spec.specs.Tables.{column_names}
+use Rattle.html_spec.specs.Tables.{column_names}
 
 get_front : {X : Type 0} (xs ys : List X) (at : ℕ) (x : X) → slice_get xs at ≡ Some x
     → slice_get (xs ++ ys) at ≡ Some x

@@ -1,5 +1,8 @@
+mod CellRows
 pub mod ColumnLaws
 pub mod GroupLaws
-pub mod PlaceLaws
-pub mod SaidLaws
+pub mod NodeLaws
 pub mod WalkLaws
+pub mod PlaceLaws
+pub mod DownLaws
+pub mod SaidLaws

@@ -1,159 +1,216 @@
--- The element at a place, by the preorder and by the tree.
-use Rattle.std.specs.Prelude.{◌≡◌, ◌+◌, ◌-◌, ◌<◌, ◌≤◌, ◌==◌, ℕ, zero, suc, Bool, true, false, List, [], Option, Some, None, length, nat_lt, if◌then◌else◌}
+-- The cells at a place, on the way from the root down to it: where the cells of nodes stand, and what is found among those
+-- nodes that are left.
+use Rattle.std.specs.Prelude.{◌≡◌, ◌+◌, ◌-◌, ◌<◌, ◌≤◌, ◌==◌, ◌++◌, ℕ, zero, suc, Bool, true, false, List, [], ◌∷◌, Option, Some, None, filter, nat_lt}
 use Rattle.std.specs.Option.{option_map_or}
 use Rattle.std.proofs.Common.{refl, sym, ap, ◌∙◌, arith}
 use Rattle.std.proofs.lemmas.Bool.Decides.{nat_tests}
+use Rattle.std.proofs.lemmas.List.{append-nil}
+use Rattle.std.proofs.lemmas.List.Elements.{filter-append}
 use Rattle.std.proofs.lemmas.Option.{none-some, same_Some}
-use Rattle.dita_doc.specs.Siblings.{IsElementAt, content_from, element_at, first_element, joined}
-use Rattle.dita_doc.specs.Tree.{ArePreorder, Content, End, Chars, Element, node_limit, size_of, tree_of}
-use Rattle.dita_doc.specs.declared.doc.Attribute.{Attribute}
-use Rattle.dita_doc.specs.declared.doc.Doc.{Doc}
-use Rattle.dita_doc.specs.declared.doc.Node.{Node}
-use Rattle.dita_doc.specs.declared.siblings.Siblings.{Siblings}
 use Rattle.dita_doc.proofs.LackLaws.{no_equal}
-use Rattle.dita_doc.proofs.TreeLaws.{length_nodes}
-use Rattle.html_tables.proofs.WalkLaws.{size_named}
-use Rattle.html_tables.specs.Walk.{cells_at, cells_of, content_named, element_named}
-use Rattle.map_spec.specs.Written as written
-use Rattle.map_spec.specs.Written.{Whole}
-use Rattle.readers.specs.Named.{name_at, named, named_tree}
+use Rattle.html_tables.specs.Walk.{cells_in, cells_of, stands_in}
+use Rattle.map_spec.specs.Written.{Element, Whole, Written, End, Chars, Node, element_at, size}
+use Rattle.html_spec.specs.Blocks as blocks
+use Rattle.html_spec.specs.Blocks.{CellAt, Context, Form, cell_by, cells_from, context_in, row_for}
 
--- Contents one behind another
+-- Cells of nodes pass a test, or fail it, by their places
 
-joined_joined : (a b c : Content) → joined (joined a b) c ≡ joined a (joined b c)
-joined_joined End b c = refl
-joined_joined (Chars text origin line rest) b c = ap (Chars text origin line) (joined_joined rest b c)
-joined_joined (Element name attributes origin line inside rest) b c =
-    ap (Element name attributes origin line inside) (joined_joined rest b c)
+abbrev kept_if : Bool → List CellAt → List CellAt
+kept_if true cells = cells
+kept_if false cells = []
 
-size_joined : (a b : Content) → size_of (joined a b) ≡ size_of a + size_of b
-size_joined End b = omega arith
-size_joined (Chars text origin line rest) b = let more = size_joined rest b in omega (arith, more)
-size_joined (Element name attributes origin line inside rest) b = let more = size_joined rest b in omega (arith, more)
+none_kept : (is : Bool) → [] ≡ kept_if is []
+none_kept true = refl
+none_kept false = refl
 
--- a place in the first of them
-front : (place : ℕ) (a b : Content) → place < size_of a
-    → first_element (content_from place (joined a b)) ≡ first_element (content_from place a)
-front place End b within = absurd (omega arith)
-front zero (Chars text origin line rest) b within = refl
-front zero (Element name attributes origin line inside rest) b within = refl
-front (suc place) (Chars text origin line rest) b within = front place rest b (omega arith)
-front (suc place) (Element name attributes origin line inside rest) b within =
-    let size = size_joined inside rest in
-    ap (λ all. first_element (content_from place all)) (sym (joined_joined inside rest b))
-    ∙ front place (joined inside rest) b (omega (arith, size))
+one_kept : (test : CellAt → Bool) (cell : CellAt) (is : Bool) → test cell ≡ is
+    → filter test (cell ∷ []) ≡ kept_if is (cell ∷ [])
+one_kept test cell true e = rw e refl
+one_kept test cell false e = rw e refl
 
--- and behind it
-behind : (a b : Content) (k : ℕ) → content_from (size_of a + k) (joined a b) ≡ content_from k b
-behind End b k = let same : 0 + k ≡ k = omega arith in ap (λ n. content_from n b) same
-behind (Chars text origin line rest) b k =
-    let next : 1 + size_of rest + k ≡ suc (size_of rest + k) = omega arith in
-    rw next (behind rest b k)
-behind (Element name attributes origin line inside rest) b k =
-    let next : 1 + (size_of inside + size_of rest) + k ≡ suc (size_of inside + (size_of rest + k)) = omega arith in
-    rw next (behind inside (joined rest b) (size_of rest + k) ∙ behind rest b k)
+both_kept : (is : Bool) (xs ys : List CellAt) → kept_if is xs ++ kept_if is ys ≡ kept_if is (xs ++ ys)
+both_kept true xs ys = refl
+both_kept false xs ys = refl
+
+module _ (test : CellAt → Bool) (is : Bool) where
+  joined_kept : (xs ys : List CellAt) → filter test xs ≡ kept_if is xs → filter test ys ≡ kept_if is ys
+      → filter test (xs ++ ys) ≡ kept_if is (xs ++ ys)
+  joined_kept xs ys one two = filter-append test xs ys ∙ rw (one, two) (both_kept is xs ys)
+
+  cell_kept : (around : Context) (here : ℕ) (element : Element) (row : Option (List ℕ × Form))
+      → ((cell : CellAt) → cell.place ≡ here → test cell ≡ is)
+      → filter test (cell_by around here element row) ≡ kept_if is (cell_by around here element row)
+  cell_kept around here element None tests = none_kept is
+  cell_kept around here element (Some (token, blocks.Cell)) tests = one_kept test _ is (tests _ refl)
+  cell_kept around here element (Some (token, blocks.SimpleCell)) tests = one_kept test _ is (tests _ refl)
+  cell_kept around here element (Some (token, blocks.Tag name class)) tests = none_kept is
+  cell_kept around here element (Some (token, blocks.Topic)) tests = none_kept is
+  cell_kept around here element (Some (token, blocks.Title)) tests = none_kept is
+  cell_kept around here element (Some (token, blocks.Note)) tests = none_kept is
+  cell_kept around here element (Some (token, blocks.Reference)) tests = none_kept is
+  cell_kept around here element (Some (token, blocks.Image)) tests = none_kept is
+  cell_kept around here element (Some (token, blocks.Left)) tests = none_kept is
+  cell_kept around here element (Some (token, blocks.Foreign)) tests = none_kept is
+
+  cells_kept : (around : Context) (here : ℕ) (nodes : Written)
+      → ((cell : CellAt) → here ≤ cell.place → cell.place < here + size nodes → test cell ≡ is)
+      → filter test (cells_from around here nodes) ≡ kept_if is (cells_from around here nodes)
+  cells_kept around here End tests = none_kept is
+  cells_kept around here (Chars text doc rest) tests =
+      cells_kept around (here + 1) rest (λ cell from to. tests cell (omega arith) (omega arith))
+  cells_kept around here (Node element inside rest) tests =
+      let row = row_for element in
+      let within = context_in element inside row around in
+      joined_kept (cell_by around here element row ++ cells_from within (here + 1) inside)
+      (cells_from around (here + 1 + size inside) rest)
+      (joined_kept (cell_by around here element row) (cells_from within (here + 1) inside)
+      (cell_kept around here element row (λ cell is_here. tests cell (omega arith) (omega arith)))
+      (cells_kept within (here + 1) inside (λ cell from to. tests cell (omega arith) (omega arith))))
+      (cells_kept around (here + 1 + size inside) rest (λ cell from to. tests cell (omega arith) (omega arith)))
 
 -- The element at a place
-
-abbrev pub whole_of : List (List ℕ) → Option Content → Option Whole
-whole_of names None = None
-whole_of names (Some End) = None
-whole_of names (Some (Chars text origin line rest)) = None
-whole_of names (Some (Element name attributes origin line inside rest)) = Some (
-  record {
-    name = name;
-    attributes = attributes;
-    doc = name_at names origin;
-    line = line;
-    href_doc = name_at names origin;
-  },
-  named names inside,
-)
 
 not_zero : (n : ℕ) → (suc n == 0) ≡ false
 not_zero n = no_equal (suc n) 0 (λ same. omega arith)
 
-module _ (names : List (List ℕ)) where
-  beyond_or_in : (place : ℕ) (inside rest : Content) (beyond : Bool)
-      → nat_lt (written.size (named names inside)) (suc place) ≡ beyond
-      → ((at : ℕ) → written.element_at (named names inside) at ≡ whole_of names (element_at inside at))
-      → ((at : ℕ) → written.element_at (named names rest) at ≡ whole_of names (element_at rest at))
-      → (if beyond then written.element_at (named names rest) (suc place - (1 + written.size (named names inside)))
-      else written.element_at (named names inside) (suc place - 1))
-      ≡ whole_of names (first_element (content_from place (joined inside rest)))
-  beyond_or_in place inside rest true e in_inside in_rest =
-      let size = size_named names inside in
-      let low : written.size (named names inside) < suc place = grind (arith, nat_tests) in
-      let at = place - size_of inside in
-      let here : suc place - (1 + written.size (named names inside)) ≡ at = omega (arith, size) in
-      let past : size_of inside + at ≡ place = omega (arith, size) in
-      ap (written.element_at (named names rest)) here
-      ∙ in_rest at
-      ∙ ap (λ all. whole_of names (first_element all)) (sym (behind inside rest at))
-      ∙ ap (λ k. whole_of names (first_element (content_from k (joined inside rest)))) past
-  beyond_or_in place inside rest false e in_inside in_rest =
-      let size = size_named names inside in
-      let high : suc place ≤ written.size (named names inside) = grind (arith, nat_tests) in
-      let here : suc place - 1 ≡ place = omega arith in
-      ap (written.element_at (named names inside)) here
-      ∙ in_inside place
-      ∙ ap (whole_of names) (sym (front place inside rest (omega (arith, size))))
+at_text : (text doc : List ℕ) (rest : Written) (k : ℕ) → element_at (Chars text doc rest) (suc k) ≡ element_at rest k
+at_text text doc rest k =
+    let here : suc k - 1 ≡ k = omega arith in
+    rw (not_zero k) (ap (element_at rest) here)
 
-  -- both find the same
-  pub placed : (c : Content) (place : ℕ) → written.element_at (named names c) place ≡ whole_of names (element_at c place)
-  placed End zero = refl
-  placed End (suc place) = refl
-  placed (Chars text origin line rest) zero = refl
-  placed (Chars text origin line rest) (suc place) =
-      let here : suc place - 1 ≡ place = omega arith in
-      rw (not_zero place) (ap (written.element_at (named names rest)) here ∙ placed rest place)
-  placed (Element name attributes origin line inside rest) zero = refl
-  placed (Element name attributes origin line inside rest) (suc place) =
-      rw (not_zero place)
-      (beyond_or_in place inside rest (nat_lt (written.size (named names inside)) (suc place)) refl
-      (placed inside) (placed rest))
+module _ (element : Element) (inside rest : Written) (k : ℕ) where
+  at_inside : k < size inside → element_at (Node element inside rest) (suc k) ≡ element_at inside k
+  at_inside low =
+      let here : suc k - 1 ≡ k = omega arith in
+      let is : nat_lt (size inside) (suc k) ≡ false = grind (arith, nat_tests) in
+      rw (not_zero k, is) (ap (element_at inside) here)
 
--- Places fit
+  at_behind : size inside ≤ k → element_at (Node element inside rest) (suc k) ≡ element_at rest (k - size inside)
+  at_behind high =
+      let here : suc k - (1 + size inside) ≡ k - size inside = omega arith in
+      let is : nat_lt (size inside) (suc k) ≡ true = grind (arith, nat_tests) in
+      rw (not_zero k, is) (ap (element_at rest) here)
 
-from_fits : (place : ℕ) (c : Content) → 1 ≤ size_of (content_from place c)
-    → place + size_of (content_from place c) ≤ size_of c
-from_fits zero c some = omega arith
-from_fits (suc place) End some = absurd (omega arith)
-from_fits (suc place) (Chars text origin line rest) some = let more = from_fits place rest some in omega (arith, more)
-from_fits (suc place) (Element name attributes origin line inside rest) some =
-    let more = from_fits place (joined inside rest) some in
-    let size = size_joined inside rest in
-    omega (arith, more, size)
+-- an element and what it holds fit into the nodes among which it was found
+behind_or_inside : (element : Element) (inside rest : Written) (k : ℕ) (whole : Whole) (beyond : Bool)
+    → nat_lt (size inside) (suc k) ≡ beyond → element_at (Node element inside rest) (suc k) ≡ Some whole
+    → ((at : ℕ) → element_at inside at ≡ Some whole → at + 1 + size whole.1 ≤ size inside)
+    → ((at : ℕ) → element_at rest at ≡ Some whole → at + 1 + size whole.1 ≤ size rest)
+    → suc k + 1 + size whole.1 ≤ 1 + (size inside + size rest)
+behind_or_inside element inside rest k whole true e found in_inside in_rest =
+    let high : size inside ≤ k = grind (arith, nat_tests) in
+    let fits = in_rest (k - size inside) (sym (at_behind element inside rest k high) ∙ found) in
+    omega (arith, fits, high)
+behind_or_inside element inside rest k whole false e found in_inside in_rest =
+    let low : k < size inside = grind (arith, nat_tests) in
+    let fits = in_inside k (sym (at_inside element inside rest k low) ∙ found) in
+    omega (arith, fits)
 
-first_fits : (c : Content) (name : List ℕ) (attributes : List Attribute) (origin line : ℕ) (inside : Content)
-    → first_element c ≡ Some (Element name attributes origin line inside End) → 1 + size_of inside ≤ size_of c
-first_fits End name attributes origin line inside e = absurd (none-some _ e)
-first_fits (Chars text at on rest) name attributes origin line inside e = absurd (none-some _ e)
-first_fits (Element own all at on held rest) name attributes origin line inside e =
-    let same = ap size_of (same_Some _ _ e) in omega (arith, same)
+found_fits : (nodes : Written) (at : ℕ) (whole : Whole) → element_at nodes at ≡ Some whole
+    → at + 1 + size whole.1 ≤ size nodes
+found_fits End at whole found = absurd (none-some whole found)
+found_fits (Chars text doc rest) zero whole found = absurd (none-some whole found)
+found_fits (Chars text doc rest) (suc k) whole found =
+    let fits = found_fits rest k whole (sym (at_text text doc rest k) ∙ found) in omega (arith, fits)
+found_fits (Node element inside rest) zero whole found =
+    let same = ap (λ (w : Whole). size w.1) (same_Some _ _ found) in omega (arith, same)
+found_fits (Node element inside rest) (suc k) whole found =
+    behind_or_inside element inside rest k whole (nat_lt (size inside) (suc k)) refl found
+    (λ at. found_fits inside at whole) (λ at. found_fits rest at whole)
 
--- what an element of a document holds has places of 32 bits
-pub inside_fits : (nodes : List Node) (place : ℕ) (name : List ℕ) (attributes : List Attribute) (origin line : ℕ) (inside : Content)
-    → ArePreorder nodes 0 → length nodes < node_limit
-    → element_at (tree_of nodes) place ≡ Some (Element name attributes origin line inside End)
-    → place + 1 + size_of inside < node_limit
-inside_fits nodes place name attributes origin line inside tree small is =
-    let count = ap length tree ∙ length_nodes (tree_of nodes) 0 in
-    let first = first_fits (content_from place (tree_of nodes)) name attributes origin line inside is in
-    let fits = from_fits place (tree_of nodes) (omega (arith, first)) in
-    omega (arith, count, first, fits, small)
+-- What is found among the nodes that are left
 
--- The cells of an element that was found, and of none
+-- the first of them stands at the place `here`, and the element sought so far behind it
+abbrev pub cells_left : Context → ℕ → ℕ → Written → List CellAt
+cells_left around here at nodes =
+    option_map_or (cells_in (cells_from around here nodes) (here + at)) (element_at nodes at) []
 
-pub cells_found : (doc : Doc) (place : ℕ) (node : Node) (inside : Siblings) → IsElementAt doc place node inside
-    → cells_of place (element_named doc.origins node, content_named doc.origins inside)
-    ≡ cells_at (named_tree doc) place
-cells_found doc place node inside found =
-    sym (ap (λ whole. option_map_or (cells_of place) whole [])
-    (placed doc.origins (tree_of doc.nodes) place ∙ ap (whole_of doc.origins) found.element))
+same_found : (f g : Whole → List CellAt) (found other : Option Whole) → found ≡ other
+    → ((whole : Whole) → other ≡ Some whole → f whole ≡ g whole) → option_map_or f found [] ≡ option_map_or g other []
+same_found f g found None is same = rw is refl
+same_found f g found (Some whole) is same = rw is (same whole refl)
 
-pub cells_absent : (doc : Doc) (place : ℕ) → element_at (tree_of doc.nodes) place ≡ None
-    → [] ≡ cells_at (named_tree doc) place
-cells_absent doc place none =
-    sym (ap (λ whole. option_map_or (cells_of place) whole [])
-    (placed doc.origins (tree_of doc.nodes) place ∙ ap (whole_of doc.origins) none))
+stands : (place : ℕ) (whole : Whole) (cell : CellAt) → place ≤ cell.place → cell.place < place + 1 + size whole.1
+    → stands_in place whole cell ≡ true
+stands place whole cell from to = grind (arith, nat_tests)
+
+stands_before : (place : ℕ) (whole : Whole) (cell : CellAt) → cell.place < place → stands_in place whole cell ≡ false
+stands_before place whole cell before = grind (arith, nat_tests)
+
+stands_behind : (place : ℕ) (whole : Whole) (cell : CellAt) → place + 1 + size whole.1 ≤ cell.place
+    → stands_in place whole cell ≡ false
+stands_behind place whole cell behind = grind (arith, nat_tests)
+
+place_next : (here k : ℕ) → here + suc k ≡ here + 1 + k
+place_next here k = omega arith
+
+pub left_text : (around : Context) (here k : ℕ) (text doc : List ℕ) (rest : Written)
+    → cells_left around here (suc k) (Chars text doc rest) ≡ cells_left around (here + 1) k rest
+left_text around here k text doc rest = same_found _ _ _ _ (at_text text doc rest k)
+    (λ whole found. ap (λ place. cells_in (cells_from around (here + 1) rest) place whole) (place_next here k))
+
+module _ (around : Context) (here : ℕ) (element : Element) (inside rest : Written) where
+  abbrev own : List CellAt
+  own = cell_by around here element (row_for element)
+
+  abbrev within : Context
+  within = context_in element inside (row_for element) around
+
+  -- the element sought stands here
+  pub left_here : cells_left around here 0 (Node element inside rest) ≡ cells_of around here (element, inside)
+  left_here =
+      let below = cells_from within (here + 1) inside in
+      let behind = cells_from around (here + 1 + size inside) rest in
+      let whole : Whole = (element, inside) in
+      let there : here + 0 ≡ here = omega arith in
+      let test = stands_in here whole in
+      ap (λ place. cells_in ((own ++ below) ++ behind) place whole) there
+      ∙ filter-append test (own ++ below) behind
+      ∙ rw (
+        joined_kept test true own below
+            (cell_kept test true around here element (row_for element)
+            (λ cell is. stands here whole cell (omega (arith, is)) (omega (arith, is))))
+            (cells_kept test true within (here + 1) inside
+            (λ cell from to. stands here whole cell (omega (arith, from)) (omega (arith, to)))),
+        cells_kept test false around (here + 1 + size inside) rest
+            (λ cell from to. stands_behind here whole cell from),
+      ) (append-nil (own ++ below))
+
+  -- it stands below
+  pub left_inside : (k : ℕ) → k < size inside
+      → cells_left around here (suc k) (Node element inside rest) ≡ cells_left within (here + 1) k inside
+  left_inside k low = same_found _ _ _ _ (at_inside element inside rest k low) (λ whole found.
+      let below = cells_from within (here + 1) inside in
+      let behind = cells_from around (here + 1 + size inside) rest in
+      let place = here + suc k in
+      let fits = found_fits inside k whole found in
+      let test = stands_in place whole in
+      filter-append test (own ++ below) behind
+      ∙ ap (λ cells. cells ++ filter test behind) (filter-append test own below)
+      ∙ rw (
+        cell_kept test false around here element (row_for element)
+            (λ cell is. stands_before place whole cell (omega (arith, is))),
+        cells_kept test false around (here + 1 + size inside) rest
+            (λ cell from to. stands_behind place whole cell (omega (arith, from, fits))),
+      )
+      (append-nil (filter test below))
+      ∙ ap (λ p. cells_in below p whole) (place_next here k))
+
+  -- it stands behind
+  pub left_behind : (k : ℕ) → size inside ≤ k → cells_left around here (suc k) (Node element inside rest)
+      ≡ cells_left around (here + 1 + size inside) (k - size inside) rest
+  left_behind k high = same_found _ _ _ _ (at_behind element inside rest k high) (λ whole found.
+      let below = cells_from within (here + 1) inside in
+      let behind = cells_from around (here + 1 + size inside) rest in
+      let place = here + suc k in
+      let there : here + suc k ≡ here + 1 + size inside + (k - size inside) = omega (arith, high) in
+      let test = stands_in place whole in
+      filter-append test (own ++ below) behind
+      ∙ ap (λ cells. cells ++ filter test behind) (filter-append test own below)
+      ∙ rw (
+        cell_kept test false around here element (row_for element)
+            (λ cell is. stands_before place whole cell (omega (arith, is))),
+        cells_kept test false within (here + 1) inside
+            (λ cell from to. stands_before place whole cell (omega (arith, to, high))),
+      ) refl
+      ∙ ap (λ p. cells_in behind p whole) there)

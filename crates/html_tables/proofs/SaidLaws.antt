@@ -9,7 +9,7 @@ use Rattle.std.proofs.lemmas.Bool.Decides.{nat_tests}
 use Rattle.std.proofs.lemmas.Str.{digit_value_digit}
 use Rattle.dita_doc.specs.Bytes.{is_digit}
 use Rattle.dita_doc.proofs.LackLaws.{no_equal}
-use Rattle.page_spec.specs.Tables.{is_decimal, row_limit, rows_said}
+use Rattle.html_spec.specs.Tables.{is_decimal, row_limit, rows_said}
 
 below_ten : (b : ℕ) → is_digit b ≡ true → digit_value b < 10
 below_ten b e =

@@ -9,12 +9,12 @@ use Rattle.html_tables.specs.declared.context.TableContext.{TableContext}
 use Rattle.html_tables.specs.declared.groups.Groups.{Groups}
 use Rattle.html_tables.specs.declared.table.Cell.{Cell}
 use Rattle.html_tables.specs.declared.table.Walk.{Walk}
-use Rattle.html_tables.specs.Walk.{HasCellsMore, HasColumns, HasEntered, IsContext, KeepsGroups, columns_within, shown_cell}
+use Rattle.html_tables.specs.Walk.{HasCellsMore, HasColumns, HasWithin, IsContext, KeepsGroups, columns_within, shown_cell}
 use Rattle.map_spec.specs.Elements.{tokens_of}
 use Rattle.map_spec.specs.Written.{Element, Written, Chars, Node, size}
-use Rattle.page_spec.specs.Blocks as blocks
-use Rattle.page_spec.specs.Blocks.{CellAt, Context, Form, cell_by, cells_from, columns_in, context_in, head_in, is_type, row_for, simple_head_in, topic_in, within_type}
-use Rattle.page_spec.specs.Tables.{columns_of, is_group, rows_of}
+use Rattle.html_spec.specs.Blocks as blocks
+use Rattle.html_spec.specs.Blocks.{CellAt, Context, Form, cell_by, cells_from, columns_in, context_in, head_in, is_type, row_for, simple_head_in, topic_in, within_type}
+use Rattle.html_spec.specs.Tables.{columns_of, is_group, rows_of}
 use Rattle.readers.specs.Named.{named}
 
 -- Contexts
@@ -94,6 +94,10 @@ cell_more old new cell some is shown =
 pub cell_none : (old : List Cell) (some : List CellAt) → [] ≡ some → map shown_cell old ≡ map shown_cell old ++ some
 cell_none old some none = sym (append-nil (map shown_cell old)) ∙ ap (λ more. map shown_cell old ++ more) none
 
+pub none_more : (old new : List Cell) (some : List CellAt) → new ≡ old → [] ≡ some
+    → map shown_cell new ≡ map shown_cell old ++ some
+none_more old new some same none = ap (map shown_cell) same ∙ cell_none old some none
+
 -- a cell that is pushed, if there is memory
 pub pushed_cell : {T E : Type 0} (result : Result T E) (old new : List Cell) (cell : Cell) (some : List CellAt)
     → new ≡ (if is_ok result then old ++ cell ∷ [] else old) → shown_cell cell ∷ [] ≡ some
@@ -103,43 +107,28 @@ pushed_cell (Err error) old new cell some is shown = tt
 
 -- An element is met
 
-module _ (old new : Walk) (tables within : TableContext) (place : ℕ) (element : Element) (inside : Written)
-    (around : Context) (tokens : List (List ℕ)) (is : IsContext old.groups tables around)
-    (words : tokens ≡ tokens_of element) (kept : KeepsGroups old.groups new.groups)
-    (nearest : HasColumns new.groups within.group (columns_within tokens inside around.columns)) where
-  near : HasColumns new.groups within.group (columns_within (tokens_of element) inside around.columns)
-  near = subst (λ all. HasColumns new.groups within.group (columns_within all inside around.columns)) words nearest
+module _ (old new : Groups) (tables within : TableContext) (element : Element) (inside : Written) (around : Context)
+    (tokens : List (List ℕ)) (is : IsContext old tables around) (words : tokens ≡ tokens_of element)
+    (nearest : HasColumns new within.group (columns_within tokens inside around.columns)) where
+  near : HasColumns new within.group (columns_within (tokens_of element) inside around.columns)
+  near = subst (λ all. HasColumns new within.group (columns_within all inside around.columns)) words nearest
 
   -- one of no form
-  pub entered_none : None ≡ row_among tokens → new.cells ≡ old.cells → within.head ≡ tables.head
-      → within.simple_head ≡ tables.simple_head → HasEntered old new within place element inside around
-  entered_none none cells head simple =
+  pub within_none : None ≡ row_among tokens → within.head ≡ tables.head → within.simple_head ≡ tables.simple_head
+      → HasWithin new within element inside around
+  within_none none head simple =
       let row : row_for element ≡ None = sym (none ∙ ap row_among words) in
-      record {
-        more = record {
-          kept = kept;
-          cells = ap (map shown_cell) cells ∙ sym (append-nil (map shown_cell old.cells))
-              ∙ ap (λ found. map shown_cell old.cells ++ cell_by around place element found) (sym row);
-        };
-        context = subst (λ found. IsContext new.groups within (context_in element inside found around)) (sym row)
-            (context_beside old.groups new.groups tables within element inside around is near head simple);
-      }
+      subst (λ found. IsContext new within (context_in element inside found around)) (sym row)
+      (context_beside old new tables within element inside around is near head simple)
 
   -- one of a form
-  pub entered_some : (token : List ℕ) (form : Form) → Some (token, form) ≡ row_among tokens
-      → map shown_cell new.cells ≡ map shown_cell old.cells ++ cell_by around place element (Some (token, form))
+  pub within_some : (token : List ℕ) (form : Form) → Some (token, form) ≡ row_among tokens
       → within.head ≡ head_in token tables.head → within.simple_head ≡ simple_head_in token tables.simple_head
-      → HasEntered old new within place element inside around
-  entered_some token form some cells head simple =
+      → HasWithin new within element inside around
+  within_some token form some head simple =
       let row : row_for element ≡ Some (token, form) = sym (some ∙ ap row_among words) in
-      record {
-        more = record {
-          kept = kept;
-          cells = cells ∙ ap (λ found. map shown_cell old.cells ++ cell_by around place element found) (sym row);
-        };
-        context = subst (λ found. IsContext new.groups within (context_in element inside found around)) (sym row)
-            (context_within old.groups new.groups tables within element inside around is near (token, form) head simple);
-      }
+      subst (λ found. IsContext new within (context_in element inside found around)) (sym row)
+      (context_within old new tables within element inside around is near (token, form) head simple)
 
 -- what cells are met, and what are left
 pub record AreOnTheWay (old new : Walk) (all left : List CellAt) : Type 0 where

@@ -1,6 +1,6 @@
 -- The cells of a table; and what a walk over tables knows on its way: each node stands under the name at its origin's
 -- place, and each group that was met has its columns.
-use Rattle.std.specs.Prelude.{◌≡◌, ◌+◌, ◌++◌, ℕ, Bool, List, [], ◌∷◌, Option, Some, None, bytes_eq, codes, length, map, slice_get, if◌then◌else◌}
+use Rattle.std.specs.Prelude.{◌≡◌, ◌+◌, ◌++◌, ◌&&◌, ℕ, Bool, List, [], ◌∷◌, Option, Some, None, bytes_eq, codes, filter, length, map, nat_le, nat_lt, slice_get, if◌then◌else◌}
 use Rattle.std.specs.BTreeMap.{get_by_text}
 use Rattle.std.specs.List.{list_any}
 use Rattle.std.specs.Option.{option_map_or, option_or}
@@ -13,9 +13,9 @@ use Rattle.html_tables.specs.declared.context.TableContext.{TableContext}
 use Rattle.html_tables.specs.declared.groups.Groups.{Groups}
 use Rattle.html_tables.specs.declared.table.Cell.{Cell}
 use Rattle.html_tables.specs.declared.table.Walk.{Walk}
-use Rattle.map_spec.specs.Written.{Element, Whole, Written, element_at}
-use Rattle.page_spec.specs.Blocks.{CellAt, Context, cell_by, cells_from, context_in, outside, row_for}
-use Rattle.page_spec.specs.Tables.{column_at, column_names}
+use Rattle.map_spec.specs.Written.{Element, Whole, Written, element_at, size}
+use Rattle.html_spec.specs.Blocks.{CellAt, Context, cell_by, cells_from, context_in, outside, row_for}
+use Rattle.html_spec.specs.Tables.{column_at, column_names}
 use Rattle.readers.specs.Named.{name_at, named}
 
 -- Cells
@@ -23,14 +23,23 @@ use Rattle.readers.specs.Named.{name_at, named}
 abbrev pub shown_cell : Cell → CellAt
 shown_cell cell = record { place = cell.place; head = cell.head; rows = cell.rows; columns = cell.columns }
 
--- the cells of an element at a place: itself, if it is one, and those in it
-abbrev pub cells_of : ℕ → Whole → List CellAt
-cells_of place whole = cell_by outside place whole.0 (row_for whole.0)
-    ++ cells_from (context_in whole.0 whole.1 (row_for whole.0) outside) (place + 1) whole.1
+-- whether a cell stands at an element's place, or below the element
+abbrev pub stands_in : ℕ → Whole → CellAt → Bool
+stands_in place whole cell = nat_le place cell.place && nat_lt cell.place (place + 1 + size whole.1)
 
--- the cells of the element at a place
+-- those of some cells that do
+abbrev pub cells_in : List CellAt → ℕ → Whole → List CellAt
+cells_in cells place whole = filter (stands_in place whole) cells
+
+-- the cells of the element at a place: those of the whole document that stand there or below. So each heads and spans
+-- what it does on the page, where a table stands in another too
 abbrev pub cells_at : Written → ℕ → List CellAt
-cells_at nodes table = option_map_or (cells_of table) (element_at nodes table) []
+cells_at nodes table = option_map_or (cells_in (cells_from outside 0 nodes) table) (element_at nodes table) []
+
+-- the cells of an element that stands at a place, within this: itself, if it is one, and those in it
+abbrev pub cells_of : Context → ℕ → Whole → List CellAt
+cells_of around place whole = cell_by around place whole.0 (row_for whole.0)
+    ++ cells_from (context_in whole.0 whole.1 (row_for whole.0) around) (place + 1) whole.1
 
 -- What siblings are
 
@@ -100,11 +109,15 @@ pub record HasCellsMore (old new : Walk) (some : List CellAt) : Type 0 where
   pub kept : KeepsGroups old.groups new.groups
   pub cells : map shown_cell new.cells ≡ map shown_cell old.cells ++ some
 
+-- what an element holds stands within this, by the groups that were met
+abbrev pub HasWithin : Groups → TableContext → Element → Written → Context → Type 0
+HasWithin groups within element inside around = IsContext groups within (context_in element inside (row_for element) around)
+
 -- a walk met an element, and knows where what it holds stands
 pub record HasEntered (old new : Walk) (within : TableContext) (place : ℕ) (element : Element) (inside : Written)
     (around : Context) : Type 0 where
   pub more : HasCellsMore old new (cell_by around place element (row_for element))
-  pub context : IsContext new.groups within (context_in element inside (row_for element) around)
+  pub context : HasWithin new.groups within element inside around
 
 -- a cell, if there is one, as it is shown
 abbrev pub cells_shown : Option Cell → List CellAt

@@ -5,7 +5,7 @@ ghost use Rattle.dita_doc.specs.ClassValue.{words_of};
 ghost use Rattle.doc_elements.specs.Walk as elements_walk;
 ghost use Rattle.html_tables.specs.Walk as walk_spec;
 ghost use Rattle.map_spec.specs.Elements as elements_spec;
-ghost use Rattle.page_spec.specs.Tables as tables_spec;
+ghost use Rattle.html_spec.specs.Tables as tables_spec;
 
 use crate::groups::{has_no_token, has_token};
 use dita_doc::{First, NoMemory, Node, Siblings};
@@ -26,7 +26,7 @@ impl Columns {
     ghost use Rattle.doc_elements.specs.Walk as elements_walk;
     ghost use Rattle.html_tables.specs.Walk as walk_spec;
     ghost use Rattle.map_spec.specs.Elements as elements_spec;
-    ghost use Rattle.page_spec.specs.Tables as tables_spec;
+    ghost use Rattle.html_spec.specs.Tables as tables_spec;
 
     /// The columns that a group holds. What a transparent element holds stands in its place.
     pub fn of(alloc: Global, inside: Siblings<'_>) -> Result<Columns, NoMemory>

@@ -1,7 +1,7 @@
 //! Where an element stands among the tables around it.
 
 ghost use Rattle.std.specs.Prelude.{◌≡◌};
-ghost use Rattle.page_spec.specs.Blocks as blocks_spec;
+ghost use Rattle.html_spec.specs.Blocks as blocks_spec;
 
 use dita_doc::is_same;
 
@@ -18,7 +18,7 @@ pub struct TableContext {
 
 impl TableContext {
     ghost use Rattle.std.specs.Prelude.{◌≡◌, None};
-    ghost use Rattle.page_spec.specs.Blocks as blocks_spec;
+    ghost use Rattle.html_spec.specs.Blocks as blocks_spec;
 
     /// Where no table stands around.
     pub fn outside() -> TableContext

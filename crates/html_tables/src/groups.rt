@@ -19,7 +19,7 @@ impl Groups {
     ghost use Rattle.dita_doc.specs.ClassValue.{words_of};
     ghost use Rattle.doc_elements.specs.Walk as elements_walk;
     ghost use Rattle.html_tables.specs.Walk as walk_spec;
-    ghost use Rattle.page_spec.specs.Tables as tables_spec;
+    ghost use Rattle.html_spec.specs.Tables as tables_spec;
 
     /// No group was met.
     pub fn new(alloc: Global) -> Groups

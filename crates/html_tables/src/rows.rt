@@ -4,7 +4,7 @@ ghost use Rattle.std.specs.Prelude.{◌≡◌, ◌+◌, ℕ, List, nat_le, if◌
 ghost use Rattle.std.specs.List.{list_all};
 ghost use Rattle.dita_doc.specs.Bytes.{is_digit};
 ghost use Rattle.doc_elements.specs.Walk as walk_spec;
-ghost use Rattle.page_spec.specs.Tables as tables_spec;
+ghost use Rattle.html_spec.specs.Tables as tables_spec;
 
 use dita_doc::Node;
 

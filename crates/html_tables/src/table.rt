@@ -5,7 +5,7 @@ ghost use Rattle.dita_doc.specs.Siblings as siblings_spec;
 ghost use Rattle.dita_doc.specs.Tree as tree_spec;
 ghost use Rattle.doc_elements.specs.Walk as elements_walk;
 ghost use Rattle.html_tables.specs.Walk as walk_spec;
-ghost use Rattle.page_spec.specs.Blocks as blocks_spec;
+ghost use Rattle.html_spec.specs.Blocks as blocks_spec;
 ghost use Rattle.readers.specs.Named as named_spec;
 
 use crate::context::TableContext;
@@ -27,6 +27,7 @@ pub struct Cell {
 }
 
 /// The cells of the table at a place, in document order. There is none if no element stands there.
+/// A table inside another has the columns and the heads of the groups around its place.
 pub fn cells(alloc: Global, body: &Doc, table: u32) -> Result<List<Cell>, NoMemory>
     ensures { IfOk result (λ cells. map walk_spec.shown_cell cells
         ≡ walk_spec.cells_at (named_spec.named_tree body.now) table) }
@@ -40,37 +41,90 @@ pub fn cells(alloc: Global, body: &Doc, table: u32) -> Result<List<Cell>, NoMemo
     Ok(cells)
 }
 
-// Appends the cells of the element at a place, if one stands there.
+// Appends the cells of the element at a place, if one stands there. On its way down from the root
+// it counts the places, and meets the groups around that element.
 fn append_found(alloc: Global, walk: &mut Walk, body: &Doc, table: u32) -> Result<(), NoMemory>
     ensures { OnOk result (map walk_spec.shown_cell walk.new.cells
         ≡ map walk_spec.shown_cell walk.old.cells
         ++ walk_spec.cells_at (named_spec.named_tree body.now) table) }
 {
-    match Siblings::element_at(body, table) {
-        Some((element, inside)) => {
-            append_whole(alloc, walk, table, element, inside)?;
-            Ok(())
+    let mut left = Siblings::of(body);
+    let mut here = 0;
+    let mut context = TableContext::outside();
+    loop {
+        match left.split_first() {
+            First::End => return Ok(()),
+            First::Chars { rest, .. } => {
+                if here == table {
+                    return Ok(());
+                }
+                here += 1;
+                left = rest;
+            }
+            First::Element {
+                place,
+                node,
+                inside,
+                rest,
+            } => {
+                if here == table {
+                    append_whole(alloc, walk, here, node, inside, context)?;
+                    return Ok(());
+                }
+                let past = here + (node.end - place);
+                if past <= table {
+                    here = past;
+                    left = rest;
+                } else {
+                    context = enter(alloc, &mut walk.groups, node, inside, context)?;
+                    here += 1;
+                    left = inside;
+                }
+            }
         }
-        None => Ok(()),
     }
 }
 
-// Appends the cells of an element at this place, outside of other tables.
+// Appends the cells of an element that stands at this place.
 fn append_whole(
     alloc: Global,
     walk: &mut Walk,
     place: u32,
     element: &Node,
     inside: Siblings<'_>,
+    context: TableContext,
 ) -> Result<(), NoMemory>
     requires { place + 1 + tree_spec.size_of (siblings_spec.content inside) < tree_spec.node_limit }
-    ensures { (names : List (List ℕ)) (name : List ℕ)
-        → OnOk result (walk_spec.HasCellsMore walk.old walk.new (walk_spec.cells_of place
+    ensures { (names : List (List ℕ)) (name : List ℕ) (around : blocks_spec.Context)
+        → walk_spec.IsContext walk.old.groups context around
+        → OnOk result (walk_spec.HasCellsMore walk.old walk.new (walk_spec.cells_of around place
         (elements_walk.element_of name element.now, walk_spec.content_named names inside.entry))) }
 {
-    let within = walk.enter(alloc, place, element, inside, TableContext::outside())?;
+    let within = walk.enter(alloc, place, element, inside, context)?;
     append_cells(alloc, walk, inside, place + 1, within)?;
     Ok(())
+}
+
+// Where what an element holds stands. The columns of a group are read once, here.
+fn enter(
+    alloc: Global,
+    groups: &mut Groups,
+    element: &Node,
+    inside: Siblings<'_>,
+    context: TableContext,
+) -> Result<TableContext, NoMemory>
+    ensures kept { OnOk result (walk_spec.KeepsGroups groups.old groups.new) }
+    ensures within { (names : List (List ℕ)) (name : List ℕ) (around : blocks_spec.Context)
+        → walk_spec.IsContext groups.old context around → IfOk result (λ within.
+        walk_spec.HasWithin groups.new within (elements_walk.element_of name element.now)
+        (walk_spec.content_named names inside.entry) around) }
+{
+    let tokens = tokens_of(element);
+    let group = groups.enter(alloc, tokens, inside, context.group)?;
+    match row_among(tokens) {
+        Some((token, _)) => Ok(context.within(token, group)),
+        None => Ok(TableContext { group, ..context }),
+    }
 }
 
 // The cells and the groups that were met.
@@ -85,8 +139,8 @@ impl Walk {
     ghost use Rattle.doc_elements.specs.Walk as elements_walk;
     ghost use Rattle.html_forms.specs.Shown.{form_shown_of};
     ghost use Rattle.html_tables.specs.Walk as walk_spec;
-    ghost use Rattle.page_spec.specs.Blocks.{Context};
-    ghost use Rattle.page_spec.specs.Blocks as blocks_spec;
+    ghost use Rattle.html_spec.specs.Blocks.{Context};
+    ghost use Rattle.html_spec.specs.Blocks as blocks_spec;
 
     // Appends an element, if it is a cell, and tells where what it holds stands.
     fn enter(
@@ -103,38 +157,48 @@ impl Walk {
             (elements_walk.element_of name element.now)
             (walk_spec.content_named names inside.entry) around) }
     {
-        let tokens = tokens_of(element);
-        let group = self.groups.enter(alloc, tokens, inside, context.group)?;
-        let Some((token, form)) = row_among(tokens) else {
-            return Ok(TableContext { group, ..context });
-        };
-        self.append_cell(place, element, form, context)?;
-        Ok(context.within(token, group))
+        self.append_cell(place, element, context)?;
+        let within = enter(alloc, &mut self.groups, element, inside, context)?;
+        Ok(within)
     }
 
-    // Appends an element of this form, if it is a cell.
+    // Appends an element, if it is a cell.
     fn append_cell(
         &mut self,
         place: u32,
         element: &Node,
-        form: Form,
         context: TableContext,
     ) -> Result<(), AllocError>
         ensures groups { self.new.groups ≡ self.old.groups }
-        ensures cells { (name token : List ℕ) (around : Context)
+        ensures cells { (name : List ℕ) (around : Context)
             → walk_spec.IsContext self.old.groups context around
             → OnOk result (map walk_spec.shown_cell self.new.cells
             ≡ map walk_spec.shown_cell self.old.cells ++ blocks_spec.cell_by around place
-            (elements_walk.element_of name element.now) (Some (token, form_shown_of form))) }
+            (elements_walk.element_of name element.now)
+            (blocks_spec.row_for (elements_walk.element_of name element.now))) }
     {
-        match self.cell_of(place, element, form, context) {
+        match self.cell_of(place, element, context) {
             Some(cell) => self.cells.push(cell),
             None => Ok(()),
         }
     }
 
+    // The cell that an element is, if it is one.
+    fn cell_of(&self, place: u32, element: &Node, context: TableContext) -> Option<Cell>
+        ensures { (name : List ℕ) (around : Context)
+            → walk_spec.IsContext self.now.groups context around
+            → walk_spec.cells_shown result ≡ blocks_spec.cell_by around place
+            (elements_walk.element_of name element.now)
+            (blocks_spec.row_for (elements_walk.element_of name element.now)) }
+    {
+        match row_among(tokens_of(element)) {
+            Some((_, form)) => self.cell_by(place, element, form, context),
+            None => None,
+        }
+    }
+
     // The cell that an element of this form is, if it is one.
-    fn cell_of(&self, place: u32, element: &Node, form: Form, context: TableContext) -> Option<Cell>
+    fn cell_by(&self, place: u32, element: &Node, form: Form, context: TableContext) -> Option<Cell>
         ensures { (name token : List ℕ) (around : Context)
             → walk_spec.IsContext self.now.groups context around
             → walk_spec.cells_shown result ≡ blocks_spec.cell_by around place

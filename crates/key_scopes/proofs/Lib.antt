@@ -7,6 +7,8 @@ pub mod NumberLaws
 pub mod FirstLaws
 pub mod OwnLaws
 pub mod DefineLaws
+pub mod LevelLaws
+pub mod OwnKeyLaws
 pub mod OrderLaws
 pub mod SortedLaws
 pub mod ChildLaws

@@ -10,7 +10,9 @@ use Rattle.key_scopes.specs.Children.{AreChildNames}
 use Rattle.key_scopes.specs.Defined.{IsTableBy}
 use Rattle.key_scopes.specs.Made.{IsTableOf}
 use Rattle.key_scopes.specs.Numbered.{AreNumbered, entries, entries_at, faults_at, place_in, scope_placed}
+use Rattle.key_scopes.specs.OwnKeys.{by_level, rows_by}
 use Rattle.key_scopes.specs.Table.{Table, firsts_of}
+use Rattle.key_scopes.proofs.OwnKeyLaws.{own_rows}
 use Rattle.key_scopes.proofs.OwnLaws.{own_is}
 use Rattle.plan_nodes.proofs.PlaceLaws.{known_at}
 use Rattle.key_scopes.proofs.ScopeTreeLaws.{scopes_ordered}
@@ -59,6 +61,9 @@ module _ (world : World) (nodes : List PlanNode) (known : Numbering)
   pub all_places : known.places.items ≡ map (scope_at nodes) (places nodes)
   all_places = numbered.each ∙ ap (map (scope_at nodes)) every
 
+  all_entries : entries known.written.items ≡ flat_map (entries_at world nodes) (places nodes)
+  all_entries = numbered.written ∙ ap (flat_map (entries_at world nodes)) every
+
   pub all_own : (tree : IsTree nodes) (table : Table)
       → IsTableBy (length nodes) known.scopes (entries known.written.items) table
       → IsTableOf world nodes table
@@ -76,6 +81,7 @@ module _ (world : World) (nodes : List PlanNode) (known : Numbering)
         topped = is.topped;
         children = subst (λ all. AreChildNames all table.names table.longest) (sym is.scopes) is.children;
         own = λ scope key. own_is world nodes scope key (length nodes) (entries known.written.items)
-            (firsts_of table.definitions) refl (numbered.written
-            ∙ ap (flat_map (entries_at world nodes)) every) is.firsts;
+            (firsts_of table.definitions) refl all_entries is.firsts;
+        own_keys = is.own_keys
+            ∙ (λ i. rows_by (length (all_scopes i)) (by_level (length nodes) (all_entries i))) ∙ own_rows world nodes;
       }

@@ -173,7 +173,7 @@ contains_at give (node ∷ some) from at e low high there =
         Contains-append_right (give from) (flat_map give (places_from (from + 1) some)) e (behind less)
 
 -- the level of a node
-level_is : (nodes : List PlanNode) (level at : ℕ) → at < length nodes
+pub level_is : (nodes : List PlanNode) (level at : ℕ) → at < length nodes
     → (level_at nodes at == level) ≡ is_at_level nodes level at
 level_is [] level at within = absurd (omega arith)
 level_is (node ∷ nodes) level zero within = refl

@@ -1,13 +1,23 @@
 -- The scopes and the definitions of nodes do not look at the scopes that stand in the nodes, so that those of the nodes
 -- that were made are the same again.
-use Rattle.std.proofs.Common.{◌∙◌, List}
+use Rattle.std.specs.List.{flat_map}
+use Rattle.std.proofs.Common.{◌≡◌, ◌∙◌, List, map}
 use Rattle.dita_doc.specs.declared.plan.PlanNode.{PlanNode}
 use Rattle.key_scopes.specs.Made.{IsTableOf}
+use Rattle.key_scopes.specs.OwnKeys.{first_of_each, own_keys}
 use Rattle.key_scopes.specs.Table.{Table}
+use Rattle.map_lemmas.specs.Alike.{AreAlike}
 use Rattle.map_lemmas.proofs.CarriedLaws.{alike_scoped}
-use Rattle.map_lemmas.proofs.ScopeLaws.{same_own, same_scopes}
-use Rattle.map_spec.specs.Scopes.{scoped}
+use Rattle.map_lemmas.proofs.ScopeLaws.{same_keys_defined, same_own, same_own_places, same_scopes}
+use Rattle.map_spec.specs.Scopes.{places_from, scoped}
 use Rattle.reader_spec.specs.World.{World}
+
+same_own_keys : (world : World) (nodes others : List PlanNode) → AreAlike nodes others
+    → own_keys world nodes ≡ own_keys world others
+same_own_keys world nodes others alike = λ i.
+    map (λ scope. first_of_each (flat_map
+    (λ at. map (λ key. (key, at)) (same_keys_defined world nodes others alike at i))
+    (same_own_places nodes others alike scope i))) (places_from 0 (same_scopes nodes others alike i))
 
 -- the table of nodes is that of the nodes with their scopes
 pub table_of_scoped : (world : World) (nodes : List PlanNode) (table : Table) → IsTableOf world nodes table
@@ -20,4 +30,5 @@ table_of_scoped world nodes table is = record {
   topped = is.topped;
   children = is.children;
   own = λ scope key. is.own scope key ∙ same_own world nodes (scoped nodes) (alike_scoped nodes) scope key;
+  own_keys = is.own_keys ∙ same_own_keys world nodes (scoped nodes) (alike_scoped nodes);
 }

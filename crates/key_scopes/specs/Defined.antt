@@ -11,6 +11,7 @@ use Rattle.key_scopes.specs.Numbered.{Entry}
 use Rattle.key_scopes.specs.Above.{AreEndsFrom, AreInPreorder, parent_in}
 use Rattle.key_scopes.specs.Children.{AreChildNames}
 use Rattle.key_scopes.specs.Outermost.{AreTopped}
+use Rattle.key_scopes.specs.OwnKeys.{by_level, rows_by}
 use Rattle.key_scopes.specs.Table.{First, Table, first_of, firsts_of, is_first}
 
 abbrev pub first_by : Entry → First
@@ -88,3 +89,4 @@ pub record IsTableBy (count : ℕ) (all : List Scope) (written : List Entry) (ta
   pub topped : AreTopped table.ends table.definitions
   pub children : AreChildNames all table.names table.longest
   pub firsts : AreFirsts count written (firsts_of table.definitions)
+  pub own_keys : table.own_keys ≡ rows_by (length all) (by_level count written)

@@ -1,5 +1,5 @@
 -- What contracts see of a table of scopes (own): the scopes, where those in each end, the definitions: the first of each
--- key in each scope, and the names of scopes with the length of the longest.
+-- key in each scope, the names of scopes with the length of the longest, and each scope's keys in order.
 use Rattle.std.specs.Prelude.{◌==◌, ◌&&◌, ℕ, Bool, List, Option, bytes_eq, find, map, option_map}
 use Rattle.std.specs.Coded.{Coded, codes}
 use Rattle.dita_doc.specs.declared.plan.Scope.{Scope}
@@ -12,6 +12,7 @@ pub record Table : Type 0 where
   pub definitions : List Definition
   pub names : List ChildName
   pub longest : ℕ
+  pub own_keys : List (List (List ℕ × ℕ))
 
 pub table_code : Coded Table
 table_code = hlevel codes

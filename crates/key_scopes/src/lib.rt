@@ -9,6 +9,7 @@ mod definitions;
 mod made;
 mod names;
 mod numbering;
+mod own_keys;
 mod search;
 mod spans;
 mod table;

@@ -17,6 +17,7 @@ ghost use Rattle.readers.specs.Told.{Agrees};
 use crate::children::ChildNames;
 use crate::definitions::{Definitions, Written};
 use crate::numbering::{Numbering, place_in};
+use crate::own_keys::own_keys;
 use crate::spans::Spans;
 use crate::table::ScopeTable;
 use dita_doc::{Fault, List, NoMemory, PlanNode, Scope};
@@ -135,6 +136,7 @@ fn table_of(
         (numbered_spec.entries written.entry.items) table) }
 {
     let spans = Spans::of(alloc, scopes.as_slice())?;
+    let own_keys = own_keys(alloc, &written, count, scopes.len())?;
     let definitions = Definitions::of(alloc, written, count, &spans)?;
     let children = ChildNames::of(alloc, scopes.as_slice())?;
     Ok(ScopeTable {
@@ -142,6 +144,7 @@ fn table_of(
         spans,
         definitions,
         children,
+        own_keys,
     })
 }
 

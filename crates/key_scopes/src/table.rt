@@ -5,8 +5,10 @@ ghost use Rattle.key_scopes.specs.Above as above_spec;
 
 use crate::children::ChildNames;
 use crate::definitions::Definitions;
+use crate::own_keys::KeyMap;
 use crate::spans::Spans;
-use dita_doc::{List, Scope};
+use dita_doc::{List, Scope, Text};
+use indexmap::IndexMap;
 use std::marker::Model;
 
 /// The scopes of a map, with the keys that are defined in them.
@@ -16,9 +18,12 @@ pub struct ScopeTable {
     pub(crate) spans: Spans,
     pub(crate) definitions: Definitions,
     pub(crate) children: ChildNames,
+    pub(crate) own_keys: Vec<KeyMap>,
 }
 
 impl Model for ScopeTable {
+    ghost use Rattle.std.specs.Prelude.{◌≡◌, length};
+    ghost use Rattle.key_scopes.specs.OwnKeys.{rows_of};
     ghost use Rattle.key_scopes.specs.Table as spec;
 
     ghost Value = { spec.Table };
@@ -31,7 +36,11 @@ impl Model for ScopeTable {
       definitions = t.definitions.sorted.items;
       names = t.children.sorted.items;
       longest = t.children.longest;
+      own_keys = rows_of t.own_keys.items;
     } };
+
+    // Each scope has its keys.
+    ghost invariant = { λ t. length t.own_keys.items ≡ length t.scopes };
 }
 
 impl ScopeTable {
@@ -49,5 +58,24 @@ impl ScopeTable {
     {
         let parent = self.scopes.as_slice().get(scope as usize)?.parent;
         if parent < scope { Some(parent) } else { None }
+    }
+}
+
+impl ScopeTable {
+    ghost use Rattle.std.specs.Prelude.{◌≡◌, ◌<◌, List, length};
+    ghost use Rattle.dita_doc.specs.declared.plan.PlanNode.{PlanNode};
+    ghost use Rattle.key_scopes.specs.Made as made_spec;
+    ghost use Rattle.key_scopes.specs.OwnKeys as own_keys_spec;
+    ghost use Rattle.reader_spec.specs.World.{World};
+
+    /// The keys that a scope defines itself, each once, with the node that first defines it: in the
+    /// order of definitions, by level and then by place. Qualified names are not among them.
+    pub fn own(&self, scope: u32) -> &IndexMap<Text, u32>
+        requires { scope < length self.now.scopes }
+        ensures { (world : World) (nodes : List PlanNode)
+            → made_spec.IsTableOf world nodes self.now → result.now.entries
+            ≡ own_keys_spec.first_of_each (own_keys_spec.own_definitions world nodes scope) }
+    {
+        &self.own_keys[scope as usize]
     }
 }

@@ -8,10 +8,10 @@ use Rattle.dita_doc.specs.declared.fault.FaultCode.TheVariants as codes_of
 use Rattle.dita_doc.specs.declared.plan.PlanStop.TheVariants as stops
 use Rattle.map_spec.specs.Included.{map_included}
 use Rattle.map_spec.specs.PlanOf.{plan_of}
-use Rattle.page_spec.specs.Blocks.{body_html}
-use Rattle.page_spec.specs.Content.{followed_from, resolved_from}
-use Rattle.page_spec.specs.Contents.{contents, items_from}
-use Rattle.page_spec.specs.Pushes.{all_pushes}
+use Rattle.html_spec.specs.Blocks.{body_html}
+use Rattle.conref_spec.specs.Content.{followed_from, resolved_from}
+use Rattle.html_spec.specs.Contents.{contents, items_from}
+use Rattle.map_spec.specs.Pushes.{all_pushes}
 use Rattle.part_spec.specs.Parts.{build_by, clean_build, page_part, rooms}
 use Rattle.reader_spec.specs.World.{World}
 use Rattle.language_examples.proofs.Short.{m, plain, planned, ref, text, these}

@@ -8,9 +8,9 @@ use Rattle.map_spec.specs.Included.{map_included}
 use Rattle.map_spec.specs.Keys.{chain_from}
 use Rattle.map_spec.specs.PlanOf.{plan_of}
 use Rattle.map_spec.specs.Scopes.{found_from, qualified}
-use Rattle.page_spec.specs.Blocks.{body_html}
-use Rattle.page_spec.specs.Content.{followed_from, resolved_from}
-use Rattle.page_spec.specs.Pushes.{all_pushes}
+use Rattle.html_spec.specs.Blocks.{body_html}
+use Rattle.conref_spec.specs.Content.{followed_from, resolved_from}
+use Rattle.map_spec.specs.Pushes.{all_pushes}
 use Rattle.part_spec.specs.Parts.{page_part}
 use Rattle.reader_spec.specs.World.{World}
 use Rattle.language_examples.proofs.Short.{Document, classed, ditaval, given, href, key, m, of_topic, plain, prop, ref, text, these, topicref}

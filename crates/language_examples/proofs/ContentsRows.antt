@@ -8,8 +8,8 @@ use Rattle.map_spec.specs.Included.{map_included}
 use Rattle.map_spec.specs.Keys.{chain_from}
 use Rattle.map_spec.specs.PlanOf.{plan_of}
 use Rattle.map_spec.specs.Scopes.{found_from, qualified}
-use Rattle.page_spec.specs.Contents.{contents, items_from}
-use Rattle.page_spec.specs.Pushes.{all_pushes}
+use Rattle.html_spec.specs.Contents.{contents, items_from}
+use Rattle.map_spec.specs.Pushes.{all_pushes}
 use Rattle.reader_spec.specs.World.{World}
 use Rattle.language_examples.proofs.Short.{Seen, ditaval, ditavalmeta, ditavalref, doc, dvr, given, href, keyword, m, map_doc, map_with, of_map, of_topic, plain, prop, ref, submap, table_of, these, topic, topicref}
 use Rattle.language_examples.proofs.ShortPages.{Shown, bare, bytes_of, contents_of, id, is_shown, line_at, lines, p, see, shown, t, title, titled, with_text}

@@ -7,9 +7,9 @@ use Rattle.dita_doc.specs.declared.doc.Attribute.{Attribute}
 use Rattle.dita_doc.specs.declared.fact.Html.{Html}
 use Rattle.map_spec.specs.Included.{map_included}
 use Rattle.map_spec.specs.PlanOf.{plan_of}
-use Rattle.page_spec.specs.Blocks.{body_html}
-use Rattle.page_spec.specs.Content.{followed_from, resolved_from}
-use Rattle.page_spec.specs.Pushes.{all_pushes}
+use Rattle.html_spec.specs.Blocks.{body_html}
+use Rattle.conref_spec.specs.Content.{followed_from, resolved_from}
+use Rattle.map_spec.specs.Pushes.{all_pushes}
 use Rattle.part_spec.specs.Parts.{page_part, rooms}
 use Rattle.reader_spec.specs.World.{World}
 use Rattle.language_examples.proofs.Short.{classed, doc, given, m, of_topic, plain, ref, report, text, texts, these}

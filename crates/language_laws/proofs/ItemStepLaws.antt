@@ -9,8 +9,8 @@ use Rattle.dita_doc.specs.declared.plan.Plan.{Plan}
 use Rattle.dita_doc.specs.declared.plan.PlanNode.{PlanNode}
 use Rattle.reader_spec.specs.World.{World}
 use Rattle.map_spec.specs.Scopes.{places}
-use Rattle.page_spec.specs.Contents.{items_from, node_items}
-use Rattle.page_spec.specs.Links.{is_child}
+use Rattle.html_spec.specs.Contents.{items_from, node_items}
+use Rattle.link_spec.specs.Links.{is_child}
 use Rattle.language_laws.specs.Steps.{HasParentsBefore, ItemsIsWhole}
 
 -- What a filter keeps

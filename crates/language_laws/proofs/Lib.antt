@@ -5,12 +5,6 @@ pub mod KeptLaws
 pub mod CopyLaws
 pub mod PlanLaws
 pub mod NodeLaws
-pub mod PlanPagesLaws
-pub mod UseLaws
-pub mod FreeLaws
-pub mod NameLaws
-pub mod WordLaws
-pub mod FitLaws
 pub mod ChainStepLaws
 pub mod ChoiceLaws
 pub mod ItemStepLaws

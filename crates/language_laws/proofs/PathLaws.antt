@@ -12,7 +12,7 @@ use Rattle.dita_doc.specs.declared.fault.Fault.{Fault}
 use Rattle.dita_doc.specs.declared.fault.FaultCode.TheVariants as faults
 use Rattle.map_spec.specs.Elements.{attribute, fault_at, is_special}
 use Rattle.map_spec.specs.Written.{Element, Written, End, Chars, Node}
-use Rattle.page_spec.specs.Content.{Followed, Found, Place, Setting, Sought, followed_from, followed_to, found_by, has_reference, is_place, depth_limit, path_limit, range_behind, range_by, refused_by, sought_by, taken, taken_or, unchanged, value_used, key_faults}
+use Rattle.conref_spec.specs.Content.{Followed, Found, Place, Setting, Sought, followed_from, followed_to, found_by, has_reference, is_place, depth_limit, path_limit, range_behind, range_by, refused_by, sought_by, taken, taken_or, unchanged, value_used, key_faults}
 use Rattle.language_laws.specs.Paths.{AreDistinct, GoesOn, GoesOnIf, HasPaths, IsPath, IsRangeFrom}
 
 -- Places

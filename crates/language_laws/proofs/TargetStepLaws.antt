@@ -6,7 +6,7 @@ use Rattle.std.proofs.lemmas.List.Elements.{All-head, All-tail}
 use Rattle.dita_doc.specs.declared.fault.Fault.{Fault}
 use Rattle.map_spec.specs.Judged.{group_faults}
 use Rattle.map_spec.specs.Written.{Element, Written, End, Chars, Node}
-use Rattle.page_spec.specs.Content.{Followed, Found, Made, Place, Range, Resolve, Setting, Sought, element_made, element_resolved, followed, followed_from, followed_to, found_by, goes, has_reference, key_faults, made_beside, made_of, made_with, nothing_made, path_limit, ranges_made, refused_by, resolved_among, resolved_from, sought_by, taken, taken_or, text_made, topic_for, topic_within, unchanged, value_used}
+use Rattle.conref_spec.specs.Content.{Followed, Found, Made, Place, Range, Resolve, Setting, Sought, element_made, element_resolved, followed, followed_from, followed_to, found_by, goes, has_reference, key_faults, made_beside, made_of, made_with, nothing_made, path_limit, ranges_made, refused_by, resolved_among, resolved_from, sought_by, taken, taken_or, text_made, topic_for, topic_within, unchanged, value_used}
 use Rattle.language_laws.specs.Paths.{GoesOnIf, HasPaths, IsPath, IsRangeFrom}
 use Rattle.language_laws.specs.Steps.{FollowedIsWhole, ResolvedIsWhole}
 use Rattle.language_laws.proofs.ChoiceLaws.{both_same}

@@ -1,5 +1,4 @@
 pub mod PlanTree
-pub mod PageNames
 pub mod Kept
 pub mod Paths
 pub mod Steps

@@ -3,7 +3,7 @@ use Rattle.std.specs.Prelude.{◌≡◌, ◌≤◌, ℕ, Bool, true, false, List
 use Rattle.std.specs.List.{All, list_any}
 use Rattle.map_spec.specs.Branches.{is_map_node}
 use Rattle.map_spec.specs.MapTree.{MapTree, NoNodes, MapNode}
-use Rattle.page_spec.specs.Content.{Followed, Place, Range, is_place, path_limit}
+use Rattle.conref_spec.specs.Content.{Followed, Place, Range, is_place, path_limit}
 
 -- the maps on the way to a node, and its own if it is the root of one
 abbrev pub maps_to : MapTree → List (List ℕ) → List (List ℕ)

@@ -9,8 +9,8 @@ use Rattle.map_spec.specs.Keys.{chain, chain_from}
 use Rattle.map_spec.specs.Pages.{free_from}
 use Rattle.map_spec.specs.Scopes.{found, found_from, qualified}
 use Rattle.map_spec.specs.Written.{Element, Whole, Written}
-use Rattle.page_spec.specs.Content.{Place, Setting, followed_from, path_limit, resolved_from}
-use Rattle.page_spec.specs.Contents.{items, items_from}
+use Rattle.conref_spec.specs.Content.{Place, Setting, followed_from, path_limit, resolved_from}
+use Rattle.html_spec.specs.Contents.{items, items_from}
 
 -- a map with its submaps within a limit, or that it has too many nodes
 abbrev pub IncludedIsWhole : Type 0

@@ -6,7 +6,7 @@ ghost use Rattle.std.specs.Prelude.{◌≡◌, ◌≤◌, ℕ, List, [], Option,
 ghost use Rattle.dita_doc.specs.declared.plan.Plan.{Plan};
 ghost use Rattle.ditaval_rules.specs.declared.rules.RulesRead.{RulesRead};
 ghost use Rattle.language_laws.specs.Kept as kept_spec;
-ghost use Rattle.language_laws.specs.PageNames as page_names_spec;
+ghost use Rattle.build_plan.specs.PageNames as page_names_spec;
 ghost use Rattle.language_laws.specs.Paths as paths_spec;
 ghost use Rattle.language_laws.specs.PlanTree as plan_tree_spec;
 ghost use Rattle.language_laws.specs.Steps as steps_spec;
@@ -14,7 +14,7 @@ ghost use Rattle.map_spec.specs.Included as included_spec;
 ghost use Rattle.map_spec.specs.MapTree.{Grown};
 ghost use Rattle.map_spec.specs.PlanOf as plan_spec;
 ghost use Rattle.map_spec.specs.Written.{Element, Written};
-ghost use Rattle.page_spec.specs.Content as content_spec;
+ghost use Rattle.conref_spec.specs.Content as content_spec;
 ghost use Rattle.reader_spec.specs.World.{World};
 
 /// The nodes of a plan are a tree in preorder, with their parents and ends.

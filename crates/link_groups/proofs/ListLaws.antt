@@ -14,7 +14,7 @@ use Rattle.dita_doc.specs.declared.content.LinkKind.{LinkKind}
 use Rattle.dita_doc.specs.declared.content.PageLink.{PageLink}
 use Rattle.dita_doc.specs.declared.plan.PagePlan.{PagePlan}
 use Rattle.dita_doc.specs.declared.plan.Plan.{Plan}
-use Rattle.page_spec.specs.Links.{LinkTo, page_link, page_links, to_each_once}
+use Rattle.link_spec.specs.Links.{LinkTo, page_link, page_links, to_each_once}
 use Rattle.reader_spec.specs.World.{World}
 use Rattle.readers.specs.Founded.{is_among}
 use Rattle.readers.proofs.FoundedLaws.{among_behind, among_first}

@@ -15,7 +15,7 @@ use Rattle.dita_doc.specs.declared.plan.Target.{Target}
 use Rattle.dita_doc.specs.declared.plan.Target.TheVariants as targets
 use Rattle.map_spec.specs.Cascade.{cascaded_on, cascaded_value, walk}
 use Rattle.map_spec.specs.Pages.{local_name, page_for}
-use Rattle.page_spec.specs.Links.{context_of, page_of_node, target_of}
+use Rattle.link_spec.specs.Links.{context_of, page_of_node, target_of}
 use Rattle.plan_nodes.specs.Carried.{CarryValues}
 use Rattle.reader_spec.specs.World.{World}
 use Rattle.readers.specs.Founded.{StaysFounded, homes, is_among}

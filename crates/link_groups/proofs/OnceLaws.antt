@@ -5,7 +5,7 @@ use Rattle.std.specs.Option.{option_to_list}
 use Rattle.std.proofs.Common.{refl, sym, ap, subst, ◌∙◌, append-nil}
 use Rattle.std.proofs.lemmas.Bool.{false≢true}
 use Rattle.std.proofs.lemmas.Map.Views.{any-filter_same}
-use Rattle.page_spec.specs.Links.{LinkTo, to_each_once}
+use Rattle.link_spec.specs.Links.{LinkTo, to_each_once}
 use Rattle.link_groups.specs.LinkLists.{HoldsLinks, leads_to}
 use Rattle.link_groups.specs.declared.link_list.LinkList.{LinkList}
 use Rattle.link_groups.proofs.NumberLaws.{number_itself, same_number, turned}

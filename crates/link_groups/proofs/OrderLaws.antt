@@ -10,7 +10,7 @@ use Rattle.dita_doc.specs.declared.content.LinkKind.{LinkKind}
 use Rattle.dita_doc.specs.declared.plan.Plan.{Plan}
 use Rattle.dita_doc.specs.declared.plan.PlanNode.{PlanNode}
 use Rattle.map_spec.specs.Scopes.{places, places_from}
-use Rattle.page_spec.specs.Links.{LinkTo, is_page_at, link_to, links_as, links_of_kind, may_link, page_of_node, to_each_once}
+use Rattle.link_spec.specs.Links.{LinkTo, is_page_at, link_to, links_as, links_of_kind, may_link, page_of_node, to_each_once}
 use Rattle.reader_spec.specs.World.{World}
 use Rattle.link_groups.specs.LinkLists.{link_beside}
 use Rattle.link_groups.proofs.OnceLaws.{once_first_again, once_same}

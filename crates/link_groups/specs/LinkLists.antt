@@ -14,7 +14,7 @@ use Rattle.link_groups.specs.declared.link_list.LinkList.{LinkList}
 use Rattle.link_groups.specs.declared.link_list.LinkTo as declared
 use Rattle.link_groups.specs.declared.link_nodes.LinkNode.{LinkNode}
 use Rattle.map_spec.specs.Titles.{title_in}
-use Rattle.page_spec.specs.Links.{LinkTo, to_each_once}
+use Rattle.link_spec.specs.Links.{LinkTo, to_each_once}
 use Rattle.reader_spec.specs.World.{World}
 
 abbrev pub Links : Type 0

@@ -11,7 +11,7 @@ use Rattle.dita_doc.specs.declared.plan.PlanNode.{PlanNode}
 use Rattle.link_groups.specs.declared.link_nodes.LinkNode.{LinkNode}
 use Rattle.link_groups.specs.declared.link_nodes.LinkNodes.{LinkNodes}
 use Rattle.map_spec.specs.Pages.{local_name}
-use Rattle.page_spec.specs.Links.{cascaded_at, is_one_of, page_of_node}
+use Rattle.link_spec.specs.Links.{cascaded_at, is_one_of, page_of_node}
 use Rattle.reader_spec.specs.World.{World}
 use Rattle.readers.specs.Founded.{homes}
 

@@ -3,7 +3,7 @@
 //!
 //! What is used above it: `LinkNodes`, which asks for the page of each node once, and `LinkList`,
 //! to which the links by collections and by relationship tables are appended. Their clauses say
-//! what the definition `Links` of `page_spec` says of one node, and of the links of one page.
+//! what the definition `Links` of `link_spec` says of one node, and of the links of one page.
 #![tactic(auto)]
 
 mod link_list;

@@ -7,7 +7,7 @@ ghost use Rattle.std.specs.Option.{option_copied, option_to_list};
 ghost use Rattle.std.specs.Ordering.{nat_cmp};
 ghost use Rattle.link_groups.specs.LinkLists as spec;
 ghost use Rattle.link_groups.specs.LinkNodes as link_nodes_spec;
-ghost use Rattle.page_spec.specs.Links as links_spec;
+ghost use Rattle.link_spec.specs.Links as links_spec;
 ghost use Rattle.reader_spec.specs.World.{World};
 ghost use Rattle.readers.specs.Documents as documents_spec;
 ghost use Rattle.readers.specs.Documents.{AsksOnly};

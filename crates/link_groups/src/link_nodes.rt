@@ -5,7 +5,7 @@ ghost use Rattle.std.specs.Option.{option_copied};
 ghost use Rattle.dita_doc.specs.declared.plan.Plan as plan_spec;
 ghost use Rattle.link_groups.specs.LinkNodes as spec;
 ghost use Rattle.map_spec.specs.Pages.{local_name, page_for};
-ghost use Rattle.page_spec.specs.Links as links_spec;
+ghost use Rattle.link_spec.specs.Links as links_spec;
 ghost use Rattle.plan_nodes.specs.Carried.{CarryValues};
 ghost use Rattle.reader_spec.specs.World.{World};
 ghost use Rattle.readers.specs.Documents as documents_spec;

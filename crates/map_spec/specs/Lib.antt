@@ -11,3 +11,5 @@ pub mod Scopes
 pub mod Keys
 pub mod Pages
 pub mod PlanOf
+pub mod Places
+pub mod Pushes

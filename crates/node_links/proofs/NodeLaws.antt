@@ -7,7 +7,7 @@ use Rattle.dita_doc.specs.declared.content.LinkKind.TheVariants as links
 use Rattle.dita_doc.specs.declared.plan.Plan.{Plan}
 use Rattle.family_links.specs.Collected.{links_by_collections}
 use Rattle.node_links.specs.NodeTable.{links_by_nodes}
-use Rattle.page_spec.specs.Links.{links_of_kind}
+use Rattle.link_spec.specs.Links.{links_of_kind}
 use Rattle.reader_spec.specs.World.{World}
 
 pub both_are : (world : World) (plan : Plan) (page : ℕ)

@@ -7,7 +7,7 @@ use Rattle.dita_doc.specs.declared.content.PageLink.{PageLink}
 use Rattle.dita_doc.specs.declared.plan.Plan.{Plan}
 use Rattle.family_links.specs.Collected.{IsCollectionsOf}
 use Rattle.node_links.specs.declared.table.NodeLinks.{NodeLinks}
-use Rattle.page_spec.specs.Links.{LinkTo, links_of_kind, page_links}
+use Rattle.link_spec.specs.Links.{LinkTo, links_of_kind, page_links}
 use Rattle.reader_spec.specs.World.{World}
 use Rattle.reltable_links.specs.RowTable.{AreRowsOf, cell_faults}
 

@@ -4,7 +4,7 @@ ghost use Rattle.std.specs.Prelude.{◌≡◌, [], IfOk};
 ghost use Rattle.dita_doc.specs.declared.plan.Plan as plan_spec;
 ghost use Rattle.link_groups.specs.LinkNodes as link_nodes_spec;
 ghost use Rattle.node_links.specs.NodeTable as spec;
-ghost use Rattle.page_spec.specs.Links as links_spec;
+ghost use Rattle.link_spec.specs.Links as links_spec;
 ghost use Rattle.reader_spec.specs.World.{World};
 ghost use Rattle.readers.specs.Documents as documents_spec;
 ghost use Rattle.readers.specs.Documents.{AsksOnly};

@@ -23,13 +23,13 @@ use Rattle.map_spec.specs.PlanOf.{limits, plan_of}
 use Rattle.map_spec.specs.Scopes.{places_from}
 use Rattle.map_spec.specs.Titles.{title_in}
 use Rattle.map_spec.specs.Written.{Whole}
-use Rattle.page_spec.specs.Anchors.{Here, anchor_faults, anchors, element_links}
-use Rattle.page_spec.specs.Blocks.{body_html}
-use Rattle.page_spec.specs.Content.{Made, Setting, count_limit, resolved_page}
-use Rattle.page_spec.specs.Contents.{contents}
-use Rattle.page_spec.specs.Links.{family_links, row_faults, row_links}
-use Rattle.page_spec.specs.PageHtml.{page_limit, page_within}
-use Rattle.page_spec.specs.Pushes.{all_pushes, pushed}
+use Rattle.html_spec.specs.Anchors.{Here, anchor_faults, anchors, element_links}
+use Rattle.html_spec.specs.Blocks.{body_html}
+use Rattle.conref_spec.specs.Content.{Made, Setting, count_limit, resolved_page}
+use Rattle.html_spec.specs.Contents.{contents}
+use Rattle.link_spec.specs.Links.{family_links, row_faults, row_links}
+use Rattle.html_spec.specs.PageHtml.{page_limit, page_within}
+use Rattle.map_spec.specs.Pushes.{all_pushes, pushed}
 
 -- what pages have room for: resolved nodes, and bytes
 pub record Rooms : Type 0 where

@@ -14,8 +14,8 @@ use Rattle.dita_doc.specs.declared.content.PushKind.{PushKind}
 use Rattle.dita_doc.specs.declared.content.PushList.{PushList}
 use Rattle.map_spec.specs.Elements.{attribute}
 use Rattle.map_spec.specs.Written.{Element, size, written_in}
-use Rattle.page_spec.specs.Places.{Standing, TopicAt, all_standing, standing_from}
-use Rattle.page_spec.specs.Pushes.{AllPushes, PushInto, PushTarget, Pushing, all_pushes, is_into, is_replaced_by, no_pushes, push_kind, push_of, pushes_behind, pushes_into, pushing_at, pushing_in, pushing_of, twice_fault, with_pushing}
+use Rattle.map_spec.specs.Places.{Standing, TopicAt, all_standing, standing_from}
+use Rattle.map_spec.specs.Pushes.{AllPushes, PushInto, PushTarget, Pushing, all_pushes, is_into, is_replaced_by, no_pushes, push_kind, push_of, pushes_behind, pushes_into, pushing_at, pushing_in, pushing_of, twice_fault, with_pushing}
 use Rattle.plan_layer.specs.Passing.{AreAmong}
 use Rattle.reader_spec.specs.World.{World}
 use Rattle.readers.specs.Founded.{is_among}

@@ -1,10 +1,11 @@
 //! The calls of the layer as a reader that knows a plan.
 
 use crate::layer::PlanLayer;
-use crate::made::{GivesTouched, TellsPushes, kept_pushed, made_pushed, with_pushes};
-use crate::notes::{page_note, pushes_known};
 use conref_push::{PushTable, acts_in};
 use dita_doc::{Context, Doc, Name, NoMemory, PushList};
+use pushed_docs::{
+    GivesTouched, TellsPushes, kept_pushed, made_pushed, page_note, pushes_known, with_pushes,
+};
 use readers::{Asker, Keys, Since, share};
 use std::alloc::Global;
 use std::sync::Arc;

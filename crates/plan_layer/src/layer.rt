@@ -5,18 +5,17 @@ ghost use Rattle.conref_push.specs.Table.{IsPushTable, IsPushTable-prop};
 ghost use Rattle.page_table.specs.Pages.{IsPageTable, IsPageTable-prop};
 ghost use Rattle.plan_layer.specs.Carried.{CarriesFrom, CarriesFrom-prop, WereAllowed, WereAllowed-prop};
 ghost use Rattle.plan_layer.specs.Carried as carried_spec;
-ghost use Rattle.plan_layer.specs.Made.{AreKept, AreKept-prop, ArePushed, ArePushed-prop};
 ghost use Rattle.plan_layer.specs.Passing.{PassesOn, PassesOn-prop};
+ghost use Rattle.pushed_docs.specs.Made.{AreKept, AreKept-prop, ArePushed, ArePushed-prop};
 ghost use Rattle.readers.specs.Founded.{Grows};
 ghost use Rattle.readers.specs.Noted as noted_spec;
 ghost use Rattle.readers.specs.Props.{Knows-prop, Stand-set};
 ghost use Rattle.readers.specs.Told.{Knows};
 
-use crate::docs::PushedDocs;
-use crate::memo::PushedMemo;
 use conref_push::PushTable;
 use dita_doc::{List, Name, PagePlan};
 use page_table::PageTable;
+use pushed_docs::{PushedDocs, PushedMemo};
 use readers::{Keys, Questions, Since};
 use std::marker::PhantomData;
 

@@ -7,12 +7,6 @@
 mod asker;
 mod asks;
 mod calls;
-mod docs;
 mod layer;
-mod made;
-mod memo;
-mod notes;
 
-pub use docs::PushedDocs;
 pub use layer::PlanLayer;
-pub use memo::PushedMemo;

@@ -4,6 +4,7 @@ pub mod GivenLaws
 pub mod HomeLaws
 pub mod ListLaws
 pub mod MemoLaws
+pub mod OnceLaws
 pub mod OrderLaws
 pub mod PlaceLaws
 pub mod PreorderLaws

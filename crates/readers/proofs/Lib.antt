@@ -9,4 +9,3 @@ pub mod FetchLaws
 pub mod FileLaws
 pub mod AmongLaws
 pub mod GivenLaws
-pub mod StoredLaws

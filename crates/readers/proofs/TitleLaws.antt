@@ -1,20 +1,14 @@
 -- A table of titles, found by their topics.
-use Rattle.std.proofs.Common.{◌≡◌, ℕ, Bool, true, false, List, [], ◌∷◌, Option, Some, None, Result, Ok, Err, IfOk, IfSome, Ordering, Less, Equal, Greater, cond, sym, ap, subst, refl, ◌∙◌, option_map}
+use Rattle.std.proofs.Common.{◌≡◌, ℕ, Bool, true, false, List, [], ◌∷◌, Option, Some, None, IfSome, Ordering, Less, Equal, Greater, cond, sym, subst, refl, ◌∙◌}
 use Rattle.std.specs.BTreeMap.{insert_entry, is_at}
 use Rattle.std.specs.Borrow.{Bor}
 use Rattle.std.specs.Cmp.Lexicographic.{slice_cmp}
 use Rattle.std.specs.Map.{lookup}
-use Rattle.std.specs.Option.{option_copied, option_map_or}
+use Rattle.std.specs.Option.{option_copied}
 use Rattle.std.specs.Ordering.{is_eq, match_ordering, nat_cmp, ordering_then}
-use Rattle.dita_doc.specs.Desk.{State, Stored, found}
-use Rattle.dita_doc.specs.Sources.{version_and_nodes}
-use Rattle.dita_doc.specs.Tree.{tree_of}
-use Rattle.dita_doc.specs.declared.doc.Node.{Node}
-use Rattle.dita_doc.specs.declared.stop.NoMemory.{NoMemory}
 use Rattle.dita_doc.proofs.NameOrder.{same_from_equal}
-use Rattle.map_spec.specs.Titles.{first_in, first_of_document, title_in, title_of_document}
-use Rattle.map_spec.specs.Written.{written_in}
-use Rattle.reader_spec.specs.World.{World, stored_tree, world_of}
+use Rattle.map_spec.specs.Titles.{title_in}
+use Rattle.reader_spec.specs.World.{World}
 use Rattle.readers.specs.Titled.{AreTitles, IsTitle, Titled}
 use Rattle.readers.specs.declared.title_table.TopicAt.{TopicAt}
 
@@ -90,30 +84,3 @@ pub title_at : (world : World) (at : TopicAt) (name topic text copy : List ℕ) 
 title_at world at name topic text copy of_name of_topic same title =
     subst (λ n. title_in world n at.topic ≡ copy) (sym of_name)
     (subst (λ t. title_in world name t ≡ copy) (sym of_topic) (title ∙ sym same))
-
-stored_there : (found : Option Stored) (version : ℕ) (nodes : List Node)
-    → Some (version, nodes) ≡ option_map version_and_nodes found → option_map stored_tree found ≡ Some (tree_of nodes)
-stored_there None version nodes is = cc
-stored_there (Some stored) version nodes is =
-    ap (λ (o : Option (ℕ × List Node)). option_map (λ (p : ℕ × List Node). tree_of p.1) o) (sym is)
-
--- the id of the first topic of the document that stands there
-pub first_there : (state : State) (name : List ℕ) (version : ℕ) (nodes : List Node) (result : Result (List ℕ) NoMemory)
-    → Some (version, nodes) ≡ option_map version_and_nodes (found state name)
-    → IfOk result (λ id. id ≡ first_of_document (written_in name (tree_of nodes)))
-    → IfOk result (λ id. first_in (world_of state) name ≡ id)
-first_there state name version nodes (Err stop) there is = tt
-first_there state name version nodes (Ok id) there is =
-    ap (λ tree. option_map_or first_of_document (option_map (written_in name) tree) [])
-    (stored_there (found state name) version nodes there) ∙ sym is
-
-nothing_stored : (found : Option Stored) → None ≡ option_map version_and_nodes found → option_map stored_tree found ≡ None
-nothing_stored None is = refl
-nothing_stored (Some stored) is = cc
-
--- a document that does not stand there has its name
-pub title_missing : (state : State) (name topic text : List ℕ)
-    → None ≡ option_map version_and_nodes (found state name) → text ≡ name → title_in (world_of state) name topic ≡ text
-title_missing state name topic text none is =
-    ap (λ tree. option_map_or (title_of_document name topic) (option_map (written_in name) tree) name)
-    (nothing_stored (found state name) none) ∙ sym is

@@ -1,19 +1,18 @@
 -- What the notes of a reader tell (own): notes, the newest first, on top of what was told before.
 use Rattle.std.specs.Prelude.{List, [], ◌∷◌, Option, Some, None}
+use Rattle.std.specs.Arc.{arc_value}
 use Rattle.std.specs.Box.{box_value}
 use Rattle.std.specs.List.{filter_map}
-use Rattle.dita_doc.specs.Desk.{State}
 use Rattle.dita_doc.specs.declared.question.Answered.{Answered}
 use Rattle.dita_doc.specs.declared.question.Answered.TheVariants as answers
 use Rattle.dita_doc.specs.declared.question.Asked.{Asked}
 use Rattle.dita_doc.specs.declared.question.Question.{Question}
 use Rattle.dita_doc.specs.declared.question.Question.TheVariants as questions
-use Rattle.reader_spec.specs.World.{world_of}
 use Rattle.readers.specs.declared.questions.Note.{Note}
 use Rattle.readers.specs.declared.questions.Note.TheVariants as notes
 use Rattle.readers.specs.Founded.{homes}
-use Rattle.readers.specs.Setting.{Setting, no_setting}
-use Rattle.readers.specs.Told.{Told, document, kind, title, first, key, pushes, page_of, tried, sought, Agrees, tree_found}
+use Rattle.readers.specs.Setting.{Setting}
+use Rattle.readers.specs.Told.{Told, document, kind, title, first, key, pushes, page_of, tried, sought, tree_found}
 
 -- a question with an answer of another kind tells nothing
 abbrev pub told_by : Setting → Question → Answered → Told
@@ -25,7 +24,7 @@ told_by setting (questions.Key scope text) (answers.Key answer) = key setting.no
 told_by setting (questions.Pushes name) (answers.Pushes made faults) =
     pushes setting.documents name (record { pushes = made; faults = faults })
 told_by setting (questions.PageOf name context) (answers.PageOf place) =
-    page_of setting.pages name context.page place
+    page_of setting.pages name (arc_value context).page place
 told_by setting question answer = tried []
 
 abbrev pub told_of : Setting → Note → Told
@@ -41,14 +40,6 @@ told_of setting notes.TriedKey = tried (homes setting.nodes)
 abbrev pub told_onto : Setting → List Told → List Note → List Told
 told_onto setting ts [] = ts
 told_onto setting ts (note ∷ older) = told_of setting note ∷ told_onto setting ts older
-
--- of a reader that was made for nothing, with no reader below it
-abbrev pub told_alone : List Note → List Told
-told_alone all = told_onto no_setting [] all
-
--- what they tell is so in what is stored
-abbrev pub AreAnswers : State → List Note → Type 0
-AreAnswers state all = Agrees (world_of state) (told_alone all)
 
 -- The questions that have their answers, as facts keep them
 

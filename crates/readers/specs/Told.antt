@@ -15,7 +15,7 @@ use Rattle.reader_spec.specs.World.{World}
 use Rattle.map_spec.specs.Keys.{key_answer}
 use Rattle.map_spec.specs.Pages.{page_for}
 use Rattle.map_spec.specs.Titles.{first_in, kind_in, title_in}
-use Rattle.page_spec.specs.Pushes.{pushes_into}
+use Rattle.map_spec.specs.Pushes.{pushes_into}
 
 -- a question with its answer; or one that got none: `tried`, about these documents; `sought`, for this document
 pub data Told : Type 0 where

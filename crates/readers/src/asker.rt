@@ -1,7 +1,7 @@
 //! The traits of readers: each call answers a question, and tells it with its answer.
 
 ghost use Rattle.std.specs.Prelude.{◌≡◌, [], ◌∷◌, List, IfOk, IfSome};
-ghost use Rattle.page_spec.specs.Pushes.{pushed};
+ghost use Rattle.map_spec.specs.Pushes.{pushed};
 ghost use Rattle.reader_spec.specs.World.{World};
 ghost use Rattle.readers.specs.Documents as documents_spec;
 ghost use Rattle.readers.specs.Documents.{AsksOnly, IsGiven};

@@ -1,5 +1,4 @@
-//! The traits through which evaluators look at documents, what was told to a reader, and the reader
-//! over stored sources.
+//! The traits through which evaluators look at documents, and what was told to a reader.
 //!
 //! What is used above it: the clauses of `Reader`, `Titles`, `Keys` and `Asker`.
 #![tactic(auto)]
@@ -7,11 +6,9 @@
 mod asker;
 mod questions;
 mod since;
-mod source_reader;
 mod title_table;
 
 pub use asker::{Asker, Keys, Reader, Titles};
 pub use questions::{Note, Questions, share};
 pub use since::Since;
-pub use source_reader::{KnownTitles, SourceReader};
 pub use title_table::{TitleTable, TopicAt};

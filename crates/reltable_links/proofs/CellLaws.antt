@@ -10,7 +10,7 @@ use Rattle.std.proofs.lemmas.Option.{same_Some}
 use Rattle.dita_doc.specs.declared.plan.Plan.{Plan}
 use Rattle.dita_doc.specs.declared.plan.PlanNode.{PlanNode}
 use Rattle.map_spec.specs.Scopes.{places}
-use Rattle.page_spec.specs.Links.{cell_of, is_cell, is_child, is_kind_at, is_row, rows}
+use Rattle.link_spec.specs.Links.{cell_of, is_cell, is_child, is_kind_at, is_row, rows}
 use Rattle.plan_nodes.specs.Preorder.{IsTree}
 use Rattle.reader_spec.specs.World.{World}
 use Rattle.reltable_links.specs.CellTable.{cell_at, cell_for, cell_made, contains, is_row_cell}

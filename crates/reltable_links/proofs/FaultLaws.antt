@@ -12,7 +12,7 @@ use Rattle.dita_doc.specs.declared.plan.Plan.{Plan}
 use Rattle.dita_doc.specs.declared.plan.PlanNode.{PlanNode}
 use Rattle.map_spec.specs.Pages.{local_name}
 use Rattle.map_spec.specs.Scopes.{node_fault, places}
-use Rattle.page_spec.specs.Links.{cell_of, has_page, is_kind_at, is_row, lost_in, row_faults, rows, target_of}
+use Rattle.link_spec.specs.Links.{cell_of, has_page, is_kind_at, is_row, lost_in, row_faults, rows, target_of}
 use Rattle.plan_nodes.specs.Preorder.{IsTree}
 use Rattle.reader_spec.specs.World.{World}
 use Rattle.reltable_links.specs.Below.{ends_behind_one, is_below_one, new_below}

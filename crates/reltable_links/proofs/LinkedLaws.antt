@@ -10,7 +10,7 @@ use Rattle.dita_doc.specs.declared.plan.Plan.{Plan}
 use Rattle.dita_doc.specs.declared.plan.PlanNode.{PlanNode}
 use Rattle.map_spec.specs.Pages.{local_name, page_for}
 use Rattle.map_spec.specs.Scopes.{places}
-use Rattle.page_spec.specs.Links.{are_in_cells, are_related_in, cell_of, context_of, has_node_value, is_kind_at, is_page_at, is_row, links_as, may_link, page_of_node, target_of}
+use Rattle.link_spec.specs.Links.{are_in_cells, are_related_in, cell_of, context_of, has_node_value, is_kind_at, is_page_at, is_row, links_as, may_link, page_of_node, target_of}
 use Rattle.plan_nodes.specs.Preorder.{IsTree}
 use Rattle.reader_spec.specs.World.{World}
 use Rattle.link_groups.specs.LinkNodes.{is_source_at, is_target_at, with_page}

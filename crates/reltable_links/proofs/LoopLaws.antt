@@ -11,7 +11,7 @@ use Rattle.link_groups.specs.LinkLists.{HoldsLinks, link_beside, links_to_nodes,
 use Rattle.link_groups.specs.declared.link_list.LinkList.{LinkList}
 use Rattle.link_groups.specs.declared.link_nodes.LinkNode.{LinkNode}
 use Rattle.link_groups.proofs.OnceLaws.{filter_both}
-use Rattle.page_spec.specs.Links.{LinkTo}
+use Rattle.link_spec.specs.Links.{LinkTo}
 use Rattle.reltable_links.specs.Linked.{if_target, is_target}
 
 pub or_more : (a b c : Bool) → ((a || b) || c) ≡ (a || (b || c))

@@ -9,7 +9,7 @@ use Rattle.dita_doc.specs.declared.content.LinkKind.TheVariants as links
 use Rattle.dita_doc.specs.declared.plan.Plan.{Plan}
 use Rattle.dita_doc.specs.declared.plan.PlanNode.{PlanNode}
 use Rattle.map_spec.specs.Scopes.{places, places_from}
-use Rattle.page_spec.specs.Links.{LinkTo, links_of_kind, page_of_node, to_each_once}
+use Rattle.link_spec.specs.Links.{LinkTo, links_of_kind, page_of_node, to_each_once}
 use Rattle.plan_nodes.specs.Preorder.{IsTree}
 use Rattle.reader_spec.specs.World.{World}
 use Rattle.link_groups.specs.LinkNodes.{is_target_at, with_page}

@@ -10,7 +10,7 @@ use Rattle.link_groups.specs.LinkLists.{HoldsLinks, link_beside, links_to_nodes}
 use Rattle.link_groups.specs.declared.link_list.LinkList.{LinkList}
 use Rattle.link_groups.specs.declared.link_nodes.LinkNode.{LinkNode}
 use Rattle.link_groups.proofs.OnceLaws.{filter_both, filter_like, filter_twice}
-use Rattle.page_spec.specs.Links.{LinkTo}
+use Rattle.link_spec.specs.Links.{LinkTo}
 use Rattle.reltable_links.specs.Below.{ends_behind_one, is_below_one, new_below}
 use Rattle.reltable_links.specs.CellTable.{contains}
 use Rattle.reltable_links.specs.Linked.{is_linked_node, is_target, is_target_below, linked_nodes, links_into}

@@ -14,7 +14,7 @@ use Rattle.map_spec.specs.Cascade.{attribute_at, whole_at}
 use Rattle.map_spec.specs.Elements.{attribute}
 use Rattle.map_spec.specs.Scopes.{places, places_from}
 use Rattle.map_spec.specs.Written.{Whole}
-use Rattle.page_spec.specs.Links.{cell_of, has_node_value, is_kind_at, is_row}
+use Rattle.link_spec.specs.Links.{cell_of, has_node_value, is_kind_at, is_row}
 use Rattle.plan_nodes.specs.Home.{value_at}
 use Rattle.plan_nodes.specs.Preorder.{IsTree}
 use Rattle.reader_spec.specs.World.{World}

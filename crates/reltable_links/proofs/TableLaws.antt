@@ -12,7 +12,7 @@ use Rattle.link_groups.specs.declared.link_list.LinkList.{LinkList}
 use Rattle.link_groups.specs.declared.link_nodes.LinkNode.{LinkNode}
 use Rattle.link_groups.proofs.OnceLaws.{holds_same, once_same}
 use Rattle.map_spec.specs.Scopes.{places}
-use Rattle.page_spec.specs.Links.{LinkTo, links_of_kind, to_each_once}
+use Rattle.link_spec.specs.Links.{LinkTo, links_of_kind, to_each_once}
 use Rattle.plan_nodes.specs.Preorder.{IsTree}
 use Rattle.reader_spec.specs.World.{World}
 use Rattle.reltable_links.specs.CellTable.{cell_at, is_lost_below, node_at}

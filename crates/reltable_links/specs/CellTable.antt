@@ -12,7 +12,7 @@ use Rattle.map_spec.specs.Pages.{local_name}
 use Rattle.map_spec.specs.Scopes.{places}
 use Rattle.map_spec.specs.Cascade.{whole_at}
 use Rattle.map_spec.specs.Written.{Whole}
-use Rattle.page_spec.specs.Links.{cell_of, has_node_value, has_page, is_cell, is_kind_at, is_row, rows, target_of}
+use Rattle.link_spec.specs.Links.{cell_of, has_node_value, has_page, is_cell, is_kind_at, is_row, rows, target_of}
 use Rattle.plan_nodes.specs.Carried.{CarryValues}
 use Rattle.plan_nodes.specs.Preorder.{IsTree}
 use Rattle.reader_spec.specs.World.{World}

@@ -11,7 +11,7 @@ use Rattle.link_groups.specs.declared.link_list.LinksMade.{LinksMade}
 use Rattle.link_groups.specs.declared.link_nodes.LinkNodes.{LinkNodes}
 use Rattle.map_spec.specs.Pages.{local_name}
 use Rattle.map_spec.specs.Scopes.{node_fault, places}
-use Rattle.page_spec.specs.Links.{row_faults, row_links, target_of}
+use Rattle.link_spec.specs.Links.{row_faults, row_links, target_of}
 use Rattle.plan_nodes.specs.Carried.{CarryValues}
 use Rattle.plan_nodes.specs.Preorder.{IsTree}
 use Rattle.reader_spec.specs.World.{World}

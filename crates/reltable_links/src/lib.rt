@@ -2,7 +2,7 @@
 //! in a cell that is a family also to those beside it.
 //!
 //! What is used above it: `Rows`, made once for a plan, and `by_rows`, which makes the links of one
-//! page alone. Their clauses say what the definition `Links` of `page_spec` says of relationship
+//! page alone. Their clauses say what the definition `Links` of `link_spec` says of relationship
 //! tables.
 #![tactic(auto)]
 

@@ -6,7 +6,7 @@ ghost use Rattle.dita_doc.specs.declared.plan.Plan as plan_spec;
 ghost use Rattle.link_groups.specs.LinkLists as link_lists_spec;
 ghost use Rattle.link_groups.specs.LinkNodes as link_nodes_spec;
 ghost use Rattle.map_spec.specs.Cascade as cascade_spec;
-ghost use Rattle.page_spec.specs.Links as links_spec;
+ghost use Rattle.link_spec.specs.Links as links_spec;
 ghost use Rattle.reader_spec.specs.World.{World};
 ghost use Rattle.readers.specs.Documents as documents_spec;
 ghost use Rattle.readers.specs.Documents.{AsksOnly};

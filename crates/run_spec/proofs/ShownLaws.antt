@@ -1,8 +1,8 @@
 -- What is shown of answers: each answer of a desk is shown.
 use Rattle.std.proofs.Common.{◌≡◌, ◌+◌, ◌==◌, ◌&&◌, ℕ, Bool, true, false, not, List, [], ◌∷◌, Option, Some, None, Result, Ok, Err, if◌then◌else◌, length, option_map, is_some, nat_le, refl, sym, ◌∙◌, arith}
-use Rattle.dita_doc.specs.Desk.{State, Stored, Reply, IsStored, IsRemoved, Bytes, NameList, IsRefused, Conflict, Absent, TooManyNames, Begun, reply, next, found, store_reply, unless_refused, get_reply, remove_reply, version_at, stored_limit}
+use Rattle.dita_doc.specs.Desk.{State, Stored, Halt, Reply, IsStored, IsRemoved, Bytes, NameList, IsRefused, Conflict, Absent, TooManyNames, Begun, IsGrouped, IsStopped, reply, next, found, store_reply, unless_refused, get_reply, remove_reply, edit_reply, halt_of, group_reply, version_at, stored_limit}
 use Rattle.dita_doc.specs.Pyx.{document_of}
-use Rattle.dita_doc.specs.Request.{Request, Put, PutIf, Remove, Get, Names, Build}
+use Rattle.dita_doc.specs.Request.{Edit, Put, PutIf, Remove, Request, Single, Get, Names, Build, Group}
 use Rattle.dita_doc.specs.Tree.{Content}
 use Rattle.dita_doc.specs.declared.fault.PyxFault.{PyxFault}
 use Rattle.script_text.specs.Script.{Step}
@@ -35,19 +35,27 @@ store_not_begun state place name = if_not_begun
     (nat_le stored_limit (length state) && not (is_some (found state name))) (TooManyNames stored_limit)
     (IsStored (place + 1)) refl refl
 
+edit_not_begun : (state : State) (place : ℕ) (edit : Edit) → is_begun (edit_reply state place edit) ≡ false
+edit_not_begun state place (Put name body) =
+    refused_not_begun (document_of body) _ (store_not_begun state place name)
+edit_not_begun state place (PutIf version name body) =
+    refused_not_begun (document_of body) _
+    (if_not_begun (version_at state name == version) (store_reply state place name)
+    (Conflict (version_at state name)) (store_not_begun state place name) refl)
+edit_not_begun state place (Remove name) = remove_not_begun (found state name)
+
+group_not_begun : (count : ℕ) (halt : Option Halt) → is_begun (group_reply count halt) ≡ false
+group_not_begun count None = refl
+group_not_begun count (Some halt) = refl
+
 -- a reply says that a build has its place exactly where the request is a build
 pub begun_built : (state : State) (place : ℕ) (request : Request)
     → is_some (built_by state request) ≡ is_begun (reply state place request)
-begun_built state place (Put name body) =
-    sym (refused_not_begun (document_of body) _ (store_not_begun state place name))
-begun_built state place (PutIf version name body) =
-    sym (refused_not_begun (document_of body) _
-    (if_not_begun (version_at state name == version) (store_reply state place name)
-    (Conflict (version_at state name)) (store_not_begun state place name) refl))
-begun_built state place (Remove name) = sym (remove_not_begun (found state name))
+begun_built state place (Single edit) = sym (edit_not_begun state place edit)
 begun_built state place (Get name) = sym (get_not_begun (found state name))
 begun_built state place Names = refl
-begun_built state place (Build map val) = refl
+begun_built state place (Build root val) = refl
+begun_built state place (Group edits) = sym (group_not_begun (length edits) (halt_of state place edits))
 
 -- Each is shown
 
@@ -72,6 +80,8 @@ reply_is_shown (Conflict version) built same = unless_shown built _ same
 reply_is_shown Absent built same = unless_shown built _ same
 reply_is_shown (TooManyNames limit) built same = unless_shown built _ same
 reply_is_shown Begun built same = some_map _ built ∙ same
+reply_is_shown (IsGrouped count) built same = unless_shown built _ same
+reply_is_shown (IsStopped number refusal) built same = unless_shown built _ same
 
 pub answer_is_shown : (at : ℕ) (state : State) (place number : ℕ) (step : Step)
     → is_some (answer_shown at (answer_at state place number step)) ≡ true

@@ -5,7 +5,7 @@ use Rattle.std.specs.List.{flat_map}
 use Rattle.build_spec.specs.Built.{Built, Page, Done, Stopped, TooLarge, pages_of}
 use Rattle.dita_doc.specs.Desk.{State, reply, next}
 use Rattle.dita_doc.specs.History.{Entry}
-use Rattle.dita_doc.specs.Request.{Request, Put, PutIf, Remove, Get, Names, Build}
+use Rattle.dita_doc.specs.Request.{Request, Single, Get, Names, Build, Group}
 use Rattle.part_spec.specs.Parts.{clean_build}
 use Rattle.reader_spec.specs.World.{world_of}
 use Rattle.script_text.specs.Script.{Step}
@@ -13,12 +13,11 @@ use Rattle.transcript_text.specs.Transcript.{BuildShown, PageShown, BuiltPages, 
 
 -- what a request builds over what is stored, if it is a build
 abbrev pub built_by : State → Request → Option Built
-built_by state (Put name body) = None
-built_by state (PutIf version name body) = None
-built_by state (Remove name) = None
+built_by state (Single edit) = None
 built_by state (Get name) = None
 built_by state Names = None
-built_by state (Build map val) = Some (clean_build (world_of state) map val)
+built_by state (Build root val) = Some (clean_build (world_of state) root val)
+built_by state (Group edits) = None
 
 -- an entry, and what it built
 pub record Answer : Type 0 where

@@ -1,9 +1,9 @@
 -- Printed blocks are read as the steps that they ask.
-use Rattle.std.specs.Prelude.{◌≡◌, ◌<◌, ◌≤◌, ◌+◌, ◌==◌, ◌⊎◌, ◌++◌, ℕ, Bool, true, false, List, [], ◌∷◌, Option, Some, None, Ok, Err, length, codes, slice_index, bytes_eq, if◌then◌else◌}
+use Rattle.std.specs.Prelude.{◌≡◌, ◌≢◌, ◌<◌, ◌≤◌, ◌+◌, ◌==◌, ◌⊎◌, ◌++◌, ℕ, Bool, true, false, List, [], ◌∷◌, Option, Some, None, Result, Ok, Err, length, codes, slice_index, bytes_eq, if◌then◌else◌}
 use Rattle.std.specs.List.{All, flat_map, list_all}
 use Rattle.std.specs.Option.{option_to_list}
 use Rattle.std.specs.Str.{is_utf8}
-use Rattle.std.proofs.Common.{refl, sym, ap, ◌∙◌, arith, inl, inr, append-nil, append_assoc}
+use Rattle.std.proofs.Common.{refl, sym, ap, ◌∙◌, subst, arith, inl, inr, append-nil, append_assoc, length-append}
 use Rattle.std.proofs.lemmas.Bool.{or_left, or_right, false_from_ne_true}
 use Rattle.std.proofs.lemmas.List.Elements.{All-head, All-tail}
 use Rattle.std.proofs.lemmas.Slice.Eq.{bytes_eq-Decides}
@@ -12,16 +12,17 @@ use Rattle.std.proofs.lemmas.Str.Ascii.{IsAscii-cons, IsAscii-nil}
 use Rattle.dita_doc.specs.Bytes.{line_feed, number_sign, is_gap, spaced_words}
 use Rattle.dita_doc.specs.Cut.{Lacks}
 use Rattle.dita_doc.specs.Lines.{line, lines_of}
-use Rattle.dita_doc.specs.Request.{Request, Put, PutIf, Remove, Get, Names, Build}
+use Rattle.dita_doc.specs.Request.{Edit, Put, PutIf, Remove, Request, Single, Get, Names, Build, Group, edit_limit}
 use Rattle.dita_doc.proofs.LinesLaws.{lines_after}
+use Rattle.script_text.specs.declared.fault.ScriptCode.{ScriptCode}
 use Rattle.script_text.specs.declared.fault.ScriptCode.TheVariants as faults
-use Rattle.script_text.specs.Script.{request_limit, Opening, PutOf, PutIfOf, with_body, Whole, Opens, asked_by, is_passed, script_line, Step, Begun, whole_step, with_line, Turn, goes_on, ends, turn_within, turn_outside, turn_of_text, turn, count_after, then_steps, steps_from}
+use Rattle.script_text.specs.Script.{request_limit, Opening, PutOf, PutIfOf, with_body, EditCommand, WholeEdit, OpensBody, edit_of, asked_by, is_passed, script_line, edit_counted, edit_line, Step, Opened, Begun, InPut, InGroup, InGroupPut, open_body, whole_edit, with_line, Turn, goes_on, ends, is_body_end, turn_edit, turn_within, turn_outside, turn_of_text, turn, count_after, then_steps, steps_from}
 use Rattle.script_text.proofs.StepLaws.{steps_led, led_by}
-use Rattle.script_text.proofs.ScriptTurns.{opened, step_of}
+use Rattle.script_text.proofs.ScriptTurns.{step_of}
 use Rattle.script_laws.specs.Blocks as blocks_spec
-use Rattle.script_laws.specs.Blocks.{IsLineOfStep, IsBodyLine, IsBody, IsBehind, Block, Passed, Asks, IsTextOf, AreTextOf}
-use Rattle.script_laws.proofs.LinesRead.{step_lacks, step_told}
-use Rattle.script_laws.proofs.BlocksSaid.{put_step, step_with, line_in_front, text_in_front}
+use Rattle.script_laws.specs.Blocks.{IsLineOfEdit, IsLineOfStep, IsBodyLine, IsBody, IsBehindEdit, IsBehind, Item, Blank, Does, AreItems, edits_of, Block, Passed, Asks, IsTextOf, AreTextOf}
+use Rattle.script_laws.proofs.LinesRead.{edit_lacks, step_lacks, edit_line_told, step_told}
+use Rattle.script_laws.proofs.RestLaws.{edit_with, group_with, edit_whole, edit_more, group_more}
 
 -- the lines of a text say these steps, whatever their numbers
 abbrev pub AreTold : ℕ → Option Begun → List ℕ → List Step → Type 0
@@ -62,86 +63,61 @@ dot_utf8 : is_utf8 (codes ".") ≡ true
 dot_utf8 =
     is_utf8-from_IsUtf8 (codes ".") (IsUtf8-from_ascii (codes ".") (IsAscii-cons 46 [] (omega arith) IsAscii-nil))
 
-body_line : (begun : Begun) (text : List ℕ) → IsBodyLine text
-    → turn_within begun text ≡ goes_on (Some (with_line begun text))
-body_line begun text is =
-    let goes : bytes_eq text (codes ".") ≡ false =
-    false_from_ne_true _ (λ e. is.other ((bytes_eq-Decides text (codes ".")).0 e)) in
-    ap (λ (test : Bool). if test then ends (whole_step begun) else goes_on (Some (with_line begun text))) goes
+-- a text that is not this one
+other_text : (text other : List ℕ) → text ≢ other → bytes_eq text other ≡ false
+other_text text other differs = false_from_ne_true _ (λ e. differs ((bytes_eq-Decides text other).0 e))
 
--- the lines of a body and the line that ends it
-body_told : (count : ℕ) (begun : Begun) (body : List (List ℕ)) (back : List ℕ) (steps : List Step)
-    → All IsBodyLine body → AreTold (count + 1) None back steps
-    → AreTold count (Some begun) (flat_map line body ++ line (codes ".") ++ back)
-    (step_with begun (flat_map line body) ∷ steps)
-body_told count begun [] back steps all behind =
-    let text : List ℕ = line (codes ".") ++ back in
-    told_same count (Some begun) text text (whole_step begun ∷ steps) (step_with begun [] ∷ steps) refl
-    (ap (λ (body : List ℕ). put_step begun body ∷ steps) (sym (append-nil begun.body)))
-    (told_line count (Some begun) (codes ".") back (ends (whole_step begun)) steps refl
-    (turn_utf8 count (Some begun) (codes ".") (ends (whole_step begun)) dot_utf8 refl) behind)
-body_told count begun (text ∷ body) back steps all behind =
-    let more : List ℕ = flat_map line body in
-    let rest : List ℕ = more ++ line (codes ".") ++ back in
-    let first = All-head IsBodyLine text body all in
-    let next : Turn = goes_on (Some (with_line begun text)) in
-    let told = body_told count (with_line begun text) body back steps (All-tail IsBodyLine text body all) behind in
-    told_same count (Some begun) (line text ++ rest) (line text ++ more ++ line (codes ".") ++ back)
-    (step_with (with_line begun text) more ∷ steps) (step_with begun (line text ++ more) ∷ steps)
-    (sym (text_in_front text more back))
-    (ap (λ (all : List ℕ). put_step begun all ∷ steps)
-    (line_in_front begun.body text more))
-    (told_line count (Some begun) text rest next (step_with (with_line begun text) more ∷ steps) first.on_line.one
-    (turn_utf8 count (Some begun) text next first.on_line.utf8
-    (ap (λ (turned : Turn). Ok turned) (body_line begun text first))) told)
+-- by a test, the edit that the line of a put's body ends, or the put with this line
+abbrev put_turn : (Opened → Begun) → (Edit → Turn) → Opened → List ℕ → Bool → Result Turn ScriptCode
+put_turn held done put text ends =
+    if ends then Ok (done (whole_edit put)) else Ok (goes_on (Some (held (with_line put text))))
 
--- Requests
-
-module _ (count session : ℕ) (head behind back : List ℕ) (steps : List Step) (room : count < request_limit)
-    (behind_told : AreTold (count + 1) None back steps) where
-  -- in one line
-  whole_told : (request : Request) → IsLineOfStep (step_of session request) head
-      → script_line count head ≡ Ok (Some (record { session = session; command = Whole request })) → behind ≡ []
-      → AreTold count None ((line head ++ behind) ++ back) (step_of session request ∷ steps)
-  whole_told request is read none =
-      let step : Step = step_of session request in
-      let same : (line head ++ behind) ++ back ≡ line head ++ back =
-      ap (λ (more : List ℕ). (line head ++ more) ++ back) none
-      ∙ ap (λ (front : List ℕ). front ++ back) (append-nil (line head)) in
-      told_same count None (line head ++ back) _ (step ∷ steps) (step ∷ steps) same refl
-      (told_line count None head back (ends step) steps (step_lacks step head is)
-      (turn_utf8 count None head (ends step) is.utf8 (ap turn_outside read)) behind_told)
-
-  -- with a body
-  put_told : (opening : Opening) (body : List ℕ) → IsLineOfStep (step_of session (with_body opening body)) head
-      → script_line count head ≡ Ok (Some (record { session = session; command = Opens opening }))
-      → IsBody body behind
-      → AreTold count None ((line head ++ behind) ++ back) (step_of session (with_body opening body) ∷ steps)
-  put_told opening body is read has_body =
-      let next : Turn = goes_on (Some (opened session opening)) in
-      let more : List ℕ = flat_map line has_body.lines in
+-- a put, alone or in a group, is read line by line up to the line that ends its body
+module _ (held : Opened → Begun) (done : Edit → Turn) (within : (put : Opened) (text : List ℕ)
+    → turn_within (held put) text ≡ put_turn held done put text (is_body_end text)) where
+  -- the lines of a body and the line that ends it, behind which this edit is whole
+  body_told : (count : ℕ) (put : Opened) (edit : Edit) (body : List (List ℕ)) (back : List ℕ) (steps : List Step)
+      → edit ≡ edit_with put (flat_map line body) → All IsBodyLine body
+      → AreTold (count_after count (done edit).step) (done edit).begun back steps
+      → AreTold count (Some (held put)) (flat_map line body ++ line (codes ".") ++ back)
+      (option_to_list (done edit).step ++ steps)
+  body_told count put edit [] back steps e all behind =
+      let is : turn_within (held put) (codes ".") ≡ Ok (done edit) =
+      within put (codes ".") ∙ ap (λ (edit : Edit). Ok (done edit)) (sym (e ∙ edit_whole put)) in
+      told_line count (Some (held put)) (codes ".") back (done edit) steps refl
+      (turn_utf8 count (Some (held put)) (codes ".") (done edit) dot_utf8 is) behind
+  body_told count put edit (text ∷ body) back steps e all behind =
+      let more : List ℕ = flat_map line body in
       let rest : List ℕ = more ++ line (codes ".") ++ back in
-      let ended : behind ≡ more ++ line (codes ".") =
-      has_body.ended ∙ ap (λ (all : List ℕ). all ++ line (codes ".")) has_body.is in
-      let same : (line head ++ behind) ++ back ≡ line head ++ rest =
-      append_assoc (line head) behind back ∙ ap (λ (all : List ℕ). line head ++ (all ++ back)) ended in
-      told_same count None (line head ++ rest) _ (step_with (opened session opening) more ∷ steps) _ same
-      (ap (λ (all : List ℕ). step_of session (with_body opening all) ∷ steps) (sym has_body.is))
-      (told_line count None head rest next (step_with (opened session opening) more ∷ steps)
-      (step_lacks (step_of session (with_body opening body)) head is)
-      (turn_utf8 count None head next is.utf8 (ap turn_outside read))
-      (body_told count (opened session opening) has_body.lines back steps has_body.each behind_told))
+      let first = All-head IsBodyLine text body all in
+      let next : Turn = goes_on (Some (held (with_line put text))) in
+      let told = body_told count (with_line put text) edit body back steps (e ∙ sym (edit_more put text more))
+      (All-tail IsBodyLine text body all) behind in
+      let whole : line text ++ more ++ line (codes ".") ++ back ≡ line text ++ rest = simp append_assoc refl in
+      let all_steps : List Step = option_to_list (done edit).step ++ steps in
+      told_same count (Some (held put)) (line text ++ rest) (line text ++ more ++ line (codes ".") ++ back)
+      all_steps all_steps whole refl
+      (told_line count (Some (held put)) text rest next all_steps first.on_line.one
+      (turn_utf8 count (Some (held put)) text next first.on_line.utf8
+      (within put text ∙ ap (put_turn held done put text) (other_text text (codes ".") first.other))) told)
 
-  asks_told : (request : Request) → IsLineOfStep (step_of session request) head → IsBehind request behind
-      → AreTold count None ((line head ++ behind) ++ back) (step_of session request ∷ steps)
-  asks_told (Put name body) is = put_told (PutOf name) body is (step_told count _ head room is)
-  asks_told (PutIf version name body) is = put_told (PutIfOf version name) body is (step_told count _ head room is)
-  asks_told (Remove name) is = whole_told (Remove name) is (step_told count _ head room is)
-  asks_told (Get name) is = whole_told (Get name) is (step_told count _ head room is)
-  asks_told Names is = whole_told Names is (step_told count _ head room is)
-  asks_told (Build map val) is = whole_told (Build map val) is (step_told count _ head room is)
+  -- so with a body
+  put_told : (count : ℕ) (opening : Opening) (body behind back : List ℕ) (steps : List Step) → IsBody body behind
+      → (let next : Turn = done (with_body opening body) in
+      AreTold (count_after count next.step) next.begun back steps
+      → AreTold count (Some (held (open_body opening))) (behind ++ back) (option_to_list next.step ++ steps))
+  put_told count opening body behind back steps has told =
+      let edit : Edit = with_body opening body in
+      let more : List ℕ = flat_map line has.lines in
+      let ended_by : behind ≡ more ++ line (codes ".") =
+      has.ended ∙ ap (λ (all : List ℕ). all ++ line (codes ".")) has.is in
+      let all_steps : List Step = option_to_list (done edit).step ++ steps in
+      told_same count (Some (held (open_body opening))) (more ++ line (codes ".") ++ back) (behind ++ back)
+      all_steps all_steps (ap (λ (all : List ℕ). all ++ back) ended_by) refl
+      (body_told count (open_body opening) edit has.lines back steps
+      (ap (with_body opening) has.is) has.each told)
 
--- Blocks
+-- Lines that are passed over
 
 passed_by : (text : List ℕ) → (list_all is_gap text ≡ true) ⊎ ((rest : List ℕ) × (text ≡ number_sign ∷ rest))
     → is_passed text ≡ true
@@ -157,6 +133,192 @@ passed_turn count text is =
     let passed : is_passed text ≡ true = passed_by text is.empty in
     turn_utf8 count None text (goes_on None) is.on_line.utf8
     (ap (λ (test : Bool). turn_outside (if test then Ok None else asked_by count (spaced_words text))) passed)
+
+-- Groups
+
+end_utf8 : is_utf8 (codes "end") ≡ true
+end_utf8 =
+    is_utf8-from_IsUtf8 (codes "end") (IsUtf8-from_ascii (codes "end") (IsAscii-cons 101 (codes "nd") (omega arith)
+    (IsAscii-cons 110 (codes "d") (omega arith) (IsAscii-cons 100 [] (omega arith) IsAscii-nil))))
+
+module _ (count session : ℕ) where
+  -- a line of a group that does not end it
+  group_turn : (edits : List Edit) (text : List ℕ) (found : Option EditCommand) (next : Turn) → is_utf8 text ≡ true
+      → text ≢ codes "end" → edit_line (length edits) text ≡ Ok found
+      → turn_edit session edits (Ok found) ≡ Ok next
+      → turn script_line count (Some (InGroup session edits)) text ≡ Ok next
+  group_turn edits text found next utf8 other read leads =
+      turn_utf8 count (Some (InGroup session edits)) text next utf8
+      (ap (λ (test : Bool). if test then Ok (ends session (Group edits))
+      else turn_edit session edits (edit_line (length edits) text)) (other_text text (codes "end") other)
+      ∙ ap (turn_edit session edits) read ∙ leads)
+
+  -- the word `end` is neither passed over nor an edit
+  passed_other : (text : List ℕ) → is_passed text ≡ true → text ≢ codes "end"
+  passed_other text passed same =
+      let no : is_passed (codes "end") ≡ true = ap is_passed (sym same) ∙ passed in absurd cc
+
+  passed_read : (edits : List Edit) (text : List ℕ) → is_passed text ≡ true → edit_line (length edits) text ≡ Ok None
+  passed_read edits text passed =
+      ap (λ (test : Bool). if test then Ok None else edit_counted (length edits) (edit_of (spaced_words text))) passed
+
+  edit_other : (edit : EditCommand) (text : List ℕ) → edit_line 0 text ≡ Ok (Some edit) → text ≢ codes "end"
+  edit_other edit text read same =
+      let no : edit_line 0 (codes "end") ≡ Ok (Some edit) = ap (edit_line 0) (sym same) ∙ read in absurd cc
+
+  blank_turn : (edits : List Edit) (text : List ℕ) → blocks_spec.IsPassed text
+      → turn script_line count (Some (InGroup session edits)) text ≡ Ok (goes_on (Some (InGroup session edits)))
+  blank_turn edits text is =
+      let passed : is_passed text ≡ true = passed_by text is.empty in
+      group_turn edits text None (goes_on (Some (InGroup session edits))) is.on_line.utf8 (passed_other text passed)
+      (passed_read edits text passed) refl
+
+  edit_turn : (edits : List Edit) (edit : Edit) (found : EditCommand) (text : List ℕ) (next : Turn)
+      → length edits < edit_limit → IsLineOfEdit edit text
+      → ((room : ℕ) → room < edit_limit → edit_line room text ≡ Ok (Some found))
+      → turn_edit session edits (Ok (Some found)) ≡ Ok next
+      → turn script_line count (Some (InGroup session edits)) text ≡ Ok next
+  edit_turn edits edit found text next room is read leads =
+      group_turn edits text (Some found) next is.utf8 (edit_other found text (read 0 (omega arith)))
+      (read (length edits) room) leads
+
+  put_in : (edits : List Edit) (opening : Opening) (body head behind back : List ℕ) (steps : List Step)
+      → length edits < edit_limit → IsLineOfEdit (with_body opening body) head
+      → ((n : ℕ) → n < edit_limit → edit_line n head ≡ Ok (Some (OpensBody opening))) → IsBody body behind
+      → AreTold count (Some (InGroup session (edits ++ with_body opening body ∷ []))) back steps
+      → AreTold count (Some (InGroup session edits)) (line head ++ behind ++ back) steps
+  put_in edits opening body head behind back steps room is read has told =
+      let next : Turn = goes_on (Some (InGroupPut session edits (open_body opening))) in
+      let held : Opened → Begun = λ put. InGroupPut session edits put in
+      let done : Edit → Turn = λ edit. goes_on (Some (InGroup session (edits ++ edit ∷ []))) in
+      let rest = put_told held done (λ put text. refl) count opening body behind back steps has told in
+      told_same count (Some (InGroup session edits)) (line head ++ (behind ++ back)) (line head ++ behind ++ back)
+      steps steps (append_assoc (line head) behind back) refl
+      (told_line count (Some (InGroup session edits)) head (behind ++ back) next steps
+      (edit_lacks (with_body opening body) head is)
+      (edit_turn edits (with_body opening body) (OpensBody opening) head next room is read refl) rest)
+
+  -- an edit in a group, with what stands behind its line, if what follows is read as these steps
+  does_told : (edits : List Edit) (edit : Edit) (head behind back : List ℕ) (steps : List Step)
+      → length edits < edit_limit → IsLineOfEdit edit head → IsBehindEdit edit behind
+      → AreTold count (Some (InGroup session (edits ++ edit ∷ []))) back steps
+      → AreTold count (Some (InGroup session edits)) (line head ++ behind ++ back) steps
+  does_told edits (Put name body) head behind back steps room is has told =
+      put_in edits (PutOf name) body head behind back steps room is (λ n few. edit_line_told n _ head few is) has told
+  does_told edits (PutIf version name body) head behind back steps room is has told =
+      put_in edits (PutIfOf version name) body head behind back steps room is (λ n few. edit_line_told n _ head few is)
+      has told
+  does_told edits (Remove name) head behind back steps room is none told =
+      let edit : Edit = Remove name in
+      let next : Turn = goes_on (Some (InGroup session (edits ++ edit ∷ []))) in
+      let same : line head ++ behind ++ back ≡ line head ++ back =
+      ap (λ (more : List ℕ). line head ++ more ++ back) none
+      ∙ ap (λ (front : List ℕ). front ++ back) (append-nil (line head)) in
+      told_same count (Some (InGroup session edits)) (line head ++ back) (line head ++ behind ++ back) steps steps
+      same refl
+      (told_line count (Some (InGroup session edits)) head back next steps (edit_lacks edit head is)
+      (edit_turn edits edit (WholeEdit edit) head next room is (λ n few. edit_line_told n edit head few is) refl) told)
+
+  -- the items of a group and the line that ends it
+  group_told : (edits : List Edit) (items : List Item) (text back : List ℕ) (steps : List Step) → AreItems items text
+      → length (edits ++ flat_map edits_of items) ≤ edit_limit → AreTold (count + 1) None back steps
+      → AreTold count (Some (InGroup session edits)) (text ++ back) (step_of session (group_with edits items) ∷ steps)
+  group_told edits [] text back steps is few behind =
+      let begun : Option Begun = Some (InGroup session edits) in
+      told_same count begun (line (codes "end") ++ back) (text ++ back) (step_of session (Group edits) ∷ steps)
+      (step_of session (group_with edits []) ∷ steps) (ap (λ (front : List ℕ). front ++ back) is)
+      (ap (λ (all : List Edit). step_of session (Group all) ∷ steps) (sym (append-nil edits)))
+      (told_line count begun (codes "end") back (ends session (Group edits)) steps refl
+      (turn_utf8 count begun (codes "end") (ends session (Group edits)) end_utf8 refl) behind)
+  group_told edits (Blank passed ∷ items) text back steps is few behind =
+      let begun : Begun = InGroup session edits in
+      let all_steps : List Step = step_of session (group_with edits items) ∷ steps in
+      let whole : text ++ back ≡ line passed ++ (is.1 ++ back) =
+      ap (λ (all : List ℕ). all ++ back) (is.4 ∙ ap (λ (front : List ℕ). front ++ is.1) is.2.1)
+      ∙ append_assoc (line passed) is.1 back in
+      told_same count (Some begun) (line passed ++ (is.1 ++ back)) (text ++ back) all_steps all_steps whole refl
+      (told_line count (Some begun) passed (is.1 ++ back) (goes_on (Some begun)) all_steps is.2.0.on_line.one
+      (blank_turn edits passed is.2.0) (group_told edits items is.1 back steps is.3 few behind))
+  group_told edits (Does edit ∷ items) text back steps is few behind =
+      let begun : Option Begun = Some (InGroup session edits) in
+      let asked = is.2 in
+      let front : List ℕ = line asked.0 ++ asked.1 in
+      let others : List Edit = flat_map edits_of items in
+      let more : List Step = step_of session (group_with (edits ++ edit ∷ []) items) ∷ steps in
+      let whole : text ++ back ≡ front ++ (is.1 ++ back) =
+      ap (λ (all : List ℕ). all ++ back) (is.4 ∙ ap (λ (first : List ℕ). first ++ is.1) asked.4)
+      ∙ append_assoc front is.1 back in
+      let few_more : length ((edits ++ edit ∷ []) ++ others) ≤ edit_limit =
+      subst (λ (all : List Edit). length all ≤ edit_limit) (sym (group_more edits edit others)) few in
+      told_same count begun (front ++ (is.1 ++ back)) (text ++ back) more _ whole
+      (ap (λ (all : List Edit). step_of session (Group all) ∷ steps) (group_more edits edit others))
+      (does_told edits edit asked.0 asked.1 (is.1 ++ back) more
+      (omega (arith, few, length-append edits (edit ∷ others))) asked.2 asked.3
+      (group_told (edits ++ edit ∷ []) items is.1 back steps is.3 few_more behind))
+
+-- Requests
+
+module _ (count session : ℕ) (head behind back : List ℕ) (steps : List Step) (room : count < request_limit)
+    (behind_told : AreTold (count + 1) None back steps) where
+  -- by what its line leads to
+  head_told : (request : Request) (next : Turn) (more : List Step) → IsLineOfStep (step_of session request) head
+      → turn_outside (script_line count head) ≡ Ok next
+      → AreTold (count_after count next.step) next.begun (behind ++ back) more
+      → AreTold count None ((line head ++ behind) ++ back) (option_to_list next.step ++ more)
+  head_told request next more is leads told =
+      let all_steps : List Step = option_to_list next.step ++ more in
+      told_same count None (line head ++ (behind ++ back)) ((line head ++ behind) ++ back) all_steps all_steps
+      (append_assoc (line head) behind back) refl
+      (told_line count None head (behind ++ back) next more (step_lacks (step_of session request) head is)
+      (turn_utf8 count None head next is.utf8 leads) told)
+
+  -- in one line
+  whole_told : (request : Request) → IsLineOfStep (step_of session request) head
+      → turn_outside (script_line count head) ≡ Ok (ends session request) → behind ≡ []
+      → AreTold count None ((line head ++ behind) ++ back) (step_of session request ∷ steps)
+  whole_told request is leads none =
+      head_told request (ends session request) steps is leads
+      (told_same (count + 1) None back (behind ++ back) steps steps (ap (λ (front : List ℕ). front ++ back) none) refl
+      behind_told)
+
+  -- with a body
+  put_alone : (opening : Opening) (body : List ℕ)
+      → IsLineOfStep (step_of session (Single (with_body opening body))) head
+      → turn_outside (script_line count head) ≡ Ok (goes_on (Some (InPut session (open_body opening))))
+      → IsBody body behind
+      → AreTold count None ((line head ++ behind) ++ back) (step_of session (Single (with_body opening body)) ∷ steps)
+  put_alone opening body is leads has =
+      let held : Opened → Begun = λ put. InPut session put in
+      let done : Edit → Turn = λ edit. ends session (Single edit) in
+      let rest = put_told held done (λ put text. refl) count opening body behind back steps has behind_told in
+      head_told (Single (with_body opening body)) (goes_on (Some (InPut session (open_body opening))))
+      (step_of session (Single (with_body opening body)) ∷ steps) is leads rest
+
+  asks_told : (request : Request) → IsLineOfStep (step_of session request) head → IsBehind request behind
+      → AreTold count None ((line head ++ behind) ++ back) (step_of session request ∷ steps)
+  asks_told (Single (Put name body)) is =
+      put_alone (PutOf name) body is (ap turn_outside (step_told count _ head room is))
+  asks_told (Single (PutIf version name body)) is =
+      put_alone (PutIfOf version name) body is (ap turn_outside (step_told count _ head room is))
+  asks_told (Single (Remove name)) is =
+      whole_told (Single (Remove name)) is (ap turn_outside (step_told count _ head room is))
+  asks_told (Get name) is = whole_told (Get name) is (ap turn_outside (step_told count _ head room is))
+  asks_told Names is = whole_told Names is (ap turn_outside (step_told count _ head room is))
+  asks_told (Build root val) is = whole_told (Build root val) is (ap turn_outside (step_told count _ head room is))
+  asks_told (Group edits) is = λ group.
+      let begun : Begun = InGroup session [] in
+      let few : length (flat_map edits_of group.items) ≤ edit_limit =
+      subst (λ (all : List Edit). length all ≤ edit_limit) group.are group.few in
+      let rest = group_told count session [] group.items behind back steps group.printed few behind_told in
+      let asked : List Step = step_of session (group_with [] group.items) ∷ steps in
+      let told = head_told (Group edits) (goes_on (Some begun)) asked is
+      (ap turn_outside (step_told count _ head room is)) rest in
+      let same : asked ≡ step_of session (Group edits) ∷ steps =
+      ap (λ (all : List Edit). step_of session (Group all) ∷ steps) (sym group.are) in
+      told_same count None ((line head ++ behind) ++ back) ((line head ++ behind) ++ back) asked
+      (step_of session (Group edits) ∷ steps) refl same told
+
+-- Blocks
 
 -- printed blocks are read as what they ask
 pub blocks_told : (blocks : List Block) (count : ℕ) (text : List ℕ) → AreTextOf blocks text

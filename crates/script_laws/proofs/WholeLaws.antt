@@ -12,9 +12,9 @@ use Rattle.dita_doc.specs.Lines.{line, lines_of}
 use Rattle.dita_doc.proofs.LinesLaws.{lines_lack}
 use Rattle.script_text.specs.declared.fault.ScriptCode.{ScriptCode}
 use Rattle.script_text.specs.declared.fault.ScriptFault.{ScriptFault}
-use Rattle.script_text.specs.Script.{script_limit, request_limit, script_line, Step, Begun, with_line, Turn, goes_on, turn, count_after, then_steps, steps_from, script_of}
+use Rattle.script_text.specs.Script.{script_limit, request_limit, script_line, Step, Begun, InPut, InGroup, InGroupPut, with_line, Turn, goes_on, turn_within, turn, count_after, then_steps, steps_from, script_of}
 use Rattle.script_text.proofs.StepLaws.{steps_led, led_by}
-use Rattle.script_text.proofs.ScriptLaws.{script_few, script_short}
+use Rattle.script_text.proofs.ScriptLaws.{script_few, script_edits, script_short}
 use Rattle.script_laws.specs.Blocks.{step_of, IsScriptOf}
 use Rattle.script_laws.proofs.BlocksSaid.{lines_said}
 use Rattle.script_laws.proofs.BlocksRead.{turn_utf8, blocks_told}
@@ -92,13 +92,24 @@ led_alike number count lines (Err code) steps alike e = absurd cc
 empty_utf8 : is_utf8 [] ≡ true
 empty_utf8 = is_utf8-from_IsUtf8 [] IsUtf8-nil
 
+-- an empty line ends nothing that has begun
+abbrev behind_empty : Begun → Begun
+behind_empty (InPut session put) = InPut session (with_line put [])
+behind_empty (InGroup session edits) = InGroup session edits
+behind_empty (InGroupPut session edits put) = InGroupPut session edits (with_line put [])
+
+empty_within : (begun : Begun) → turn_within begun [] ≡ Ok (goes_on (Some (behind_empty begun)))
+empty_within (InPut session put) = refl
+empty_within (InGroup session edits) = refl
+empty_within (InGroupPut session edits put) = refl
+
 ends_alike : (lines : List (List ℕ)) → EndsAlike lines
 ends_alike [] number count None steps e =
     let is = turn_utf8 count None [] (goes_on None) empty_utf8 refl in
     sym (steps_led script_line false number count None [] [] ∙ ap (led_by script_line false false number count []) is)
     ∙ e
 ends_alike [] number count (Some begun) steps e =
-    let is = turn_utf8 count (Some begun) [] (goes_on (Some (with_line begun []))) empty_utf8 refl in
+    let is = turn_utf8 count (Some begun) [] (goes_on (Some (behind_empty begun))) empty_utf8 (empty_within begun) in
     let none = sym (steps_led script_line false number count (Some begun) [] []
     ∙ ap (led_by script_line false false number count []) is) ∙ e in
     absurd cc
@@ -139,7 +150,8 @@ script_is bytes short =
 pub script_said : (bytes : List ℕ) (steps : List Step) → script_of bytes ≡ Ok steps → IsScriptOf steps bytes
 script_said bytes steps e =
     let short = script_short bytes steps e in
-    let are = lines_said false (lines_of bytes) steps (lines_lack bytes) (sym (script_is bytes short) ∙ e) in
+    let few = script_edits bytes steps e in
+    let are = lines_said false (lines_of bytes) steps (lines_lack bytes) few (sym (script_is bytes short) ∙ e) in
     record {
       blocks = are.blocks;
       asked = are.asked;

@@ -1,18 +1,19 @@
--- Scripts, line by line: what their steps keep to where each line does, and where the texts of a request come from.
-use Rattle.std.specs.Prelude.{◌≡◌, ◌+◌, ◌<◌, ◌==◌, ◌&&◌, ℕ, Bool, true, false, List, [], ◌∷◌, ◌++◌, Option, Some, None, Result, Ok, Err, IfOk, length, take, nat_le, nat_lt, if◌then◌else◌, codes, bytes_eq}
+-- Scripts, line by line: what a line does to what is begun, and what holds of all lines since each does so.
+use Rattle.std.specs.Prelude.{◌≡◌, ◌+◌, ◌<◌, ◌≤◌, ◌==◌, ◌&&◌, ℕ, Bool, true, false, List, [], ◌∷◌, ◌++◌, Option, Some, None, Result, Ok, Err, IfOk, IfSome, length, take, nat_le, nat_lt}
 use Rattle.std.specs.Option.{option_to_list}
 use Rattle.std.specs.Str.{is_utf8}
-use Rattle.std.proofs.Common.{refl, ◌∙◌, ap, sym, subst, arith, append-nil, append_assoc}
+use Rattle.std.proofs.Common.{refl, ◌∙◌, ap, sym, subst, arith, append-nil, append_assoc, length-append}
 use Rattle.std.proofs.lemmas.Bool.{cond_both, leb-true, leb-false, eqb-false}
-use Rattle.dita_doc.specs.Bytes.{spaced_words}
+use Rattle.dita_doc.specs.Bytes.{line_feed, spaced_words}
 use Rattle.dita_doc.specs.Lines.{lines_of}
-use Rattle.dita_doc.specs.Request.{Request, Put, PutIf, Remove, Get, Names, Build}
+use Rattle.dita_doc.specs.Request.{Edit, Request, Single, Group, HasFewEdits, edit_limit}
 use Rattle.script_text.specs.declared.fault.ScriptCode.{ScriptCode}
 use Rattle.script_text.specs.declared.fault.ScriptCode.TheVariants as faults
 use Rattle.script_text.specs.declared.fault.ScriptFault.{ScriptFault}
-use Rattle.script_text.specs.Script.{script_limit, request_limit, session_limit, number_of, Opening, PutOf, PutIfOf, Command, Whole, Opens, name_of, named, put_by, put_if_of, put_if_by, remove_by, get_by, names_by, build_by, command_of, LineReading, Asked, counted, session_of, asked_in, asked_by, is_passed, script_line, Step, Begun, whole_step, with_line, Turn, goes_on, ends, is_body_end, turn_within, turn_in, turn_outside, turn_of_text, turn, count_after, then_steps, is_no_line, steps_from, script_of}
+use Rattle.script_text.specs.Script.{script_limit, request_limit, session_limit, number_of, EditCommand, WholeEdit, OpensBody, edit_of, Command, Edits, Whole, OpensGroup, command_of, LineReading, Asked, counted, session_of, asked_in, asked_by, is_passed, script_line, edit_counted, edit_line, Step, Opened, Begun, InPut, InGroup, InGroupPut, whole_edit, with_line, Turn, goes_on, ends, is_body_end, is_group_end, turn_edit, turn_within, turn_in, turn_outside, turn_of_text, turn, count_after, then_steps, is_no_line, steps_from, script_of}
 use Rattle.script_text.specs.Facts.{IsSession}
 use Rattle.script_text.proofs.StepLaws.{led_by, steps_led}
+use Rattle.script_text.proofs.TextLaws.{Texts, edit_texts, group_texts, texts_of, name_in, put_texts, line_texts, whole_texts, more_texts, AreLast, none_last, edit_from, IsFrom, command_from, from_more}
 
 -- Steps, line by line
 
@@ -62,139 +63,36 @@ module _ (reads : LineReading) (long : Bool) (P : Claim) (rules : GoesOn reads l
       (λ number count begun steps e. steps_keep number count begun lines steps e) refl refl
       (sym (steps_led reads long number count begun line lines) ∙ e)
 
--- Words
-
--- some texts are the last of some words
-abbrev pub AreLast : List (List ℕ) → List (List ℕ) → Type 0
-AreLast texts words = (front : List (List ℕ)) × (front ++ texts ≡ words)
-
--- the texts of a request: its names and its body
-abbrev pub texts_of : Request → List (List ℕ)
-texts_of (Put name body) = name ∷ body ∷ []
-texts_of (PutIf version name body) = name ∷ body ∷ []
-texts_of (Remove name) = name ∷ []
-texts_of (Get name) = name ∷ []
-texts_of Names = []
-texts_of (Build map None) = map ∷ []
-texts_of (Build map (Some val)) = map ∷ val ∷ []
-
--- the name of a put whose body is to come
-abbrev pub name_in : Opening → List ℕ
-name_in (PutOf name) = name
-name_in (PutIfOf version name) = name
-
--- the texts of a command: those of its request, or the name
-abbrev texts_in : Command → List (List ℕ)
-texts_in (Whole request) = texts_of request
-texts_in (Opens opening) = name_in opening ∷ []
-
-abbrev texts_if : Result Command ScriptCode → List (List ℕ)
-texts_if (Ok command) = texts_in command
-texts_if (Err code) = []
-
-none_last : (words : List (List ℕ)) → AreLast [] words
-none_last words = (words, append-nil words)
-
-last_behind : (word : List ℕ) (texts words : List (List ℕ)) → AreLast texts words → AreLast texts (word ∷ words)
-last_behind word texts words are = (word ∷ are.0, ap (λ (all : List (List ℕ)). word ∷ all) are.1)
-
--- by a test
-last_if : (test : Bool) (x y : Result Command ScriptCode) (words : List (List ℕ)) → AreLast (texts_if x) words
-    → AreLast (texts_if y) words → AreLast (texts_if (if test then x else y)) words
-last_if true x y words first second = first
-last_if false x y words first second = second
-
-last_named : (found : Result (List ℕ) ScriptCode) (command : Result Command ScriptCode) (words : List (List ℕ))
-    → AreLast (texts_if command) words → AreLast (texts_if (named found command)) words
-last_named (Ok name) command words are = are
-last_named (Err code) command words are = none_last words
-
-put_last : (words : List (List ℕ)) → AreLast (texts_if (put_by words)) words
-put_last [] = none_last []
-put_last (name ∷ []) = last_named (name_of name) (Ok (Opens (PutOf name))) (name ∷ []) ([], refl)
-put_last (name ∷ other ∷ words) = none_last (name ∷ other ∷ words)
-
-put_if_last : (version : Option ℕ) (word name : List ℕ) → AreLast (texts_if (put_if_of version name)) (word ∷ name ∷ [])
-put_if_last None word name = none_last (word ∷ name ∷ [])
-put_if_last (Some version) word name =
-    last_named (name_of name) (Ok (Opens (PutIfOf version name))) (word ∷ name ∷ []) (word ∷ [], refl)
-
-put_if_by_last : (words : List (List ℕ)) → AreLast (texts_if (put_if_by words)) words
-put_if_by_last [] = none_last []
-put_if_by_last (word ∷ []) = none_last (word ∷ [])
-put_if_by_last (word ∷ name ∷ []) = put_if_last (number_of word) word name
-put_if_by_last (word ∷ name ∷ other ∷ words) = none_last (word ∷ name ∷ other ∷ words)
-
-remove_last : (words : List (List ℕ)) → AreLast (texts_if (remove_by words)) words
-remove_last [] = none_last []
-remove_last (name ∷ []) = last_named (name_of name) (Ok (Whole (Remove name))) (name ∷ []) ([], refl)
-remove_last (name ∷ other ∷ words) = none_last (name ∷ other ∷ words)
-
-get_last : (words : List (List ℕ)) → AreLast (texts_if (get_by words)) words
-get_last [] = none_last []
-get_last (name ∷ []) = last_named (name_of name) (Ok (Whole (Get name))) (name ∷ []) ([], refl)
-get_last (name ∷ other ∷ words) = none_last (name ∷ other ∷ words)
-
-names_last : (words : List (List ℕ)) → AreLast (texts_if (names_by words)) words
-names_last [] = none_last []
-names_last (word ∷ words) = none_last (word ∷ words)
-
-build_last : (words : List (List ℕ)) → AreLast (texts_if (build_by words)) words
-build_last [] = none_last []
-build_last (map ∷ []) = last_named (name_of map) (Ok (Whole (Build map None))) (map ∷ []) ([], refl)
-build_last (map ∷ val ∷ []) =
-    let words = map ∷ val ∷ [] in
-    let both = last_named (name_of val) (Ok (Whole (Build map (Some val)))) words ([], refl) in
-    last_named (name_of map) (named (name_of val) (Ok (Whole (Build map (Some val))))) words both
-build_last (map ∷ val ∷ other ∷ words) = none_last (map ∷ val ∷ other ∷ words)
-
--- the texts of a command are the last of its words
-command_last : (words : List (List ℕ)) → AreLast (texts_if (command_of words)) words
-command_last [] = none_last []
-command_last (verb ∷ words) =
-    let behind : (command : Result Command ScriptCode) → AreLast (texts_if command) words
-    → AreLast (texts_if command) (verb ∷ words) = λ command are. last_behind verb (texts_if command) words are
-    in
-    last_if (bytes_eq verb (codes "put")) _ _ (verb ∷ words) (behind (put_by words) (put_last words))
-    (last_if (bytes_eq verb (codes "putif")) _ _ (verb ∷ words) (behind (put_if_by words) (put_if_by_last words))
-    (last_if (bytes_eq verb (codes "remove")) _ _ (verb ∷ words) (behind (remove_by words) (remove_last words))
-    (last_if (bytes_eq verb (codes "get")) _ _ (verb ∷ words) (behind (get_by words) (get_last words))
-    (last_if (bytes_eq verb (codes "names")) _ _ (verb ∷ words) (behind (names_by words) (names_last words))
-    (last_if (bytes_eq verb (codes "build")) _ _ (verb ∷ words) (behind (build_by words) (build_last words))
-    (none_last (verb ∷ words)))))))
-
 -- Lines
 
 -- what a line that asks something has: texts among its words, a session, and room for one request more
-pub record IsAsked (count : ℕ) (line : List ℕ) (session : ℕ) (texts : List (List ℕ)) : Type 0 where
-  pub last : AreLast texts (spaced_words line)
-  pub numbered : IsSession session
+pub record IsAsked (count : ℕ) (line : List ℕ) (asked : Asked) : Type 0 where
+  pub from : IsFrom (spaced_words line) asked.command
+  pub numbered : IsSession asked.session
   pub room : count < request_limit
 
 -- what the line asks, it has
-abbrev Asks : ℕ → List ℕ → Result (Option Asked) ScriptCode → Type 0
-Asks count line (Ok None) = Unit {0}
-Asks count line (Ok (Some asked)) = IsAsked count line asked.session (texts_in asked.command)
-Asks count line (Err code) = Unit {0}
+abbrev AsksFrom : ℕ → List ℕ → Result (Option Asked) ScriptCode → Type 0
+AsksFrom count line found = IfOk found (λ asked. IfSome asked (IsAsked count line))
 
-one_command : (count : ℕ) (line : List ℕ) (session : ℕ) (command : Result Command ScriptCode) → IsSession session
-    → AreLast (texts_if command) (spaced_words line) → Asks count line (counted count session command)
-one_command count line session (Err code) numbered are = tt
-one_command count line session (Ok command) numbered are =
+one_command : (count : ℕ) (line : List ℕ) (session : ℕ) (words : Texts) (command : Result Command ScriptCode)
+    → IsSession session → AreLast words (spaced_words line) → IfOk command (IsFrom words)
+    → AsksFrom count line (counted count session command)
+one_command count line session words (Err code) numbered are is = tt
+one_command count line session words (Ok command) numbered are is =
     cond_both (nat_le request_limit count) (Err faults.TooManyRequests)
-    (Ok (Some (record { session = session; command = command }))) (Asks count line) (λ full. tt)
-    (λ room. record { last = are; numbered = numbered; room = leb-false request_limit count room })
+    (Ok (Some (record { session = session; command = command }))) (AsksFrom count line) (λ full. tt)
+    (λ room. record {
+      from = from_more words (spaced_words line) command are is;
+      numbered = numbered;
+      room = leb-false request_limit count room;
+    })
 
-in_session : (count : ℕ) (line : List ℕ) (session : Result ℕ ScriptCode) (words : List (List ℕ))
-    → IfOk session IsSession → AreLast words (spaced_words line) → Asks count line (asked_in count session words)
+in_session : (count : ℕ) (line : List ℕ) (session : Result ℕ ScriptCode) (words : Texts)
+    → IfOk session IsSession → AreLast words (spaced_words line) → AsksFrom count line (asked_in count session words)
 in_session count line (Err code) words is are = tt
 in_session count line (Ok session) words is are =
-    let inner = command_last words in
-    one_command count line session (command_of words) is (
-      are.0 ++ inner.0,
-      append_assoc are.0 inner.0 (texts_if (command_of words))
-          ∙ (ap (λ (all : List (List ℕ)). are.0 ++ all) inner.1 ∙ are.1),
-    )
+    one_command count line session words (command_of words) is are (command_from words)
 
 -- a session is from 1 to the limit
 is_session : (number : Option ℕ) → IfOk (session_of number) IsSession
@@ -206,92 +104,266 @@ is_session (Some session) =
     let none : session ≡ 0 → ⊥ = eqb-false session 0 other in
     (omega arith, leb-true session session_limit within)) (λ e. tt))
 
-by_words : (count : ℕ) (line : List ℕ) (words : List (List ℕ)) → words ≡ spaced_words line
-    → Asks count line (asked_by count words)
+by_words : (count : ℕ) (line : List ℕ) (words : Texts) → words ≡ spaced_words line
+    → AsksFrom count line (asked_by count words)
 by_words count line [] e = tt
 by_words count line (session ∷ words) e =
     in_session count line (session_of (number_of session)) words (is_session (number_of session)) (session ∷ [], e)
 
-line_asks : (count : ℕ) (line : List ℕ) → Asks count line (script_line count line)
+line_asks : (count : ℕ) (line : List ℕ) → AsksFrom count line (script_line count line)
 line_asks count line =
-    cond_both (is_passed line) (Ok None) (asked_by count (spaced_words line)) (Asks count line) (λ e. tt)
+    cond_both (is_passed line) (Ok None) (asked_by count (spaced_words line)) (AsksFrom count line) (λ e. tt)
     (λ e. by_words count line (spaced_words line) refl)
 
--- Turns
+-- what the line of an edit has: texts among its words, and room for one edit more
+record IsEdit (count : ℕ) (line : List ℕ) (edit : EditCommand) : Type 0 where
+  last : AreLast (line_texts edit) (spaced_words line)
+  room : count < edit_limit
 
--- a put that has just begun, and a step
-abbrev pub opened : ℕ → Opening → Begun
-opened session opening = record { session = session; opening = opening; body = [] }
+abbrev EditsFrom : ℕ → List ℕ → Result (Option EditCommand) ScriptCode → Type 0
+EditsFrom count line found = IfOk found (λ edit. IfSome edit (IsEdit count line))
+
+one_edit : (count : ℕ) (line : List ℕ) (edit : Result EditCommand ScriptCode)
+    → IfOk edit (λ edit. AreLast (line_texts edit) (spaced_words line))
+    → EditsFrom count line (edit_counted count edit)
+one_edit count line (Err code) is = tt
+one_edit count line (Ok edit) is =
+    cond_both (nat_le edit_limit count) (Err faults.TooManyEdits) (Ok (Some edit)) (EditsFrom count line) (λ full. tt)
+    (λ room. record { last = is; room = leb-false edit_limit count room })
+
+line_edits : (count : ℕ) (line : List ℕ) → EditsFrom count line (edit_line count line)
+line_edits count line =
+    cond_both (is_passed line) (Ok None) (edit_counted count (edit_of (spaced_words line))) (EditsFrom count line)
+    (λ e. tt) (λ e. one_edit count line (edit_of (spaced_words line)) (edit_from (spaced_words line)))
+
+-- What is begun
 
 abbrev pub step_of : ℕ → Request → Step
 step_of session request = record { session = session; request = request }
 
--- what holds of no lines, and of one more line in front, by what it is
+-- the texts so far of what is begun
+abbrev pub begun_texts : Begun → Texts
+begun_texts (InPut session put) = put_texts put
+begun_texts (InGroup session edits) = group_texts edits
+begun_texts (InGroupPut session edits put) = group_texts edits ++ put_texts put
+
+abbrev pub pending_texts : Option Begun → Texts
+pending_texts None = []
+pending_texts (Some begun) = begun_texts begun
+
+abbrev session_in : Begun → ℕ
+session_in (InPut session put) = session
+session_in (InGroup session edits) = session
+session_in (InGroupPut session edits put) = session
+
+-- how many edits of a group are begun
+abbrev edits_in : Begun → ℕ
+edits_in (InPut session put) = 0
+edits_in (InGroup session edits) = length edits
+edits_in (InGroupPut session edits put) = length edits + 1
+
+-- what is begun keeps within the limits
+pub record IsHeld (count : ℕ) (begun : Begun) : Type 0 where
+  pub room : count < request_limit
+  pub numbered : IsSession (session_in begun)
+  pub few : edits_in begun ≤ edit_limit
+
+abbrev pub IsSound : ℕ → Option Begun → Type 0
+IsSound count None = count ≤ request_limit
+IsSound count (Some begun) = IsHeld count begun
+
+-- and so does a step behind so many
+pub record IsFit (count : ℕ) (step : Step) : Type 0 where
+  pub room : count < request_limit
+  pub numbered : IsSession step.session
+  pub few : HasFewEdits step.request
+
+-- Turns
+
+-- there are texts more, which are words of the line
+pub record HasMore (line : List ℕ) (before after : Texts) : Type 0 where
+  pub texts : Texts
+  pub last : AreLast texts (spaced_words line)
+  pub is : after ≡ before ++ texts
+
+-- texts behind a line: there are more, a name and an empty body are more, or the line is added to the last one
+pub data AreTurned (line : List ℕ) (before after : Texts) : Type 0 where
+  Adds : HasMore line before after → AreTurned line before after
+  Opens : (name : List ℕ) → AreLast (name ∷ []) (spaced_words line) → after ≡ before ++ name ∷ [] ∷ []
+      → AreTurned line before after
+  Grows : (front : Texts) (body : List ℕ) → before ≡ front ++ body ∷ []
+      → after ≡ front ++ (body ++ line ++ line_feed ∷ []) ∷ [] → AreTurned line before after
+
+-- a line that ends a step
+pub record IsEnd (count : ℕ) (before : Option Begun) (line : List ℕ) (step : Step) : Type 0 where
+  pub texts : HasMore line (pending_texts before) (texts_of step.request)
+  pub fit : IsSound count before → IsFit count step
+
+-- a line that ends none
+pub record IsGoing (count : ℕ) (before : Option Begun) (line : List ℕ) (after : Option Begun) : Type 0 where
+  pub texts : AreTurned line (pending_texts before) (pending_texts after)
+  pub sound : IsSound count before → IsSound count after
+
+abbrev TurnBy : ℕ → Option Begun → List ℕ → Option Step → Option Begun → Type 0
+TurnBy count before line None after = IsGoing count before line after
+TurnBy count before line (Some step) None = IsEnd count before line step
+TurnBy count before line (Some step) (Some after) = ⊥
+
+-- what a line leads to is one of the two
+abbrev IsTurn : ℕ → Option Begun → List ℕ → Turn → Type 0
+IsTurn count before line next = TurnBy count before line next.step next.begun
+
+-- no text more
+same_texts : (line : List ℕ) (before after : Texts) → after ≡ before → HasMore line before after
+same_texts line before after is =
+    record { texts = []; last = none_last (spaced_words line); is = is ∙ sym (append-nil before) }
+
+with_fact : (Q : Type 0) (P : Turn → Type 0) (found : Result Turn ScriptCode) → Q → IfOk found P
+    → IfOk found (λ next. Q × P next)
+with_fact Q P (Ok next) q is = (q, is)
+with_fact Q P (Err code) q is = tt
+
+module _ (count : ℕ) (line : List ℕ) where
+  command_is : (session : ℕ) (command : Command) → IsAsked count line (record { session = session; command = command })
+      → IsTurn count None line (turn_in session command)
+  command_is session (Edits (WholeEdit edit)) asked = record {
+    texts = record { texts = edit_texts edit; last = asked.from; is = refl };
+    fit = λ sound. record { room = asked.room; numbered = asked.numbered; few = tt };
+  }
+  command_is session (Edits (OpensBody opening)) asked = record {
+    texts = Opens (name_in opening) asked.from refl;
+    sound = λ sound. record { room = asked.room; numbered = asked.numbered; few = omega arith };
+  }
+  command_is session (Whole request) asked = record {
+    texts = record { texts = texts_of request; last = asked.from.0; is = refl };
+    fit = λ sound. record { room = asked.room; numbered = asked.numbered; few = asked.from.1 };
+  }
+  command_is session OpensGroup asked = record {
+    texts = Adds (same_texts line [] [] refl);
+    sound = λ sound. record { room = asked.room; numbered = asked.numbered; few = omega arith };
+  }
+
+  outside_is : (found : Result (Option Asked) ScriptCode) → AsksFrom count line found
+      → IfOk (turn_outside found) (IsTurn count None line)
+  outside_is (Ok None) asked = record { texts = Adds (same_texts line [] [] refl); sound = λ sound. sound }
+  outside_is (Ok (Some asked)) is = command_is asked.session asked.command is
+  outside_is (Err code) asked = tt
+
+  module _ (session : ℕ) where
+    put_is : (put : Opened) → IfOk (turn_within (InPut session put) line) (IsTurn count (Some (InPut session put)) line)
+    put_is put =
+        cond_both (is_body_end line) (Ok (ends session (Single (whole_edit put))))
+        (Ok (goes_on (Some (InPut session (with_line put line)))))
+        (λ found. IfOk found (IsTurn count (Some (InPut session put)) line))
+        (λ e. record {
+          texts = same_texts line (put_texts put) (edit_texts (whole_edit put)) (whole_texts put);
+          fit = λ held. record { room = held.room; numbered = held.numbered; few = tt };
+        })
+        (λ e. record {
+          texts = Grows (name_in put.opening ∷ []) put.body refl refl;
+          sound = λ held. record { room = held.room; numbered = held.numbered; few = held.few };
+        })
+
+    edit_is : (edits : List Edit) (found : Result (Option EditCommand) ScriptCode)
+        → EditsFrom (length edits) line found
+        → IfOk (turn_edit session edits found) (IsTurn count (Some (InGroup session edits)) line)
+    edit_is edits (Ok None) is =
+        record { texts = Adds (same_texts line (group_texts edits) (group_texts edits) refl); sound = λ held. held }
+    edit_is edits (Ok (Some (WholeEdit edit))) is = record {
+      texts = Adds (record { texts = edit_texts edit; last = is.last; is = more_texts edits edit });
+      sound = λ held. record {
+        room = held.room;
+        numbered = held.numbered;
+        few = omega (arith, is.room, length-append edits (edit ∷ []));
+      };
+    }
+    edit_is edits (Ok (Some (OpensBody opening))) is = record {
+      texts = Opens (name_in opening) is.last refl;
+      sound = λ held. record { room = held.room; numbered = held.numbered; few = omega (arith, is.room) };
+    }
+    edit_is edits (Err code) is = tt
+
+    group_is : (edits : List Edit)
+        → IfOk (turn_within (InGroup session edits) line) (IsTurn count (Some (InGroup session edits)) line)
+    group_is edits =
+        cond_both (is_group_end line) (Ok (ends session (Group edits)))
+        (turn_edit session edits (edit_line (length edits) line))
+        (λ found. IfOk found (IsTurn count (Some (InGroup session edits)) line))
+        (λ e. record {
+          texts = same_texts line (group_texts edits) (group_texts edits) refl;
+          fit = λ held. record { room = held.room; numbered = held.numbered; few = held.few };
+        })
+        (λ e. edit_is edits (edit_line (length edits) line) (line_edits (length edits) line))
+
+    group_put_is : (edits : List Edit) (put : Opened)
+        → IfOk (turn_within (InGroupPut session edits put) line)
+        (IsTurn count (Some (InGroupPut session edits put)) line)
+    group_put_is edits put =
+        let edit : Edit = whole_edit put in
+        cond_both (is_body_end line) (Ok (goes_on (Some (InGroup session (edits ++ edit ∷ [])))))
+        (Ok (goes_on (Some (InGroupPut session edits (with_line put line)))))
+        (λ found. IfOk found (IsTurn count (Some (InGroupPut session edits put)) line))
+        (λ e. record {
+          texts = Adds (same_texts line (group_texts edits ++ put_texts put) (group_texts (edits ++ edit ∷ []))
+              (more_texts edits edit ∙ ap (λ (texts : Texts). group_texts edits ++ texts) (whole_texts put)));
+          sound = λ held. record {
+            room = held.room;
+            numbered = held.numbered;
+            few = omega (arith, held.few, length-append edits (edit ∷ []));
+          };
+        })
+        (λ e.
+        let name : Texts = name_in put.opening ∷ [] in
+        record {
+          texts = Grows (group_texts edits ++ name) put.body
+              (sym (append_assoc (group_texts edits) name (put.body ∷ [])))
+              (sym (append_assoc (group_texts edits) name ((with_line put line).body ∷ [])));
+          sound = λ held. record { room = held.room; numbered = held.numbered; few = held.few };
+        })
+
+  text_is : (before : Option Begun) → IfOk (turn_of_text script_line count before line) (IsTurn count before line)
+  text_is None = outside_is (script_line count line) (line_asks count line)
+  text_is (Some (InPut session put)) = put_is session put
+  text_is (Some (InGroup session edits)) = group_is session edits
+  text_is (Some (InGroupPut session edits put)) = group_put_is session edits put
+
+  turn_is : (before : Option Begun) → IfOk (turn script_line count before line) (λ next.
+      (is_utf8 line ≡ true) × IsTurn count before line next)
+  turn_is before =
+      cond_both (is_utf8 line) (turn_of_text script_line count before line) (Err faults.NotUtf8)
+      (λ found. IfOk found (λ next. (is_utf8 line ≡ true) × IsTurn count before line next))
+      (λ utf8. with_fact (is_utf8 line ≡ true) (IsTurn count before line) (turn_of_text script_line count before line)
+      utf8 (text_is before)) (λ e. tt)
+
+-- what holds of no lines, and of one more line in front, by whether it ends a step
 pub record Follows (P : Claim) : Type 0 where
   pub none : (count : ℕ) → P count None [] []
-  pub passes : (count : ℕ) (line : List ℕ) (lines : List (List ℕ)) (steps : List Step) → P count None lines steps
-      → P count None (line ∷ lines) steps
-  pub asks : (count session : ℕ) (request : Request) (line : List ℕ) (lines : List (List ℕ)) (steps : List Step)
-      → is_utf8 line ≡ true → IsAsked count line session (texts_of request)
-      → P (count + 1) None lines steps → P count None (line ∷ lines) (step_of session request ∷ steps)
-  pub opens : (count session : ℕ) (opening : Opening) (line : List ℕ) (lines : List (List ℕ)) (steps : List Step)
-      → is_utf8 line ≡ true → IsAsked count line session (name_in opening ∷ [])
-      → P count (Some (opened session opening)) lines steps → P count None (line ∷ lines) steps
-  pub adds : (count : ℕ) (begun : Begun) (line : List ℕ) (lines : List (List ℕ)) (steps : List Step)
-      → is_utf8 line ≡ true
-      → P count (Some (with_line begun line)) lines steps → P count (Some begun) (line ∷ lines) steps
-  pub ends : (count : ℕ) (begun : Begun) (line : List ℕ) (lines : List (List ℕ)) (steps : List Step)
-      → P (count + 1) None lines steps → P count (Some begun) (line ∷ lines) (whole_step begun ∷ steps)
+  pub ends : (count : ℕ) (before : Option Begun) (line : List ℕ) (lines : List (List ℕ)) (step : Step)
+      (steps : List Step) → is_utf8 line ≡ true → IsEnd count before line step
+      → P (count + 1) None lines steps → P count before (line ∷ lines) (step ∷ steps)
+  pub goes : (count : ℕ) (before after : Option Begun) (line : List ℕ) (lines : List (List ℕ)) (steps : List Step)
+      → is_utf8 line ≡ true → IsGoing count before line after
+      → P count after lines steps → P count before (line ∷ lines) steps
 
 module _ (P : Claim) (rules : Follows P) where
-  -- what a turn leads to keeps it
-  abbrev Keeps : ℕ → Option Begun → List ℕ → List (List ℕ) → Result Turn ScriptCode → Type 0
-  Keeps count begun line lines (Ok next) =
-      (steps : List Step) → P (count_after count next.step) next.begun lines steps
-      → P count begun (line ∷ lines) (option_to_list next.step ++ steps)
-  Keeps count begun line lines (Err code) = Unit {0}
-
-  within_keeps : (count : ℕ) (begun : Begun) (line : List ℕ) (lines : List (List ℕ)) → is_utf8 line ≡ true
-      → Keeps count (Some begun) line lines (Ok (turn_within begun line))
-  within_keeps count begun line lines utf8 =
-      cond_both (is_body_end line) (ends (whole_step begun)) (goes_on (Some (with_line begun line)))
-      (λ next. Keeps count (Some begun) line lines (Ok next))
-      (λ e steps. rules.ends count begun line lines steps) (λ e steps. rules.adds count begun line lines steps utf8)
-
-  command_keeps : (count session : ℕ) (command : Command) (line : List ℕ) (lines : List (List ℕ)) → is_utf8 line ≡ true
-      → IsAsked count line session (texts_in command) → Keeps count None line lines (Ok (turn_in session command))
-  command_keeps count session (Whole request) line lines utf8 from =
-      λ steps. rules.asks count session request line lines steps utf8 from
-  command_keeps count session (Opens opening) line lines utf8 from =
-      λ steps. rules.opens count session opening line lines steps utf8 from
-
-  outside_keeps : (count : ℕ) (line : List ℕ) (lines : List (List ℕ)) (asked : Result (Option Asked) ScriptCode)
-      → is_utf8 line ≡ true → Asks count line asked → Keeps count None line lines (turn_outside asked)
-  outside_keeps count line lines (Ok None) utf8 from = λ steps. rules.passes count line lines steps
-  outside_keeps count line lines (Ok (Some asked)) utf8 from =
-      command_keeps count asked.session asked.command line lines utf8 from
-  outside_keeps count line lines (Err code) utf8 from = tt
-
-  text_keeps : (count : ℕ) (begun : Option Begun) (line : List ℕ) (lines : List (List ℕ)) → is_utf8 line ≡ true
-      → Keeps count begun line lines (turn_of_text script_line count begun line)
-  text_keeps count None line lines utf8 =
-      outside_keeps count line lines (script_line count line) utf8 (line_asks count line)
-  text_keeps count (Some begun) line lines utf8 = within_keeps count begun line lines utf8
-
-  turn_keeps : (count : ℕ) (begun : Option Begun) (line : List ℕ) (lines : List (List ℕ))
-      → Keeps count begun line lines (turn script_line count begun line)
-  turn_keeps count begun line lines =
-      cond_both (is_utf8 line) (turn_of_text script_line count begun line) (Err faults.NotUtf8)
-      (Keeps count begun line lines) (λ utf8. text_keeps count begun line lines utf8) (λ e. tt)
+  by_turn : (count : ℕ) (before : Option Begun) (line : List ℕ) (lines : List (List ℕ)) (step : Option Step)
+      (after : Option Begun) (steps : List Step) → is_utf8 line ≡ true → TurnBy count before line step after
+      → P (count_after count step) after lines steps → P count before (line ∷ lines) (option_to_list step ++ steps)
+  by_turn count before line lines None after steps utf8 is behind =
+      rules.goes count before after line lines steps utf8 is behind
+  by_turn count before line lines (Some step) None steps utf8 is behind =
+      rules.ends count before line lines step steps utf8 is behind
+  by_turn count before line lines (Some step) (Some after) steps utf8 is behind = absurd is
 
   -- it holds of all lines whose steps are known
   steps_follow : (long : Bool) (number count : ℕ) (begun : Option Begun) (lines : List (List ℕ)) (steps : List Step)
       → steps_from script_line long number count begun lines ≡ Ok steps → P count begun lines steps
   steps_follow long = steps_keep script_line long P (record {
     none = rules.none;
-    more =
-        λ count begun line lines next steps l t h.
-        subst (Keeps count begun line lines) t (turn_keeps count begun line lines) steps h;
+    more = λ count begun line lines next steps l t h.
+        let is = subst (λ found. IfOk found (λ next. (is_utf8 line ≡ true) × IsTurn count begun line next)) t
+        (turn_is count line begun) in
+        by_turn count begun line lines next.step next.begun steps is.0 is.1 h;
   })
 
 -- so of a script's lines

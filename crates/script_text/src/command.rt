@@ -1,4 +1,4 @@
-//! Commands: the words of a line behind its session.
+//! Commands: the words of a line behind its session, and those of an edit in a group.
 
 ghost use Rattle.std.specs.Prelude.{◌≡◌, ◌∷◌, [], IfOk};
 ghost use Rattle.dita_doc.specs.Bytes as bytes_spec;
@@ -9,7 +9,7 @@ ghost use Rattle.script_text.specs.Script as script_spec;
 
 use crate::fault::ScriptCode;
 use crate::words::{has_no_word, number_of, only_word, read_name, split_word};
-use dita_doc::{List, Name, NoMemory, Request, Stop};
+use dita_doc::{Edit, List, Name, NoMemory, Request, Stop};
 use pyx_text::read_body;
 use std::alloc::Global;
 
@@ -22,30 +22,38 @@ pub enum Opening {
 }
 
 impl Opening {
-    /// The whole request, with its body. No byte of the body is copied.
-    pub fn with_body(self, alloc: Global, body: List<u8>) -> Result<Request, NoMemory>
-        ensures request { IfOk result (λ request. seen_spec.request_seen request
+    /// The whole edit, with its body. No byte of the body is copied.
+    pub fn with_body(self, alloc: Global, body: List<u8>) -> Result<Edit, NoMemory>
+        ensures edit { IfOk result (λ edit. seen_spec.edit_seen edit
             ≡ script_spec.with_body (command_spec.opening_seen self) body) }
-        ensures origin { IfOk result seen_spec.HasOwnOrigin }
+        ensures origin { IfOk result seen_spec.IsOwnEdit }
     {
         match self {
             Opening::Put(name) => {
                 let body = read_body(alloc, &name, body)?;
-                Ok(Request::Put(name, body))
+                Ok(Edit::Put(name, body))
             }
             Opening::PutIf(version, name) => {
                 let body = read_body(alloc, &name, body)?;
-                Ok(Request::PutIf(version, name, body))
+                Ok(Edit::PutIf(version, name, body))
             }
         }
     }
 }
 
-/// What a line asks: a whole request, or one with a body.
+/// What the line of an edit says: a whole edit, or one with a body.
+#[derive(Drop)]
+pub enum EditCommand {
+    Whole(Edit),
+    Opens(Opening),
+}
+
+/// What a line asks: an edit, another whole request, or a group whose edits are to come.
 #[derive(Drop)]
 pub enum Command {
+    Edit(EditCommand),
     Whole(Request),
-    Opens(Opening),
+    OpensGroup,
 }
 
 /// The command that words say. The first fault is tried from left to right, once the count of words
@@ -59,32 +67,57 @@ pub fn read_command(alloc: Global, words: &str) -> Result<Command, Stop<ScriptCo
         return Err(Stop::Fault(ScriptCode::BadCommand));
     };
     match verb {
-        "put" => read_put(alloc, rest),
-        "putif" => read_put_if(alloc, rest),
-        "remove" => read_remove(alloc, rest),
         "get" => read_get(alloc, rest),
         "names" => read_names(rest),
         "build" => read_build(alloc, rest),
+        "group" => read_group(rest),
+        _ => read_edit_alone(alloc, words),
+    }
+}
+
+// An edit that is a request by itself.
+fn read_edit_alone(alloc: Global, words: &str) -> Result<Command, Stop<ScriptCode>>
+    ensures command { GivesSeen command_spec.command_seen result
+        (script_spec.edit_alone (script_spec.edit_of (bytes_spec.spaced_words words.now))) }
+    ensures own { IfOk result command_spec.HasOwn }
+{
+    let edit = read_edit(alloc, words)?;
+    Ok(Command::Edit(edit))
+}
+
+/// The edit that words say, with the first fault as in `read_command`.
+pub fn read_edit(alloc: Global, words: &str) -> Result<EditCommand, Stop<ScriptCode>>
+    ensures edit { GivesSeen command_spec.edit_command_seen result
+        (script_spec.edit_of (bytes_spec.spaced_words words.now)) }
+    ensures own { IfOk result command_spec.HasOwnEdit }
+{
+    let Some((verb, rest)) = split_word(words) else {
+        return Err(Stop::Fault(ScriptCode::BadCommand));
+    };
+    match verb {
+        "put" => read_put(alloc, rest),
+        "putif" => read_put_if(alloc, rest),
+        "remove" => read_remove(alloc, rest),
         _ => Err(Stop::Fault(ScriptCode::BadCommand)),
     }
 }
 
-fn read_put(alloc: Global, words: &str) -> Result<Command, Stop<ScriptCode>>
-    ensures command { GivesSeen command_spec.command_seen result
+fn read_put(alloc: Global, words: &str) -> Result<EditCommand, Stop<ScriptCode>>
+    ensures edit { GivesSeen command_spec.edit_command_seen result
         (script_spec.put_by (bytes_spec.spaced_words words.now)) }
-    ensures own { IfOk result command_spec.HasOwn }
+    ensures own { IfOk result command_spec.HasOwnEdit }
 {
     let Some(name) = only_word(words) else {
         return Err(Stop::Fault(ScriptCode::BadCommand));
     };
     let name = read_name(alloc, name)?;
-    Ok(Command::Opens(Opening::Put(name)))
+    Ok(EditCommand::Opens(Opening::Put(name)))
 }
 
-fn read_put_if(alloc: Global, words: &str) -> Result<Command, Stop<ScriptCode>>
-    ensures command { GivesSeen command_spec.command_seen result
+fn read_put_if(alloc: Global, words: &str) -> Result<EditCommand, Stop<ScriptCode>>
+    ensures edit { GivesSeen command_spec.edit_command_seen result
         (script_spec.put_if_by (bytes_spec.spaced_words words.now)) }
-    ensures own { IfOk result command_spec.HasOwn }
+    ensures own { IfOk result command_spec.HasOwnEdit }
 {
     let Some((version, rest)) = split_word(words) else {
         return Err(Stop::Fault(ScriptCode::BadCommand));
@@ -96,19 +129,19 @@ fn read_put_if(alloc: Global, words: &str) -> Result<Command, Stop<ScriptCode>>
         return Err(Stop::Fault(ScriptCode::BadNumber));
     };
     let name = read_name(alloc, name)?;
-    Ok(Command::Opens(Opening::PutIf(version, name)))
+    Ok(EditCommand::Opens(Opening::PutIf(version, name)))
 }
 
-fn read_remove(alloc: Global, words: &str) -> Result<Command, Stop<ScriptCode>>
-    ensures command { GivesSeen command_spec.command_seen result
+fn read_remove(alloc: Global, words: &str) -> Result<EditCommand, Stop<ScriptCode>>
+    ensures edit { GivesSeen command_spec.edit_command_seen result
         (script_spec.remove_by (bytes_spec.spaced_words words.now)) }
-    ensures own { IfOk result command_spec.HasOwn }
+    ensures own { IfOk result command_spec.HasOwnEdit }
 {
     let Some(name) = only_word(words) else {
         return Err(Stop::Fault(ScriptCode::BadCommand));
     };
     let name = read_name(alloc, name)?;
-    Ok(Command::Whole(Request::Remove(name)))
+    Ok(EditCommand::Whole(Edit::Remove(name)))
 }
 
 fn read_get(alloc: Global, words: &str) -> Result<Command, Stop<ScriptCode>>
@@ -169,4 +202,15 @@ fn read_build_by_val(alloc: Global, map: &str, val: &str) -> Result<Command, Sto
     let map = read_name(alloc, map)?;
     let val = read_name(alloc, val)?;
     Ok(Command::Whole(Request::Build(map, Some(val))))
+}
+
+fn read_group(words: &str) -> Result<Command, Stop<ScriptCode>>
+    ensures command { GivesSeen command_spec.command_seen result
+        (script_spec.group_by (bytes_spec.spaced_words words.now)) }
+    ensures own { IfOk result command_spec.HasOwn }
+{
+    if !has_no_word(words) {
+        return Err(Stop::Fault(ScriptCode::BadCommand));
+    }
+    Ok(Command::OpensGroup)
 }

@@ -11,6 +11,7 @@ pub enum ScriptCode {
     TooManyRequests = 6,
     TooLong = 7,
     NotUtf8 = 8,
+    TooManyEdits = 9,
 }
 
 impl ScriptCode {
@@ -30,6 +31,7 @@ impl ScriptCode {
             ScriptCode::TooManyRequests => "TooManyRequests",
             ScriptCode::TooLong => "TooLong",
             ScriptCode::NotUtf8 => "NotUtf8",
+            ScriptCode::TooManyEdits => "TooManyEdits",
         }
     }
 }

@@ -11,11 +11,14 @@ ghost use Rattle.script_text.specs.Script as script_spec;
 
 mod command;
 mod fault;
+mod group;
 mod lines;
 mod machine;
+mod opened;
 mod outside;
 mod reader;
 mod script;
+mod turn;
 mod words;
 
 use crate::reader::read_lines;

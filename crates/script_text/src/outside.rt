@@ -1,4 +1,4 @@
-//! The lines outside bodies.
+//! The lines outside bodies and groups.
 
 ghost use Rattle.std.specs.Prelude.{◌≡◌, ◌∷◌, nat_le, IfOk, IfSome};
 ghost use Rattle.dita_doc.specs.Bytes as bytes_spec;
@@ -15,7 +15,7 @@ use std::alloc::Global;
 // The most requests of a script.
 const REQUEST_LIMIT: usize = 65_536;
 
-/// How the lines outside bodies are read.
+/// How the lines outside bodies and groups are read.
 pub trait LineReader {
     ghost use Rattle.std.specs.Prelude.{IfOk, IfSome};
     ghost use Rattle.dita_doc.specs.Gives.{GivesSeen};

@@ -8,7 +8,8 @@ ghost use Rattle.script_text.specs.Script as script_spec;
 
 use dita_doc::{List, Request};
 
-/// The steps of a script. A document that one is to store has the name that it is stored under.
+/// The steps of a script. A document that one is to store has the name that it is stored under, and
+/// a group has at most 1,000 edits.
 #[derive(Drop)]
 pub struct Script {
     /// The requests, each behind its session.
@@ -17,5 +18,6 @@ pub struct Script {
     pub ghost sessions: { All spec.IsInSession steps },
     pub ghost size: { spec.steps_size (read_spec.steps_seen steps) ≤ script_spec.script_limit },
     pub ghost utf8: { All spec.HasUtf8 steps } by { Prim.hlevel spec.kept },
+    pub ghost few_edits: { All spec.HasFew steps } by { Prim.hlevel spec.kept },
     pub ghost origins: { All spec.IsOwnStep steps } by { Prim.hlevel spec.kept },
 }

@@ -12,8 +12,8 @@ use Rattle.dita_doc.specs.declared.content.PushKind.{PushKind}
 use Rattle.dita_doc.specs.declared.fault.Fault.{Fault}
 use Rattle.map_spec.specs.Elements.{attribute}
 use Rattle.map_spec.specs.Written.{Element, document, size, written_in}
-use Rattle.page_spec.specs.Places.{Standing, TopicAt, all_standing, standing_from}
-use Rattle.page_spec.specs.Pushes.{AllPushes, PushTarget, Pushing, all_pushes, is_replaced_by, no_pushes, push_fault, push_kind, push_of, pushes_behind, pushing_at, pushing_in, pushing_of, stands_in, twice_fault, with_pushing}
+use Rattle.map_spec.specs.Places.{Standing, TopicAt, all_standing, standing_from}
+use Rattle.map_spec.specs.Pushes.{AllPushes, PushTarget, Pushing, all_pushes, is_replaced_by, no_pushes, push_fault, push_kind, push_of, pushes_behind, pushing_at, pushing_in, pushing_of, stands_in, twice_fault, with_pushing}
 use Rattle.reader_spec.specs.World.{World}
 use Rattle.toc_page.specs.Made.{AreOnce, faults_in}
 use Rattle.toc_page.proofs.GroupedLaws.{IsGroup, Once, each_once_is, grouped, put_out}

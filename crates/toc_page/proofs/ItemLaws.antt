@@ -10,8 +10,8 @@ use Rattle.dita_doc.specs.declared.plan.Plan.{Plan}
 use Rattle.dita_doc.specs.declared.plan.PlanNode.{PlanNode}
 use Rattle.map_spec.specs.MapTree.{MapTree, MapNode, NoNodes, Head, count, plan_nodes}
 use Rattle.map_spec.specs.Scopes.{places, places_from}
-use Rattle.page_spec.specs.Contents.{data_text, href_by, is_item, items, items_from, label_of, linked, list_text, node_items}
-use Rattle.page_spec.specs.Links.{is_child, target_of}
+use Rattle.html_spec.specs.Contents.{data_text, href_by, is_item, items, items_from, label_of, linked, list_text, node_items}
+use Rattle.link_spec.specs.Links.{is_child, target_of}
 use Rattle.plan_nodes.specs.Preorder.{HasOneRoot, IsTree, shape}
 use Rattle.reader_spec.specs.World.{World}
 use Rattle.toc_page.specs.Opened.{Page, Stack, before_item, ends_all, opened, stack_of}

@@ -13,8 +13,8 @@ use Rattle.map_spec.specs.Cascade.{whole_at}
 use Rattle.map_spec.specs.Elements.{is_value}
 use Rattle.map_spec.specs.Pages.{local_name, page_for}
 use Rattle.map_spec.specs.Written.{Whole}
-use Rattle.page_spec.specs.Contents.{href_by, is_local, is_locked, is_text, label_by_target, label_of, navtitle_of}
-use Rattle.page_spec.specs.Links.{context_of, page_of_node, target_of}
+use Rattle.html_spec.specs.Contents.{href_by, is_local, is_locked, is_text, label_by_target, label_of, navtitle_of}
+use Rattle.link_spec.specs.Links.{context_of, page_of_node, target_of}
 use Rattle.plan_nodes.specs.Home.{value_at}
 use Rattle.reader_spec.specs.World.{World}
 use Rattle.toc_page.specs.Toc.{AreKeys, href_to, is_file, navtitle_counts, needs_keys, needs_keys_in, page_name}

@@ -9,7 +9,7 @@ use Rattle.dita_doc.specs.declared.plan.PlanNode.{PlanNode}
 use Rattle.dita_doc.specs.declared.plan.Target.{Target}
 use Rattle.dita_doc.specs.declared.plan.Target.TheVariants as targets
 use Rattle.map_spec.specs.Pages.{local_name}
-use Rattle.page_spec.specs.Links.{target_of}
+use Rattle.link_spec.specs.Links.{target_of}
 use Rattle.readers.specs.Founded.{StaysFounded, homes, is_among}
 use Rattle.readers.specs.Told.{Told}
 use Rattle.readers.proofs.AmongLaws.{among_back, among_front}

@@ -5,7 +5,7 @@ use Rattle.std.proofs.Common.{refl, sym, ap, ◌∙◌, append_assoc, append-nil
 use Rattle.dita_doc.specs.declared.plan.Plan.{Plan}
 use Rattle.dita_doc.specs.declared.plan.PlanNode.{PlanNode}
 use Rattle.map_spec.specs.Cascade.{is_in_table, walk}
-use Rattle.page_spec.specs.Contents.{is_item, navtitle_of}
+use Rattle.html_spec.specs.Contents.{is_item, navtitle_of}
 use Rattle.reader_spec.specs.World.{World}
 use Rattle.toc_page.specs.Opened.{before_item, opened, stack_of}
 use Rattle.toc_page.specs.Toc.{IsStep, end_at, front_at, is_item_at, is_told, item_front, may_be_item, open_at, text_at}

@@ -12,7 +12,7 @@ use Rattle.map_spec.specs.Elements.{attribute}
 use Rattle.map_spec.specs.Scopes.{places}
 use Rattle.map_spec.specs.Titles.{first_text}
 use Rattle.map_spec.specs.Written.{Whole}
-use Rattle.page_spec.specs.Contents.{contents_title}
+use Rattle.html_spec.specs.Contents.{contents_title}
 use Rattle.plan_nodes.specs.Home.{value_at, whole_at}
 use Rattle.plan_nodes.specs.Preorder.{is_in_table_at, tables_around}
 use Rattle.plan_nodes.proofs.PlaceLaws.{known_at}

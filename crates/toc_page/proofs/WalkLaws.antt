@@ -3,7 +3,7 @@ use Rattle.std.specs.Prelude.{◌≡◌, ◌+◌, ◌<◌, ◌≤◌, ℕ, Bool,
 use Rattle.std.proofs.Common.{refl, sym, ap, ◌∙◌, arith, append_assoc, append-nil}
 use Rattle.std.proofs.lemmas.Bool.Decides.{nat_tests}
 use Rattle.map_spec.specs.MapTree.{MapTree, MapNode, NoNodes, Head, count}
-use Rattle.page_spec.specs.Contents.{list_text}
+use Rattle.html_spec.specs.Contents.{list_text}
 use Rattle.toc_page.specs.declared.list.OpenItem.{OpenItem}
 use Rattle.toc_page.proofs.TreeTexts.{Shape, shapes, tree_text}
 use Rattle.toc_page.specs.Opened.{Stack, Page, Within, has_list, with_list, begin_text, item_end, around_place, ends_before, ends_all, opened, before_item}

@@ -6,8 +6,8 @@ use Rattle.dita_doc.specs.declared.fault.Fault.{Fault}
 use Rattle.dita_doc.specs.declared.plan.Plan.{Plan}
 use Rattle.map_spec.specs.Branches.{each_once}
 use Rattle.map_spec.specs.Pages.{local_name}
-use Rattle.page_spec.specs.Contents.{contents}
-use Rattle.page_spec.specs.Pushes.{all_pushes, pushes_into}
+use Rattle.html_spec.specs.Contents.{contents}
+use Rattle.map_spec.specs.Pushes.{all_pushes, pushes_into}
 use Rattle.plan_nodes.specs.Preorder.{IsTree}
 use Rattle.reader_spec.specs.World.{World}
 use Rattle.readers.specs.Founded.{homes}

@@ -16,9 +16,9 @@ use Rattle.map_spec.specs.Included.{is_reference}
 use Rattle.map_spec.specs.Pages.{page_for}
 use Rattle.map_spec.specs.Titles.{first_text}
 use Rattle.map_spec.specs.Written.{Whole}
-use Rattle.page_spec.specs.Blocks.{start_tag}
-use Rattle.page_spec.specs.Contents.{cascaded_is, data_text, href_by, is_item, is_local, is_nothing, is_text, label_of, linked, navtitle_element, title_written}
-use Rattle.page_spec.specs.Links.{context_of, node_attribute, target_of}
+use Rattle.html_spec.specs.Blocks.{start_tag}
+use Rattle.html_spec.specs.Contents.{cascaded_is, data_text, href_by, is_item, is_local, is_nothing, is_text, label_of, linked, navtitle_element, title_written}
+use Rattle.link_spec.specs.Links.{context_of, node_attribute, target_of}
 use Rattle.plan_nodes.specs.Home.{value_at}
 use Rattle.plan_nodes.specs.Preorder.{tables_around}
 use Rattle.reader_spec.specs.World.{World}

@@ -3,8 +3,8 @@
 ghost use Rattle.std.specs.Prelude.{◌≡◌, ◌++◌, [], ◌∷◌, slice_get, IfOk, Some};
 ghost use Rattle.std.specs.Option.{option_copied, option_to_list};
 ghost use Rattle.map_spec.specs.Pages as pages_spec;
-ghost use Rattle.page_spec.specs.Contents as contents_spec;
-ghost use Rattle.page_spec.specs.Links as links_spec;
+ghost use Rattle.html_spec.specs.Contents as contents_spec;
+ghost use Rattle.link_spec.specs.Links as links_spec;
 ghost use Rattle.reader_spec.specs.World.{World};
 ghost use Rattle.readers.specs.Documents as documents_spec;
 ghost use Rattle.readers.specs.Documents.{AsksOnly};

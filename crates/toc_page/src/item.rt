@@ -4,9 +4,9 @@ ghost use Rattle.std.specs.Prelude.{◌≡◌, ◌++◌, [], codes, false, slice
 ghost use Rattle.std.specs.List.{flat_map};
 ghost use Rattle.std.specs.Option.{option_copied};
 ghost use Rattle.dita_doc.specs.HtmlEscapes as html_escapes_spec;
-ghost use Rattle.page_spec.specs.Blocks as blocks_spec;
-ghost use Rattle.page_spec.specs.Contents as contents_spec;
-ghost use Rattle.page_spec.specs.Links as links_spec;
+ghost use Rattle.html_spec.specs.Blocks as blocks_spec;
+ghost use Rattle.html_spec.specs.Contents as contents_spec;
+ghost use Rattle.link_spec.specs.Links as links_spec;
 ghost use Rattle.plan_nodes.specs.Preorder as preorder_spec;
 ghost use Rattle.reader_spec.specs.World.{World};
 ghost use Rattle.readers.specs.Documents as documents_spec;

@@ -3,8 +3,8 @@
 ghost use Rattle.std.specs.Prelude.{◌≡◌, ℕ, true, false, map, slice_get, IfOk, Some};
 ghost use Rattle.dita_doc.specs.declared.plan.Plan as plan_spec;
 ghost use Rattle.map_spec.specs.Cascade as cascade_spec;
-ghost use Rattle.page_spec.specs.Contents as contents_spec;
-ghost use Rattle.page_spec.specs.Links as links_spec;
+ghost use Rattle.html_spec.specs.Contents as contents_spec;
+ghost use Rattle.link_spec.specs.Links as links_spec;
 ghost use Rattle.plan_nodes.specs.Preorder as preorder_spec;
 ghost use Rattle.reader_spec.specs.World.{World};
 ghost use Rattle.readers.specs.Documents as documents_spec;

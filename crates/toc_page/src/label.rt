@@ -4,8 +4,8 @@ ghost use Rattle.std.specs.Prelude.{◌≡◌, ◌++◌, ◌||◌, ◌&&◌, [],
 ghost use Rattle.std.specs.Option.{option_to_list};
 ghost use Rattle.map_spec.specs.Pages as pages_spec;
 ghost use Rattle.dita_doc.specs.declared.plan.Target.TheVariants as targets_spec;
-ghost use Rattle.page_spec.specs.Contents as contents_spec;
-ghost use Rattle.page_spec.specs.Links as links_spec;
+ghost use Rattle.html_spec.specs.Contents as contents_spec;
+ghost use Rattle.link_spec.specs.Links as links_spec;
 ghost use Rattle.reader_spec.specs.World.{World};
 ghost use Rattle.readers.specs.Documents as documents_spec;
 ghost use Rattle.readers.specs.Documents.{AsksOnly};

@@ -4,7 +4,7 @@ ghost use Rattle.std.specs.Prelude.{◌≡◌, ◌++◌, [], codes, map, IfOk};
 ghost use Rattle.std.specs.List.{flat_map};
 ghost use Rattle.dita_doc.specs.HtmlEscapes as html_escapes_spec;
 ghost use Rattle.map_spec.specs.Cascade as cascade_spec;
-ghost use Rattle.page_spec.specs.Contents as contents_spec;
+ghost use Rattle.html_spec.specs.Contents as contents_spec;
 ghost use Rattle.plan_nodes.specs.Preorder as preorder_spec;
 ghost use Rattle.reader_spec.specs.World.{World};
 ghost use Rattle.readers.specs.Documents as documents_spec;

@@ -4,7 +4,7 @@ ghost use Rattle.std.specs.Prelude.{◌≡◌, ◌∷◌, [], ℕ, List, codes, 
 ghost use Rattle.doc_elements.specs.Walk as walk_spec;
 ghost use Rattle.map_spec.specs.Elements as elements_spec;
 ghost use Rattle.map_spec.specs.Titles as titles_spec;
-ghost use Rattle.page_spec.specs.Contents as contents_spec;
+ghost use Rattle.html_spec.specs.Contents as contents_spec;
 ghost use Rattle.plan_nodes.specs.Home as home_spec;
 ghost use Rattle.toc_page.specs.Toc as spec;
 

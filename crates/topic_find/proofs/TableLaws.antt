@@ -17,7 +17,7 @@ use Rattle.std.proofs.lemmas.Slice.Eq.{bytes_eq-Decides}
 use Rattle.map_spec.specs.Elements.{attribute, is_value}
 use Rattle.map_spec.specs.Titles.{has_id, id_of}
 use Rattle.map_spec.specs.Written.{Element, Written, End, Chars, Node, size}
-use Rattle.page_spec.specs.Places.{Standing, TopicAt, first_topic, is_topic, is_topic_there, is_topic_with, standing_from, topic_inside}
+use Rattle.map_spec.specs.Places.{Standing, TopicAt, first_topic, is_topic, is_topic_there, is_topic_with, standing_from, topic_inside}
 use Rattle.topic_find.specs.declared.table.TargetTable.{TargetTable}
 use Rattle.topic_find.specs.Table.{HasElementMore, HasTopicMore, IsNext, IsOnTheWay, IsTableOf, fragment_cmp, fragment_of, has_topic_around, is_first_topic, or_at, place_in, text_cmp}
 use Rattle.topic_find.specs.Walk.{place_of}

@@ -4,8 +4,8 @@ use Rattle.std.specs.Borrow.{Bor}
 use Rattle.std.specs.Option.{option_map_or}
 use Rattle.std.proofs.Common.{refl, sym, ap, ◌∙◌}
 use Rattle.map_spec.specs.Written.{Written}
-use Rattle.page_spec.specs.Places as places
-use Rattle.page_spec.specs.Places.{Standing, TopicAt, all_standing, is_topic_there, is_topic_with}
+use Rattle.map_spec.specs.Places as places
+use Rattle.map_spec.specs.Places.{Standing, TopicAt, all_standing, is_topic_there, is_topic_with}
 use Rattle.topic_find.specs.declared.meant.TopicMeant.{TopicMeant}
 use Rattle.topic_find.specs.Walk.{first_place, has_id, is_topic_meant, is_topic_wanted, place_of, target_place, topic_place}
 

@@ -10,7 +10,7 @@ use Rattle.dita_doc.specs.Tree.{ArePreorder, Content, node_limit, size_of, tree_
 use Rattle.dita_doc.specs.declared.doc.Node as tree_node
 use Rattle.dita_doc.proofs.TreeLaws.{length_nodes}
 use Rattle.map_spec.specs.Written.{Element, Written, End, Chars, Node, size, written_in}
-use Rattle.page_spec.specs.Places.{Standing, TopicAt, standing_from, topic_inside}
+use Rattle.map_spec.specs.Places.{Standing, TopicAt, standing_from, topic_inside}
 use Rattle.topic_find.specs.Walk.{Test, ends_at, first_place, passes, place_of, walk_of}
 
 -- a text where it stands, or another, is this text or the other

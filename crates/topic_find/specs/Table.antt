@@ -7,7 +7,7 @@ use Rattle.std.specs.List.{list_any}
 use Rattle.std.specs.Ordering.{is_eq, nat_cmp, ordering_then}
 use Rattle.std.specs.declared.cmp.Ordering.{Ordering}
 use Rattle.map_spec.specs.Written.{Element, Written}
-use Rattle.page_spec.specs.Places.{Standing, TopicAt, all_standing, first_topic, standing_from, target_among}
+use Rattle.map_spec.specs.Places.{Standing, TopicAt, all_standing, first_topic, standing_from, target_among}
 use Rattle.topic_find.specs.Walk.{place_of}
 use Rattle.topic_find.specs.declared.table.Fragment.{Fragment}
 use Rattle.topic_find.specs.declared.table.TargetTable.{TargetTable}

@@ -10,7 +10,7 @@ use Rattle.dita_doc.specs.declared.doc.Node as doc
 use Rattle.dita_doc.specs.declared.siblings.Siblings.{Siblings}
 use Rattle.map_spec.specs.Elements.{has_value}
 use Rattle.map_spec.specs.Written.{Element, Written, size, written_in}
-use Rattle.page_spec.specs.Places.{Standing, TopicAt, all_standing, is_topic, standing_from, target_in, topic_meant}
+use Rattle.map_spec.specs.Places.{Standing, TopicAt, all_standing, is_topic, standing_from, target_in, topic_meant}
 use Rattle.topic_find.specs.declared.meant.ElementMeant.{ElementMeant}
 use Rattle.topic_find.specs.declared.meant.TopicAround.{TopicAround}
 use Rattle.topic_find.specs.declared.meant.TopicMeant.{TopicMeant}

@@ -2,7 +2,7 @@
 
 ghost use Rattle.std.specs.Prelude.{◌≡◌, ℕ, List};
 ghost use Rattle.map_spec.specs.Titles as titles_spec;
-ghost use Rattle.page_spec.specs.Places as places_spec;
+ghost use Rattle.map_spec.specs.Places as places_spec;
 ghost use Rattle.topic_find.specs.Walk as walk_spec;
 
 use dita_doc::Node;

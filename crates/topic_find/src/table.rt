@@ -6,8 +6,8 @@ ghost use Rattle.std.specs.Ordering.{is_eq};
 ghost use Rattle.dita_doc.specs.Siblings as siblings_spec;
 ghost use Rattle.dita_doc.specs.Tree as tree_spec;
 ghost use Rattle.map_spec.specs.Written.{Element};
-ghost use Rattle.page_spec.specs.Places as places_spec;
-ghost use Rattle.page_spec.specs.Places.{Standing};
+ghost use Rattle.map_spec.specs.Places as places_spec;
+ghost use Rattle.map_spec.specs.Places.{Standing};
 ghost use Rattle.topic_find.specs.Table as table_spec;
 ghost use Rattle.topic_find.specs.Walk as walk_spec;
 

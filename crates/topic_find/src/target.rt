@@ -3,8 +3,8 @@
 ghost use Rattle.std.specs.Prelude.{◌≡◌, ℕ, List};
 ghost use Rattle.dita_doc.specs.Tree as tree_spec;
 ghost use Rattle.map_spec.specs.Written as written_spec;
-ghost use Rattle.page_spec.specs.Places as places_spec;
-ghost use Rattle.page_spec.specs.Places.{TopicAt};
+ghost use Rattle.map_spec.specs.Places as places_spec;
+ghost use Rattle.map_spec.specs.Places.{TopicAt};
 ghost use Rattle.topic_find.specs.Walk as walk_spec;
 
 use crate::elements::find_element;

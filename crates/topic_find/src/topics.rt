@@ -4,7 +4,7 @@ ghost use Rattle.std.specs.Prelude.{◌≡◌, ◌+◌, ◌<◌, ℕ, List, Opti
 ghost use Rattle.dita_doc.specs.Siblings as siblings_spec;
 ghost use Rattle.dita_doc.specs.Tree as tree_spec;
 ghost use Rattle.map_spec.specs.Written as written_spec;
-ghost use Rattle.page_spec.specs.Places.{TopicAt};
+ghost use Rattle.map_spec.specs.Places.{TopicAt};
 ghost use Rattle.topic_find.specs.Walk as walk_spec;
 
 use crate::node::{has_id, is_topic};

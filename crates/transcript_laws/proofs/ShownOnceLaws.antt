@@ -1,26 +1,24 @@
 -- A reply with its lines shows one thing: it is built again from its words and its lines.
-use Rattle.std.specs.Prelude.{◌≡◌, ◌<◌, ◌^◌, ℕ, List, [], ◌∷◌, ◌++◌, codes, length, map, All, bytes_eq, if◌then◌else◌, unwrap_or}
+use Rattle.std.specs.Prelude.{◌≡◌, ◌<◌, ◌^◌, ℕ, List, [], ◌∷◌, ◌++◌, codes, length, map, drop, All, bytes_eq, if◌then◌else◌, unwrap_or}
 use Rattle.std.specs.Fmt.{decimal}
 use Rattle.std.specs.Str.Parse.{digits_value}
-use Rattle.std.proofs.Common.{refl, sym, ap, ◌∙◌, arith}
+use Rattle.std.proofs.Common.{refl, sym, ap, ◌∙◌}
 use Rattle.std.proofs.lemmas.Fmt.{digits_value-decimal}
 use Rattle.std.proofs.lemmas.List.{length-map}
 use Rattle.dita_doc.specs.declared.fault.PyxCode.{PyxCode}
 use Rattle.dita_doc.specs.declared.fault.PyxCode.TheVariants as pyx
 use Rattle.dita_doc.specs.declared.plan.PlanStop.{PlanStop}
 use Rattle.dita_doc.specs.declared.plan.PlanStop.TheVariants as stops
-use Rattle.dita_doc.specs.Faults.{pyx_code_text}
-use Rattle.transcript_text.specs.Transcript.{Shown, StoredAt, RemovedAt, ConflictAt, IsAbsent, IsFull, RefusedFor, Lines, Names, OfBuild, BuildShown, BuiltPages, StoppedBy, PagesTooLarge, IsBuildShown, IsShown, shown_words, shown_lines, built_words, built_lines, stop_text, IsNameLine, name_line, PageShown, IsPageShown, page_line, FaultShown, IsFaultShown, fault_line}
+use Rattle.transcript_text.specs.Transcript.{RefusalShown, RefusedFor, ConflictAt, IsAbsent, IsFull, IsRefusalShown, Shown, StoredAt, RemovedAt, Refuses, GroupedAs, StoppedAt, Lines, Names, OfBuild, BuildShown, BuiltPages, StoppedBy, PagesTooLarge, IsBuildShown, IsShown, shown_words, shown_lines, built_words, built_lines, stop_text, IsNameLine, name_line, PageShown, IsPageShown, page_line, FaultShown, IsFaultShown, fault_line}
 use Rattle.transcript_text.specs.declared.below.Below.{Below}
 use Rattle.transcript_text.specs.declared.below.Below.TheVariants as belows
 use Rattle.dita_doc.specs.Bytes.{spaced_parts}
-use Rattle.transcript_text.proofs.CodeLaws.{pyx_code_lacks}
 use Rattle.transcript_text.proofs.FormLaws.{below_built, below_shown}
 use Rattle.transcript_text.proofs.HeadLaws.{small_from}
 use Rattle.transcript_laws.proofs.LineOnceLaws.{map_once, front_once, name_line_once, page_line_once, fault_line_once, pyx_code_from, pyx_code_is}
 use Rattle.transcript_text.proofs.NumberLaws.{own}
+use Rattle.transcript_text.proofs.RefusalLaws.{words_of_refusal, refusal_parts, stopped_parts}
 use Rattle.transcript_text.proofs.TextLaws.{decimal_word}
-use Rattle.transcript_text.proofs.WordLaws.{words_behind}
 
 -- the lists that some lines show
 data Lists : Type 0 where
@@ -36,10 +34,9 @@ lists_of_built (PagesTooLarge total) = NoLists
 lists_of : Shown → Lists
 lists_of (StoredAt version) = NoLists
 lists_of (RemovedAt version) = NoLists
-lists_of (ConflictAt version) = NoLists
-lists_of IsAbsent = NoLists
-lists_of IsFull = NoLists
-lists_of (RefusedFor code number) = NoLists
+lists_of (Refuses refusal) = NoLists
+lists_of (GroupedAs edits) = NoLists
+lists_of (StoppedAt number refusal) = NoLists
 lists_of (Lines lines) = NoLists
 lists_of (Names names) = NameLists names
 lists_of (OfBuild built) = lists_of_built built
@@ -64,10 +61,9 @@ has_lists : (shown : Shown) → IsShown shown → HasLists (shown_lines shown) (
 unfolding lists_of
 has_lists (StoredAt version) valid = (0, refl)
 has_lists (RemovedAt version) valid = (0, refl)
-has_lists (ConflictAt version) valid = (0, refl)
-has_lists IsAbsent valid = (0, refl)
-has_lists IsFull valid = (0, refl)
-has_lists (RefusedFor code number) valid = (0, refl)
+has_lists (Refuses refusal) valid = (0, refl)
+has_lists (GroupedAs edits) valid = (0, refl)
+has_lists (StoppedAt number refusal) valid = (0, refl)
 has_lists (Lines lines) valid = (length lines, refl)
 has_lists (Names names) valid = (valid.1, refl, refl)
 has_lists (OfBuild built) valid = built_has_lists built valid
@@ -139,14 +135,23 @@ faults_in NoLists = []
 faults_in (NameLists names) = []
 faults_in (BuildLists pages faults) = faults
 
+refusal_by : List ℕ → List (List ℕ) → RefusalShown
+refusal_by word words =
+    if bytes_eq word (codes "conflict") then ConflictAt (value_of words)
+    else if bytes_eq word (codes "absent") then IsAbsent
+    else if bytes_eq word (codes "toomanynames") then IsFull
+    else RefusedFor (code_of words) (second_value words)
+
+refusal_from : List (List ℕ) → RefusalShown
+refusal_from [] = IsAbsent
+refusal_from (word ∷ words) = refusal_by word words
+
 again_by : List ℕ → List (List ℕ) → Lists → List (List ℕ) → Shown
 again_by word words lists lines =
     if bytes_eq word (codes "stored") then StoredAt (value_of words)
     else if bytes_eq word (codes "removed") then RemovedAt (value_of words)
-    else if bytes_eq word (codes "conflict") then ConflictAt (value_of words)
-    else if bytes_eq word (codes "absent") then IsAbsent
-    else if bytes_eq word (codes "toomanynames") then IsFull
-    else if bytes_eq word (codes "refused") then RefusedFor (code_of words) (second_value words)
+    else if bytes_eq word (codes "grouped") then GroupedAs (value_of words)
+    else if bytes_eq word (codes "stopped") then StoppedAt (value_of words) (refusal_from (drop 1 words))
     else if bytes_eq word (codes "text") then Lines lines
     else if bytes_eq word (codes "names") then Names (names_in lists)
     else if bytes_eq word (codes "built") then OfBuild (BuiltPages (pages_in lists) (faults_in lists))
@@ -155,10 +160,11 @@ again_by word words lists lines =
     else if bytes_eq word (codes "noditaval") then OfBuild (StoppedBy stops.NoDitaval)
     else if bytes_eq word (codes "toomanynodes") then OfBuild (StoppedBy stops.TooManyNodes)
     else if bytes_eq word (codes "toomanypages") then OfBuild (StoppedBy stops.TooManyPages)
-    else OfBuild (PagesTooLarge (value_of words))
+    else if bytes_eq word (codes "toolarge") then OfBuild (PagesTooLarge (value_of words))
+    else Refuses (refusal_by word words)
 
 again : List (List ℕ) → Lists → List (List ℕ) → Shown
-again [] lists lines = IsAbsent
+again [] lists lines = Refuses IsAbsent
 again (word ∷ words) lists lines = again_by word words lists lines
 
 value_is : (n : ℕ) → n < 2 ^ 64 → value_of (spaced_parts (decimal n)) ≡ n
@@ -174,15 +180,32 @@ again_stop stops.NoDitaval lists lines = refl
 again_stop stops.TooManyNodes lists lines = refl
 again_stop stops.TooManyPages lists lines = refl
 
-again_refused : (code : PyxCode) (n : ℕ) (lists : Lists) (lines : List (List ℕ)) → n < 2 ^ 32
-    → again (codes "refused" ∷ spaced_parts (pyx_code_text code ++ 32 ∷ [] ++ decimal n)) lists lines
-    ≡ RefusedFor code n
-unfolding again again_by code_of second_value value_of
-again_refused code n lists lines less =
-    ap (λ words. again (codes "refused" ∷ words) lists lines)
-    (words_behind (pyx_code_text code) (decimal n) (pyx_code_lacks 32 code (omega arith)))
-    ∙ ap (λ found. RefusedFor (unwrap_or found pyx.BadLine) (value_of (spaced_parts (decimal n)))) (pyx_code_is code)
-    ∙ ap (RefusedFor code) (value_is n (small_from n less))
+refusal_again : (refusal : RefusalShown) → IsRefusalShown refusal
+    → refusal_from (words_of_refusal refusal) ≡ refusal
+unfolding refusal_from refusal_by code_of second_value value_of
+refusal_again (RefusedFor code number) less =
+    ap (λ found. RefusedFor (unwrap_or found pyx.BadLine) (digits_value 10 (decimal number))) (pyx_code_is code)
+    ∙ ap (RefusedFor code) (digits_value-decimal own number (small_from number less))
+refusal_again (ConflictAt version) small = ap ConflictAt (digits_value-decimal own version small)
+refusal_again IsAbsent valid = refl
+refusal_again IsFull valid = refl
+
+refused_again : (refusal : RefusalShown) (lists : Lists) (lines : List (List ℕ))
+    → again (words_of_refusal refusal) lists lines ≡ Refuses (refusal_from (words_of_refusal refusal))
+unfolding again again_by refusal_from
+refused_again (RefusedFor code number) lists lines = refl
+refused_again (ConflictAt version) lists lines = refl
+refused_again IsAbsent lists lines = refl
+refused_again IsFull lists lines = refl
+
+stopped_again : (number : ℕ) (refusal : RefusalShown) (lists : Lists) (lines : List (List ℕ)) → number < 2 ^ 32
+    → IsRefusalShown refusal
+    → again (codes "stopped" ∷ decimal number ∷ words_of_refusal refusal) lists lines ≡ StoppedAt number refusal
+unfolding again again_by value_of
+stopped_again number refusal lists lines less valid =
+    ap (λ n. StoppedAt n (refusal_from (words_of_refusal refusal)))
+    (digits_value-decimal own number (small_from number less))
+    ∙ ap (StoppedAt number) (refusal_again refusal valid)
 
 again_built : (built : BuildShown) → IsBuildShown built
     → again (spaced_parts (built_words built)) (lists_of_built built) (built_lines built) ≡ OfBuild built
@@ -196,10 +219,13 @@ again_is : (shown : Shown) → IsShown shown
 unfolding again again_by lists_of names_in
 again_is (StoredAt version) small = ap StoredAt (value_is version small)
 again_is (RemovedAt version) small = ap RemovedAt (value_is version small)
-again_is (ConflictAt version) small = ap ConflictAt (value_is version small)
-again_is IsAbsent valid = refl
-again_is IsFull valid = refl
-again_is (RefusedFor code number) less = again_refused code number NoLists [] less
+again_is (Refuses refusal) valid =
+    ap (λ words. again words NoLists []) (refusal_parts refusal valid) ∙ refused_again refusal NoLists []
+    ∙ ap Refuses (refusal_again refusal valid)
+again_is (GroupedAs edits) less = ap GroupedAs (value_is edits (small_from edits less))
+again_is (StoppedAt number refusal) valid =
+    ap (λ words. again words NoLists []) (stopped_parts number refusal valid.0 valid.1)
+    ∙ stopped_again number refusal NoLists [] valid.0 valid.1
 again_is (Lines lines) valid = refl
 again_is (Names names) valid = refl
 again_is (OfBuild built) valid = again_built built valid

@@ -2,7 +2,7 @@
 use Rattle.std.specs.Prelude.{◌≡◌, ℕ, true, false, List, [], ◌∷◌, ◌++◌, Option, Some, None, IfSome}
 use Rattle.std.proofs.Common.{refl, sym, ap, ◌∙◌, append_assoc}
 use Rattle.std.specs.List.{flat_map}
-use Rattle.dita_doc.specs.Desk.{Reply, IsStored, IsRemoved, Bytes, NameList, IsRefused, Conflict, Absent, TooManyNames, Begun}
+use Rattle.dita_doc.specs.Desk.{Reply, IsStored, IsRemoved, Bytes, NameList, IsRefused, Conflict, Absent, TooManyNames, Begun, IsGrouped, IsStopped}
 use Rattle.dita_doc.specs.History.{Entry}
 use Rattle.dita_doc.specs.Lines.{line}
 use Rattle.transcript_text.specs.Transcript.{Shown, OfBuild, BuildShown, Fits64, Fits32, IsBuildShown, IsShown, shown_words, shown_lines, bar_line, reply_shown, entry_shown}
@@ -20,6 +20,8 @@ begun_shown (Conflict version) built e = absurd (cc)
 begun_shown Absent built e = absurd (cc)
 begun_shown (TooManyNames limit) built e = absurd (cc)
 begun_shown Begun built e = refl
+begun_shown (IsGrouped edits) built e = absurd (cc)
+begun_shown (IsStopped number refusal) built e = absurd (cc)
 
 -- and each other reply shows something by itself
 other_shown : (reply : Reply) → false ≡ is_begun reply → (shown : Shown) × (reply_shown reply None ≡ Some shown)
@@ -32,6 +34,8 @@ other_shown (Conflict version) e = (_, refl)
 other_shown Absent e = (_, refl)
 other_shown (TooManyNames limit) e = (_, refl)
 other_shown Begun e = absurd (cc)
+other_shown (IsGrouped edits) e = (_, refl)
+other_shown (IsStopped number refusal) e = (_, refl)
 
 -- the whole of it, from its numbers and what is shown
 module _ (place : ℕ) (entry : Entry) (front text : List ℕ)

@@ -1,27 +1,24 @@
 -- What is shown announces the lines below it, and they fit.
-use Rattle.std.specs.Prelude.{◌≡◌, ◌+◌, ◌<◌, ◌≤◌, ◌^◌, ◌&&◌, ℕ, Bool, true, false, List, [], ◌∷◌, ◌++◌, Option, Some, codes, length, map, All, is_some, option_map, nat_lt, MatchBool}
+use Rattle.std.specs.Prelude.{◌≡◌, ◌+◌, ◌<◌, ◌≤◌, ◌^◌, ◌&&◌, ℕ, Bool, true, false, List, [], ◌∷◌, ◌++◌, Option, Some, codes, length, map, All, is_some, option_map, nat_lt, if◌then◌else◌, MatchBool}
 use Rattle.std.specs.Fmt.{decimal}
 use Rattle.std.proofs.Common.{refl, ap, ◌∙◌, arith, length-append}
 use Rattle.std.proofs.lemmas.List.{length-map}
 use Rattle.std.proofs.lemmas.List.Elements.{All-head, All-tail}
-use Rattle.dita_doc.specs.Faults.{pyx_code_text}
-use Rattle.dita_doc.specs.declared.fault.PyxCode.{PyxCode}
 use Rattle.dita_doc.specs.declared.plan.PlanStop.{PlanStop}
 use Rattle.dita_doc.specs.declared.plan.PlanStop.TheVariants as stops
 use Rattle.dita_doc.specs.Lines.{IsLineText}
-use Rattle.transcript_text.specs.Transcript.{Shown, StoredAt, RemovedAt, ConflictAt, IsAbsent, IsFull, RefusedFor, Lines, Names, OfBuild, BuildShown, BuiltPages, StoppedBy, PagesTooLarge, IsBuildShown, IsShown, shown_words, shown_lines, built_words, built_lines, stop_text, IsNameLine, name_line, PageShown, IsPageShown, page_line, FaultShown, IsFaultShown, fault_line, EntryShown, IsEntryShown, entry_head}
+use Rattle.transcript_text.specs.Transcript.{RefusalShown, IsRefusalShown, refusal_words, Shown, StoredAt, RemovedAt, Refuses, GroupedAs, StoppedAt, Lines, Names, OfBuild, BuildShown, BuiltPages, StoppedBy, PagesTooLarge, IsBuildShown, IsShown, shown_words, shown_lines, built_words, built_lines, stop_text, IsNameLine, name_line, PageShown, IsPageShown, page_line, FaultShown, IsFaultShown, fault_line, EntryShown, IsEntryShown, entry_head}
 use Rattle.transcript_text.specs.declared.below.Below.{Below}
 use Rattle.transcript_text.specs.declared.below.Below.TheVariants as belows
 use Rattle.dita_doc.specs.Bytes.{spaced_parts}
 use Rattle.transcript_text.specs.Words.{number_of}
-use Rattle.transcript_text.specs.Below.{count_of, FitFrom, IsPageText, IsFaultText, none_below, none_if, both, below_of}
+use Rattle.transcript_text.specs.Below.{count_of, FitFrom, IsPageText, IsFaultText, none_below, none_if, both, is_refusal, below_stopped, below_other, below_of}
 use Rattle.transcript_text.specs.Heads.{IsEntryLine}
-use Rattle.transcript_text.proofs.CodeLaws.{pyx_code_known, pyx_code_lacks}
 use Rattle.transcript_text.proofs.HeadLaws.{number_word, small_from, entry_head_words}
-use Rattle.transcript_text.proofs.NumberLaws.{number_is}
-use Rattle.transcript_text.proofs.ShownLaws.{decimal_10000, not_below, is_below}
+use Rattle.transcript_text.proofs.NumberLaws.{number64_is, number32_is}
+use Rattle.transcript_text.proofs.RefusalLaws.{words_of_refusal, refusal_parts, refusal_known, stopped_parts}
+use Rattle.transcript_text.proofs.ShownLaws.{not_below, is_below}
 use Rattle.transcript_text.proofs.TextLaws.{decimal_word}
-use Rattle.transcript_text.proofs.WordLaws.{words_behind}
 
 -- what lines stand below
 abbrev pub below_built : BuildShown → Below
@@ -32,19 +29,12 @@ below_built (PagesTooLarge total) = none_below
 abbrev pub below_shown : Shown → Below
 below_shown (StoredAt version) = none_below
 below_shown (RemovedAt version) = none_below
-below_shown (ConflictAt version) = none_below
-below_shown IsAbsent = none_below
-below_shown IsFull = none_below
-below_shown (RefusedFor code number) = none_below
+below_shown (Refuses refusal) = none_below
+below_shown (GroupedAs edits) = none_below
+below_shown (StoppedAt number refusal) = none_below
 below_shown (Lines lines) = belows.Texts (length lines)
 below_shown (Names names) = belows.Names (length names)
 below_shown (OfBuild built) = below_built built
-
-number64_is : (n : ℕ) → n < 2 ^ 64 → number_of 64 (decimal n) ≡ Some n
-number64_is n small = number_is 64 n (decimal n) small small refl
-
-number32_is : (n : ℕ) → n < 2 ^ 32 → number_of 32 (decimal n) ≡ Some n
-number32_is n less = number_is 32 n (decimal n) less (small_from n less) refl
 
 -- a reply of a word and a number
 numbered : (word : List ℕ) (n : ℕ) (below : Option Below) → n < 2 ^ 64 → below_of (word ∷ decimal n ∷ []) ≡ below
@@ -58,14 +48,32 @@ stop_said stops.NoDitaval = refl
 stop_said stops.TooManyNodes = refl
 stop_said stops.TooManyPages = refl
 
-refused_said : (code : PyxCode) (n : ℕ) → n < 2 ^ 32
-    → below_of (codes "refused" ∷ spaced_parts (pyx_code_text code ++ 32 ∷ [] ++ decimal n)) ≡ Some none_below
-refused_said code n less =
-    let words = words_behind (pyx_code_text code) (decimal n) (pyx_code_lacks 32 code (omega arith))
-    ∙ ap (λ ws. pyx_code_text code ∷ ws) (decimal_word n (small_from n less)) in
-    ap (λ ws. below_of (codes "refused" ∷ ws)) words
-    ∙ ap (λ known. none_if (known && is_some (number_of 32 (decimal n)))) (pyx_code_known code)
-    ∙ ap (λ found. none_if (is_some found)) (number32_is n less)
+-- a refusal, and a group that was stopped
+refusal_is : (refusal : RefusalShown) → IsRefusalShown refusal → is_refusal (spaced_parts (refusal_words refusal)) ≡ true
+refusal_is refusal valid = ap is_refusal (refusal_parts refusal valid) ∙ refusal_known refusal valid
+
+refused_said : (refusal : RefusalShown) → IsRefusalShown refusal
+    → below_of (spaced_parts (refusal_words refusal)) ≡ Some none_below
+refused_said refusal valid =
+    ap (λ test. if test then Some none_below else below_other (spaced_parts (refusal_words refusal)))
+    (refusal_is refusal valid)
+
+-- the words of a group that was stopped are those of no refusal
+stopped_other : (number : List ℕ) (words : List (List ℕ)) → is_refusal (codes "stopped" ∷ number ∷ words) ≡ false
+stopped_other number [] = refl
+stopped_other number (word ∷ []) = refl
+stopped_other number (word ∷ second ∷ words) = refl
+
+stopped_said : (number : ℕ) (refusal : RefusalShown) → number < 2 ^ 32 → IsRefusalShown refusal
+    → below_of (spaced_parts (codes "stopped " ++ decimal number ++ codes " " ++ refusal_words refusal))
+    ≡ Some none_below
+stopped_said number refusal less valid =
+    let words = words_of_refusal refusal in
+    ap below_of (stopped_parts number refusal less valid)
+    ∙ ap (λ test. if test then Some none_below else below_stopped (decimal number) words)
+    (stopped_other (decimal number) words)
+    ∙ ap (λ test. none_if (test && is_some (number_of 32 (decimal number)))) (refusal_known refusal valid)
+    ∙ ap (λ found. none_if (is_some found)) (number32_is number less)
 
 built_said : (pages faults : ℕ) → pages < 2 ^ 64 → faults < 2 ^ 64
     → below_of (codes "built" ∷ spaced_parts (decimal pages ++ 32 ∷ [] ++ decimal faults)) ≡ Some
@@ -90,11 +98,11 @@ shown_said (StoredAt version) small =
     numbered (codes "stored") version _ small (ap (λ found. none_if (is_some found)) (number64_is version small))
 shown_said (RemovedAt version) small =
     numbered (codes "removed") version _ small (ap (λ found. none_if (is_some found)) (number64_is version small))
-shown_said (ConflictAt version) small =
-    numbered (codes "conflict") version _ small (ap (λ found. none_if (is_some found)) (number64_is version small))
-shown_said IsAbsent valid = refl
-shown_said IsFull valid = ap (λ (l : List ℕ). below_of (codes "toomanynames" ∷ spaced_parts l)) decimal_10000
-shown_said (RefusedFor code number) less = refused_said code number less
+shown_said (Refuses refusal) valid = refused_said refusal valid
+shown_said (GroupedAs edits) less =
+    numbered (codes "grouped") edits _ (small_from edits less)
+    (ap (λ found. none_if (is_some found)) (number32_is edits less))
+shown_said (StoppedAt number refusal) valid = stopped_said number refusal valid.0 valid.1
 shown_said (Lines lines) valid =
     numbered (codes "text") (length lines) _ valid.0 (ap (option_map belows.Texts) (number64_is (length lines) valid.0))
 shown_said (Names names) valid =
@@ -157,10 +165,9 @@ build_fits (PagesTooLarge total) valid = tt
 pub shown_fit : (shown : Shown) → IsShown shown → FitFrom (below_shown shown) 0 (shown_lines shown)
 shown_fit (StoredAt version) valid = tt
 shown_fit (RemovedAt version) valid = tt
-shown_fit (ConflictAt version) valid = tt
-shown_fit IsAbsent valid = tt
-shown_fit IsFull valid = tt
-shown_fit (RefusedFor code number) valid = tt
+shown_fit (Refuses refusal) valid = tt
+shown_fit (GroupedAs edits) valid = tt
+shown_fit (StoppedAt number refusal) valid = tt
 shown_fit (Lines lines) valid = texts_fit_from (length lines) 0 lines valid.1
 shown_fit (Names names) valid = names_fit_from (length names) 0 names valid.1
 shown_fit (OfBuild built) valid = build_fits built valid
@@ -176,10 +183,9 @@ build_counted (PagesTooLarge total) = refl
 pub shown_counted : (shown : Shown) → length (shown_lines shown) ≡ count_of (below_shown shown)
 shown_counted (StoredAt version) = refl
 shown_counted (RemovedAt version) = refl
-shown_counted (ConflictAt version) = refl
-shown_counted IsAbsent = refl
-shown_counted IsFull = refl
-shown_counted (RefusedFor code number) = refl
+shown_counted (Refuses refusal) = refl
+shown_counted (GroupedAs edits) = refl
+shown_counted (StoppedAt number refusal) = refl
 shown_counted (Lines lines) = refl
 shown_counted (Names names) = length-map names name_line
 shown_counted (OfBuild built) = build_counted built

@@ -9,6 +9,7 @@ pub mod WordLaws
 pub mod NumberLaws
 pub mod OneLineLaws
 pub mod ReadLaws
+pub mod RefusalLaws
 pub mod ShownLaws
 pub mod StateLaws
 pub mod TextLaws

@@ -1,5 +1,5 @@
 -- Words that are numbers.
-use Rattle.std.specs.Prelude.{◌≡◌, ◌<◌, ◌≤◌, ◌^◌, ◌&&◌, ℕ, zero, suc, Bool, true, false, List, ◌∷◌, Option, Some, None, Result, Ok, Err, MatchResult, nat_lt, bytes_eq, length, if◌then◌else◌}
+use Rattle.std.specs.Prelude.{◌≡◌, ◌<◌, ◌≤◌, ◌^◌, ◌&&◌, ℕ, zero, suc, Bool, true, false, List, ◌∷◌, Option, Some, None, Result, Ok, Err, MatchResult, nat_lt, bytes_eq, is_some, length, if◌then◌else◌}
 use Rattle.std.specs.Borrow.{Bor}
 use Rattle.std.specs.Fmt.{decimal}
 use Rattle.std.specs.Str.{IsUtf8}
@@ -43,6 +43,19 @@ number_says bits n word e =
     let less : digits_value 10 word < 2 ^ bits = ltb-true _ _ parts.0 in
     let equal : decimal (digits_value 10 word) ≡ word = (bytes_eq-Decides _ _).0 parts.1 in
     (subst (λ m. m < 2 ^ bits) told.1 less, subst (λ m. decimal m ≡ word) told.1 equal)
+
+-- the two sizes of numbers
+pub number64_is : (n : ℕ) → n < 2 ^ 64 → number_of 64 (decimal n) ≡ Some n
+number64_is n small = number_is 64 n (decimal n) small small refl
+
+pub number32_is : (n : ℕ) → n < 2 ^ 32 → number_of 32 (decimal n) ≡ Some n
+number32_is n less = let small : n < 2 ^ 64 = omega arith in number_is 32 n (decimal n) less small refl
+
+-- what is read as some number is the word of one
+pub number_there : (bits : ℕ) (word : List ℕ) (found : Option ℕ) → number_of bits word ≡ found → is_some found ≡ true
+    → (n : ℕ) × (n < 2 ^ bits) × (decimal n ≡ word)
+number_there bits word (Some n) is some = let says = number_says bits n word is in (n, says.0, says.1)
+number_there bits word None is some = absurd (cc)
 
 none_from : (r : Option ℕ) → ((n : ℕ) → r ≡ Some n → ⊥) → r ≡ None
 none_from (Some n) none = absurd (none n refl)

@@ -11,7 +11,7 @@ use Rattle.dita_doc.specs.declared.plan.PlanStop.{PlanStop}
 use Rattle.dita_doc.specs.declared.plan.PlanStop.TheVariants as stops
 use Rattle.dita_doc.specs.Faults.{pyx_code_text, fault_code_text}
 use Rattle.fault_report.specs.FaultLine.{with_detail}
-use Rattle.transcript_text.specs.Transcript.{Shown, StoredAt, RemovedAt, ConflictAt, IsAbsent, IsFull, RefusedFor, Lines, Names, OfBuild, BuildShown, BuiltPages, StoppedBy, PagesTooLarge, IsBuildShown, IsShown, shown_words, shown_lines, built_words, built_lines, stop_text, IsNameShown, IsNameLine, name_line, PageMark, InOutlet, InRow, IsMark, mark_words, PageShown, IsPageShown, page_line, FaultShown, IsFaultShown, fault_line, EntryShown, IsEntryShown, entry_head, entry_text, PartShown, IsPage, IsContents, part_text, part_index, val_text, IsValShown, RowShown, IsRowShown, row_head, row_text, bar_line, Totals, end_head, IsTranscript, transcript_text}
+use Rattle.transcript_text.specs.Transcript.{RefusalShown, RefusedFor, ConflictAt, IsAbsent, IsFull, IsRefusalShown, refusal_words, Shown, StoredAt, RemovedAt, Refuses, GroupedAs, StoppedAt, Lines, Names, OfBuild, BuildShown, BuiltPages, StoppedBy, PagesTooLarge, IsBuildShown, IsShown, shown_words, shown_lines, built_words, built_lines, stop_text, IsNameShown, IsNameLine, name_line, PageMark, InOutlet, InRow, IsMark, mark_words, PageShown, IsPageShown, page_line, FaultShown, IsFaultShown, fault_line, EntryShown, IsEntryShown, entry_head, entry_text, PartShown, IsPage, IsContents, part_text, part_index, val_text, IsValShown, RowShown, IsRowShown, row_head, row_text, bar_line, Totals, end_head, IsTranscript, transcript_text}
 use Rattle.transcript_text.specs.Transcript as shown
 use Rattle.dita_doc.proofs.LinesLaws.{lines_after}
 use Rattle.transcript_text.specs.Told.{bar, first_line, entry_lines, row_lines, transcript_lines}
@@ -45,20 +45,29 @@ build_words_one_line (StoppedBy stop) valid = stop_one stop
 build_words_one_line (PagesTooLarge total) small =
     lacks_append 10 (codes "toolarge ") (decimal total) refl (number_one total small)
 
+refusal_one_line : (refusal : RefusalShown) → IsRefusalShown refusal → Lacks 10 (refusal_words refusal)
+refusal_one_line (RefusedFor code number) less =
+    spaced_one (codes "refused " ++ pyx_code_text code) (decimal number)
+    (lacks_append 10 (codes "refused ") (pyx_code_text code) refl (pyx_code_lacks 10 code (omega arith)))
+    (number_one number (small_from number less))
+refusal_one_line (ConflictAt version) small =
+    lacks_append 10 (codes "conflict ") (decimal version) refl (number_one version small)
+refusal_one_line IsAbsent valid = refl
+refusal_one_line IsFull valid =
+    lacks_append 10 (codes "toomanynames ") (decimal 10000) refl (number_one 10000 (omega arith))
+
 pub words_one_line : (shown : Shown) → IsShown shown → Lacks 10 (shown_words shown)
 words_one_line (StoredAt version) small =
     lacks_append 10 (codes "stored ") (decimal version) refl (number_one version small)
 words_one_line (RemovedAt version) small =
     lacks_append 10 (codes "removed ") (decimal version) refl (number_one version small)
-words_one_line (ConflictAt version) small =
-    lacks_append 10 (codes "conflict ") (decimal version) refl (number_one version small)
-words_one_line IsAbsent valid = refl
-words_one_line IsFull valid =
-    lacks_append 10 (codes "toomanynames ") (decimal 10000) refl (number_one 10000 (omega arith))
-words_one_line (RefusedFor code number) less =
-    spaced_one (codes "refused " ++ pyx_code_text code) (decimal number)
-    (lacks_append 10 (codes "refused ") (pyx_code_text code) refl (pyx_code_lacks 10 code (omega arith)))
-    (number_one number (small_from number less))
+words_one_line (Refuses refusal) valid = refusal_one_line refusal valid
+words_one_line (GroupedAs edits) less =
+    lacks_append 10 (codes "grouped ") (decimal edits) refl (number_one edits (small_from edits less))
+words_one_line (StoppedAt number refusal) valid =
+    spaced_one (codes "stopped " ++ decimal number) (refusal_words refusal)
+    (lacks_append 10 (codes "stopped ") (decimal number) refl (number_one number (small_from number valid.0)))
+    (refusal_one_line refusal valid.1)
 words_one_line (Lines lines) valid =
     lacks_append 10 (codes "text ") (decimal (length lines)) refl (number_one (length lines) valid.0)
 words_one_line (Names names) valid =
@@ -104,10 +113,9 @@ build_lines_one_line (PagesTooLarge total) valid = All-nil (Lacks 10)
 pub lines_one_line : (shown : Shown) → IsShown shown → All (Lacks 10) (shown_lines shown)
 lines_one_line (StoredAt version) valid = All-nil (Lacks 10)
 lines_one_line (RemovedAt version) valid = All-nil (Lacks 10)
-lines_one_line (ConflictAt version) valid = All-nil (Lacks 10)
-lines_one_line IsAbsent valid = All-nil (Lacks 10)
-lines_one_line IsFull valid = All-nil (Lacks 10)
-lines_one_line (RefusedFor code number) valid = All-nil (Lacks 10)
+lines_one_line (Refuses refusal) valid = All-nil (Lacks 10)
+lines_one_line (GroupedAs edits) valid = All-nil (Lacks 10)
+lines_one_line (StoppedAt number refusal) valid = All-nil (Lacks 10)
 lines_one_line (Lines lines) valid = All-weaker IsLineText (Lacks 10) (λ text is. is.one) lines valid.1
 lines_one_line (Names names) valid =
     All-map (Lacks 10) name_line names

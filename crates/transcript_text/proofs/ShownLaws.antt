@@ -1,6 +1,6 @@
 -- Replies with the lines below them, and what is shown.
-use Rattle.std.specs.Prelude.{◌≡◌, ◌+◌, ◌<◌, ◌≤◌, ◌^◌, ◌||◌, ℕ, zero, suc, Bool, true, false, List, [], ◌∷◌, ◌++◌, Option, Some, None, codes, length, map, drop, All, is_some, option_map, nat_lt, bytes_eq, if◌then◌else◌, MatchBool}
-use Rattle.std.specs.Fmt.{decimal, digits}
+use Rattle.std.specs.Prelude.{◌≡◌, ◌+◌, ◌<◌, ◌≤◌, ◌^◌, ◌||◌, ℕ, zero, suc, Bool, true, false, List, [], ◌∷◌, ◌++◌, Option, Some, None, codes, length, map, drop, All, option_map, nat_lt, bytes_eq, if◌then◌else◌, MatchBool}
+use Rattle.std.specs.Fmt.{decimal}
 use Rattle.std.specs.List.{list_any}
 use Rattle.std.proofs.Common.{refl, sym, ap, subst, ◌∙◌, arith, append_assoc, length-append}
 use Rattle.std.proofs.lemmas.Bool.{and_parts, ltb-true, ltb-false}
@@ -8,18 +8,16 @@ use Rattle.std.proofs.lemmas.Bool.Decides.{nat_tests}
 use Rattle.std.proofs.lemmas.List.{length-map}
 use Rattle.std.proofs.lemmas.List.Elements.{All-nil, All-cons}
 use Rattle.std.proofs.lemmas.Slice.Eq.{bytes_eq-Decides}
-use Rattle.dita_doc.specs.Faults.{pyx_code_text}
 use Rattle.dita_doc.specs.declared.plan.PlanStop.TheVariants as stops
 use Rattle.dita_doc.specs.Lines.{IsLineText}
-use Rattle.transcript_text.specs.Transcript.{Shown, StoredAt, RemovedAt, ConflictAt, IsAbsent, IsFull, RefusedFor, Lines, Names, OfBuild, BuiltPages, StoppedBy, PagesTooLarge, IsShown, shown_words, shown_lines, IsNameLine, name_line, PageShown, IsPageShown, page_line, FaultShown, IsFaultShown, fault_line}
+use Rattle.transcript_text.specs.Transcript.{Shown, StoredAt, RemovedAt, Refuses, GroupedAs, StoppedAt, Lines, Names, OfBuild, BuiltPages, StoppedBy, PagesTooLarge, IsShown, shown_words, shown_lines, IsNameLine, name_line, PageShown, IsPageShown, page_line, FaultShown, IsFaultShown, fault_line}
 use Rattle.transcript_text.specs.declared.below.Below.{Below}
 use Rattle.transcript_text.specs.declared.below.Below.TheVariants as belows
 use Rattle.dita_doc.specs.Bytes.{spaced_parts}
-use Rattle.transcript_text.specs.Words.{number_of}
-use Rattle.transcript_text.specs.Below.{count_of, FitFrom, IsPageText, IsFaultText, none_below, none_if, both, below_of, below_two, below_three, lone_words, numbered_words, is_among}
-use Rattle.transcript_text.proofs.CodeLaws.{pyx_code_found}
-use Rattle.transcript_text.proofs.NumberLaws.{number_says}
-use Rattle.transcript_text.proofs.WordLaws.{words_one, words_two, words_three}
+use Rattle.transcript_text.specs.Below.{count_of, FitFrom, IsPageText, IsFaultText, none_below, none_if, both, below_of, below_other, below_stopped, below_some, below_two, below_three, is_refusal, lone_words, numbered_words, is_among}
+use Rattle.transcript_text.proofs.NumberLaws.{number_says, number_there}
+use Rattle.transcript_text.proofs.RefusalLaws.{is_word, words_of_refusal, refusal_parts, stopped_parts, refusal_found}
+use Rattle.transcript_text.proofs.WordLaws.{words_one, words_two, words_three, words_same}
 
 -- what is shown with this reply and these lines
 pub record HasShown (reply : List ℕ) (lines : List (List ℕ)) : Type 0 where
@@ -162,16 +160,15 @@ lone_shown word e =
     let P : Type 0 = (shown : Shown) × ShowsAlone shown word in
     let plain : (shown : Shown) → IsShown shown → shown_lines shown ≡ [] → shown_words shown ≡ word
     → P = λ shown valid none is. (shown, record { valid = valid; words = is; below = none }) in
-    among P word (codes "absent") (drop 1 lone_words) _ refl e (plain IsAbsent tt refl) (λ e1.
-    among P word (codes "nomap") (drop 2 lone_words) _ refl e1 (plain (OfBuild (StoppedBy stops.NoMap)) tt refl) (λ e2.
-    among P word (codes "notmap") (drop 3 lone_words) _ refl e2 (plain (OfBuild (StoppedBy stops.NotMap)) tt refl)
+    among P word (codes "nomap") (drop 1 lone_words) _ refl e (plain (OfBuild (StoppedBy stops.NoMap)) tt refl) (λ e1.
+    among P word (codes "notmap") (drop 2 lone_words) _ refl e1 (plain (OfBuild (StoppedBy stops.NotMap)) tt refl)
+    (λ e2.
+    among P word (codes "noditaval") (drop 3 lone_words) _ refl e2 (plain (OfBuild (StoppedBy stops.NoDitaval)) tt refl)
     (λ e3.
-    among P word (codes "noditaval") (drop 4 lone_words) _ refl e3 (plain (OfBuild (StoppedBy stops.NoDitaval)) tt refl)
-    (λ e4.
-    among P word (codes "toomanynodes") (drop 5 lone_words) _ refl e4
-    (plain (OfBuild (StoppedBy stops.TooManyNodes)) tt refl) (λ e5.
-    among P word (codes "toomanypages") (drop 6 lone_words) _ refl e5
-    (plain (OfBuild (StoppedBy stops.TooManyPages)) tt refl) (λ e6. absurd (none_among word e6)))))))
+    among P word (codes "toomanynodes") (drop 4 lone_words) _ refl e3
+    (plain (OfBuild (StoppedBy stops.TooManyNodes)) tt refl) (λ e4.
+    among P word (codes "toomanypages") (drop 5 lone_words) _ refl e4
+    (plain (OfBuild (StoppedBy stops.TooManyPages)) tt refl) (λ e5. absurd (none_among word e5))))))
 
 numbered_shown : (word second : List ℕ) (n : ℕ) → n < 2 ^ 64 → decimal n ≡ second → is_among numbered_words word ≡ true
     → (shown : Shown) × ShowsAlone shown (word ++ 32 ∷ second)
@@ -192,20 +189,10 @@ numbered_shown word second n small is e =
     (λ e1.
     among P word (codes "removed") (drop 2 numbered_words) _ refl e1
     (plain (RemovedAt n) (codes "removed") small refl refl) (λ e2.
-    among P word (codes "conflict") (drop 3 numbered_words) _ refl e2
-    (plain (ConflictAt n) (codes "conflict") small refl refl) (λ e3.
-    among P word (codes "toolarge") (drop 4 numbered_words) _ refl e3
-    (plain (OfBuild (PagesTooLarge n)) (codes "toolarge") small refl refl) (λ e4. absurd (none_among word e4)))))
+    among P word (codes "toolarge") (drop 3 numbered_words) _ refl e2
+    (plain (OfBuild (PagesTooLarge n)) (codes "toolarge") small refl refl) (λ e3. absurd (none_among word e3))))
 
 -- replies of a word and a number, without lines, of a text and of names
-pub decimal_10000 : decimal 10000 ≡ codes "10000"
-unfolding digits
-decimal_10000 = refl
-
-number_there : (bits : ℕ) (word : List ℕ) (found : Option ℕ) → number_of bits word ≡ found → is_some found ≡ true
-    → (n : ℕ) × (n < 2 ^ bits) × (decimal n ≡ word)
-number_there bits word (Some n) is some = let says = number_says bits n word is in (n, says.0, says.1)
-number_there bits word None is some = absurd (cc)
 
 mapped : (f : ℕ → Below) (found : Option ℕ) (below : Below) → option_map f found ≡ Some below
     → (n : ℕ) × (found ≡ Some n) × (f n ≡ below)
@@ -227,9 +214,6 @@ either : (P : Type 0) (test : Bool) (found other : Option Below) (below : Below)
     → P
 either P true found other below e here there = here refl e
 either P false found other below e here there = there e
-
-is_word : (word other : List ℕ) → bytes_eq word other ≡ true → word ≡ other
-is_word word other e = (bytes_eq-Decides word other).0 e
 
 lines_shown : (n : ℕ) (second : List ℕ) (below : Below) (lines : List (List ℕ)) → n < 2 ^ 64 → decimal n ≡ second
     → belows.Texts n ≡ below → FitFrom below 0 lines → length lines ≡ count_of below
@@ -270,13 +254,13 @@ two_shown word second reply below lines is said fit many =
     (λ among found. let test = if_none _ below found in let n = number_there 64 second _ refl test.0
     in let plain = numbered_shown word second n.0 n.1 n.2 among in
     plainly plain.0 (word ++ 32 ∷ second) reply lines plain.1 is (no_lines lines below test.1 many))
-    (λ said1. either (HasShown reply lines) (bytes_eq word (codes "toomanynames")) _ _ below said1
-    (λ full found. let test = if_none _ below found in
+    (λ said1. either (HasShown reply lines) (bytes_eq word (codes "grouped")) _ _ below said1
+    (λ grouped found. let test = if_none _ below found in let n = number_there 32 second _ refl test.0 in
     record {
-      shown = IsFull;
-      valid = tt;
-      words = ap (λ (l : List ℕ). codes "toomanynames " ++ l) (decimal_10000 ∙ sym (is_word _ _ test.0))
-          ∙ ap (λ (l : List ℕ). l ++ 32 ∷ second) (sym (is_word _ _ full)) ∙ is;
+      shown = GroupedAs n.0;
+      valid = n.1;
+      words = ap (λ (l : List ℕ). codes "grouped " ++ l) n.2
+          ∙ ap (λ (l : List ℕ). l ++ 32 ∷ second) (sym (is_word _ _ grouped)) ∙ is;
       below = no_lines lines below test.1 many;
     })
     (λ said2. either (HasShown reply lines) (bytes_eq word (codes "text")) _ _ below said2
@@ -314,46 +298,83 @@ pages_shown pages faults second third below lines small few first last said fit 
       below = told.same;
     }
 
-refused_words : (code second third : List ℕ) → code ≡ second
-    → codes "refused " ++ code ++ codes " " ++ third ≡ codes "refused" ++ 32 ∷ (second ++ 32 ∷ third)
-refused_words code second third is =
-    rw is (ap (λ (l : List ℕ). codes "refused " ++ l) (append_assoc second (32 ∷ []) third))
-
 three_shown : (word second third reply : List ℕ) (below : Below) (lines : List (List ℕ))
     → word ++ 32 ∷ (second ++ 32 ∷ third) ≡ reply → below_three word second third ≡ Some below
     → FitFrom below 0 lines → length lines ≡ count_of below → HasShown reply lines
 three_shown word second third reply below lines is said fit many =
-    either (HasShown reply lines) (bytes_eq word (codes "refused")) _ _ below said
-    (λ refused found. let test = if_none _ below found in let parts = and_parts _ _ test.0 in
-    let code = pyx_code_found second parts.0 in let n = number_there 32 third _ refl parts.1 in
-    record {
-      shown = RefusedFor code.0 n.0;
-      valid = n.1;
-      words = ap (λ (l : List ℕ). codes "refused " ++ pyx_code_text code.0 ++ codes " " ++ l) n.2
-          ∙ refused_words (pyx_code_text code.0) second third code.1
-          ∙ ap (λ (l : List ℕ). l ++ 32 ∷ (second ++ 32 ∷ third)) (sym (is_word _ _ refused)) ∙ is;
-      below = no_lines lines below test.1 many;
-    })
-    (λ said1. either (HasShown reply lines) (bytes_eq word (codes "built")) _ _ below said1
+    either (HasShown reply lines) (bytes_eq word (codes "built")) _ _ below said
     (λ built found. let n = both_there _ _ below found in let first = number_says 64 n.0 second n.2
     in let last = number_says 64 n.1 third n.3 in
     subst (λ (l : List ℕ). HasShown l lines)
     (ap (λ (l : List ℕ). l ++ 32 ∷ (second ++ 32 ∷ third)) (sym (is_word _ _ built)) ∙ is)
     (pages_shown n.0 n.1 second third below lines first.0 last.0 first.1 last.1 n.4 fit many))
-    (λ none. absurd (no_such below none)))
+    (λ none. absurd (no_such below none))
 
-shown_by : (reply : List ℕ) (words : List (List ℕ)) (below : Below) (lines : List (List ℕ)) → spaced_parts reply ≡ words
-    → below_of words ≡ Some below → FitFrom below 0 lines → length lines ≡ count_of below → HasShown reply lines
-shown_by reply [] below lines is said fit many = absurd (no_such below said)
-shown_by reply (word ∷ []) below lines is said fit many =
+-- refusals, and groups that were stopped
+
+refuses_shown : (reply : List ℕ) (words : List (List ℕ)) (below : Below) (lines : List (List ℕ))
+    → spaced_parts reply ≡ words → is_refusal words ≡ true → Some none_below ≡ Some below
+    → length lines ≡ count_of below → HasShown reply lines
+refuses_shown reply words below lines is refused said many =
+    let found = refusal_found words refused in
+    let none : none_below ≡ below = cc in
+    record {
+      shown = Refuses found.0;
+      valid = found.1;
+      words = words_same _ reply (refusal_parts found.0 found.1 ∙ found.2 ∙ sym is);
+      below = no_lines lines below none many;
+    }
+
+stopped_shown : (second reply : List ℕ) (words : List (List ℕ)) (below : Below) (lines : List (List ℕ))
+    → spaced_parts reply ≡ codes "stopped" ∷ second ∷ words → below_stopped second words ≡ Some below
+    → length lines ≡ count_of below → HasShown reply lines
+stopped_shown second reply words below lines is said many =
+    let test = if_none _ below said in
+    let parts = and_parts _ _ test.0 in
+    let found = refusal_found words parts.0 in
+    let n = number_there 32 second _ refl parts.1 in
+    record {
+      shown = StoppedAt n.0 found.0;
+      valid = (n.1, found.1);
+      words = words_same _ reply
+          (stopped_parts n.0 found.0 n.1 found.1
+          ∙ ap (λ (word : List ℕ). codes "stopped" ∷ word ∷ words_of_refusal found.0) n.2
+          ∙ ap (λ (ws : List (List ℕ)). codes "stopped" ∷ second ∷ ws) found.2 ∙ sym is);
+      below = no_lines lines below test.1 many;
+    }
+
+-- all replies
+
+some_shown : (word second reply : List ℕ) (words : List (List ℕ)) (below : Below) (lines : List (List ℕ))
+    → spaced_parts reply ≡ word ∷ second ∷ words → below_some word second words ≡ Some below
+    → FitFrom below 0 lines → length lines ≡ count_of below → HasShown reply lines
+some_shown word second reply [] below lines is said fit many =
+    two_shown word second reply below lines (words_two reply word second is) said fit many
+some_shown word second reply (third ∷ []) below lines is said fit many =
+    three_shown word second third reply below lines (words_three reply word second third is) said fit many
+some_shown word second reply (third ∷ fourth ∷ words) below lines is said fit many = absurd (no_such below said)
+
+other_reply_shown : (reply : List ℕ) (words : List (List ℕ)) (below : Below) (lines : List (List ℕ))
+    → spaced_parts reply ≡ words → below_other words ≡ Some below → FitFrom below 0 lines
+    → length lines ≡ count_of below → HasShown reply lines
+other_reply_shown reply [] below lines is said fit many = absurd (no_such below said)
+other_reply_shown reply (word ∷ []) below lines is said fit many =
     let test = if_none _ below said in
     let plain = lone_shown word test.0 in
     plainly plain.0 word reply lines plain.1 (words_one reply word is) (no_lines lines below test.1 many)
-shown_by reply (word ∷ second ∷ []) below lines is said fit many =
-    two_shown word second reply below lines (words_two reply word second is) said fit many
-shown_by reply (word ∷ second ∷ third ∷ []) below lines is said fit many =
-    three_shown word second third reply below lines (words_three reply word second third is) said fit many
-shown_by reply (word ∷ second ∷ third ∷ fourth ∷ words) below lines is said fit many = absurd (no_such below said)
+other_reply_shown reply (word ∷ second ∷ words) below lines is said fit many =
+    either (HasShown reply lines) (bytes_eq word (codes "stopped")) _ _ below said
+    (λ stopped found. stopped_shown second reply words below lines
+    (is ∙ ap (λ (w : List ℕ). w ∷ second ∷ words) (is_word _ _ stopped)) found many)
+    (λ said1. some_shown word second reply words below lines is said1 fit many)
+
+shown_by : (reply : List ℕ) (words : List (List ℕ)) (below : Below) (lines : List (List ℕ))
+    → spaced_parts reply ≡ words → below_of words ≡ Some below → FitFrom below 0 lines
+    → length lines ≡ count_of below → HasShown reply lines
+shown_by reply words below lines is said fit many =
+    either (HasShown reply lines) (is_refusal words) _ _ below said
+    (λ refused found. refuses_shown reply words below lines is refused found many)
+    (λ said1. other_reply_shown reply words below lines is said1 fit many)
 
 -- what the reply announces stands below, and so it is shown
 pub shown_of : (reply : List ℕ) (below : Below) (lines : List (List ℕ)) → below_of (spaced_parts reply) ≡ Some below

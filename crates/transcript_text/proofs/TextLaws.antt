@@ -4,7 +4,7 @@ use Rattle.std.specs.Fmt.{decimal}
 use Rattle.std.proofs.Common.{refl, sym, ap, ◌∙◌, inl, inr, arith}
 use Rattle.transcript_text.specs.Transcript.{IsNameShown, name_line, PageMark, InOutlet, InRow, IsMark, mark_words, PageShown, page_line}
 use Rattle.dita_doc.specs.Bytes.{spaced_parts}
-use Rattle.transcript_text.specs.Below.{IsLastNumber, IsNameText, IsPageText, below_of}
+use Rattle.transcript_text.specs.Below.{IsLastNumber, IsNameText, IsPageText, is_refusal, below_some}
 use Rattle.dita_doc.proofs.LackLaws.{lacks_decimal, lacks_name}
 use Rattle.transcript_text.proofs.WordLaws.{words_behind, words_some, one_word, words_same}
 
@@ -138,13 +138,23 @@ page_text_by text name mark rest false named words kind none = λ is.
     let same : told.rest ≡ rest = cc in
     none (rw (← same) told.last)
 
--- a reply has three words at most
-four_words : (a b c : List ℕ) (words : List (List ℕ)) → (words ≡ [] → ⊥) → None ≡ below_of (a ∷ b ∷ c ∷ words)
-four_words a b c [] some = absurd (some refl)
-four_words a b c (word ∷ words) some = refl
+-- a refusal has three words at most
+fourth_word : (a b c : List ℕ) (words : List (List ℕ)) → (words ≡ [] → ⊥) → false ≡ is_refusal (a ∷ b ∷ c ∷ words)
+fourth_word a b c [] some = absurd (some refl)
+fourth_word a b c (word ∷ words) some = refl
 
-pub below_many : (reply first a second b third c : List ℕ) → spaced_parts reply ≡ first ∷ spaced_parts a
+pub refusal_many : (reply first a second b third c : List ℕ) → spaced_parts reply ≡ first ∷ spaced_parts a
     → spaced_parts a ≡ second ∷ spaced_parts b → spaced_parts b ≡ third ∷ spaced_parts c
-    → None ≡ below_of (spaced_parts reply)
-below_many reply first a second b third c one two three =
-    rw (one, two, three) (four_words first second third (spaced_parts c) (words_some c))
+    → false ≡ is_refusal (spaced_parts reply)
+refusal_many reply first a second b third c one two three =
+    rw (one, two, three) (fourth_word first second third (spaced_parts c) (words_some c))
+
+-- and so has another reply, but for a group that was stopped
+fourth_behind : (a b c : List ℕ) (words : List (List ℕ)) → (words ≡ [] → ⊥) → None ≡ below_some a b (c ∷ words)
+fourth_behind a b c [] some = absurd (some refl)
+fourth_behind a b c (word ∷ words) some = refl
+
+pub reply_many : (first second b third c : List ℕ) → spaced_parts b ≡ third ∷ spaced_parts c
+    → None ≡ below_some first second (spaced_parts b)
+reply_many first second b third c three =
+    rw three (fourth_behind first second third (spaced_parts c) (words_some c))

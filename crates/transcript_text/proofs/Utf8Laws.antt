@@ -13,7 +13,7 @@ use Rattle.dita_doc.specs.Desk.{stored_limit}
 use Rattle.dita_doc.specs.Faults.{pyx_code_text, fault_code_text}
 use Rattle.dita_doc.proofs.Utf8Laws.{utf8_cons}
 use Rattle.fault_report.specs.FaultLine.{with_detail}
-use Rattle.transcript_text.specs.Transcript.{Shown, StoredAt, RemovedAt, ConflictAt, IsAbsent, IsFull, RefusedFor, Lines, Names, OfBuild, BuildShown, BuiltPages, StoppedBy, PagesTooLarge, IsBuildShown, IsShown, shown_words, built_words, stop_text, IsNameShown, PageMark, InOutlet, InRow, IsMark, mark_words}
+use Rattle.transcript_text.specs.Transcript.{RefusalShown, RefusedFor, ConflictAt, IsAbsent, IsFull, IsRefusalShown, refusal_words, Shown, StoredAt, RemovedAt, Refuses, GroupedAs, StoppedAt, Lines, Names, OfBuild, BuildShown, BuiltPages, StoppedBy, PagesTooLarge, IsBuildShown, IsShown, shown_words, built_words, stop_text, IsNameShown, PageMark, InOutlet, InRow, IsMark, mark_words}
 use Rattle.transcript_text.specs.declared.below.Below.{Below}
 use Rattle.transcript_text.specs.declared.below.Below.TheVariants as belows
 use Rattle.transcript_text.specs.Below.{count_of, FitsAt, IsNameText, IsPageText, IsFaultText, below_of}
@@ -57,16 +57,23 @@ build_utf8 (BuiltPages pages faults) valid =
 build_utf8 (StoppedBy stop) valid = low_utf8 (stop_text stop) (stop_low stop)
 build_utf8 (PagesTooLarge total) small = numbered_utf8 (codes "toolarge ") total refl small
 
-words_utf8 : (shown : Shown) → IsShown shown → IsUtf8 (shown_words shown)
-words_utf8 (StoredAt version) small = numbered_utf8 (codes "stored ") version refl small
-words_utf8 (RemovedAt version) small = numbered_utf8 (codes "removed ") version refl small
-words_utf8 (ConflictAt version) small = numbered_utf8 (codes "conflict ") version refl small
-words_utf8 IsAbsent valid = low_utf8 (codes "absent") refl
-words_utf8 IsFull valid = numbered_utf8 (codes "toomanynames ") stored_limit refl (omega arith)
-words_utf8 (RefusedFor code number) less =
+refusal_utf8 : (refusal : RefusalShown) → IsRefusalShown refusal → IsUtf8 (refusal_words refusal)
+refusal_utf8 (RefusedFor code number) less =
     spaced_utf8 (codes "refused " ++ pyx_code_text code) (decimal number)
     (IsUtf8-append (codes "refused ") (pyx_code_text code) (low_utf8 (codes "refused ") refl)
     (low_utf8 (pyx_code_text code) (pyx_code_low code))) (number_utf8 number (small_from number less))
+refusal_utf8 (ConflictAt version) small = numbered_utf8 (codes "conflict ") version refl small
+refusal_utf8 IsAbsent valid = low_utf8 (codes "absent") refl
+refusal_utf8 IsFull valid = numbered_utf8 (codes "toomanynames ") stored_limit refl (omega arith)
+
+words_utf8 : (shown : Shown) → IsShown shown → IsUtf8 (shown_words shown)
+words_utf8 (StoredAt version) small = numbered_utf8 (codes "stored ") version refl small
+words_utf8 (RemovedAt version) small = numbered_utf8 (codes "removed ") version refl small
+words_utf8 (Refuses refusal) valid = refusal_utf8 refusal valid
+words_utf8 (GroupedAs edits) less = numbered_utf8 (codes "grouped ") edits refl (small_from edits less)
+words_utf8 (StoppedAt number refusal) valid =
+    spaced_utf8 (codes "stopped " ++ decimal number) (refusal_words refusal)
+    (numbered_utf8 (codes "stopped ") number refl (small_from number valid.0)) (refusal_utf8 refusal valid.1)
 words_utf8 (Lines lines) valid = numbered_utf8 (codes "text ") (length lines) refl valid.0
 words_utf8 (Names names) valid = numbered_utf8 (codes "names ") (length names) refl valid.0
 words_utf8 (OfBuild built) valid = build_utf8 built valid

@@ -1,5 +1,5 @@
 -- What the words of a reply say of the lines below its entry, and which lines fit there.
-use Rattle.std.specs.Prelude.{◌≡◌, ◌+◌, ◌<◌, ◌^◌, ◌&&◌, ◌++◌, ℕ, Bool, [], ◌∷◌, Option, Some, None, codes, length, nat_lt, bytes_eq, is_some, option_map, if◌then◌else◌, MatchBool}
+use Rattle.std.specs.Prelude.{◌≡◌, ◌+◌, ◌<◌, ◌^◌, ◌&&◌, ◌++◌, ℕ, Bool, false, [], ◌∷◌, Option, Some, None, codes, length, nat_lt, bytes_eq, is_some, option_map, if◌then◌else◌, MatchBool}
 use Rattle.std.specs.List.{list_any}
 use Rattle.std.specs.Fmt.{decimal}
 use Rattle.dita_doc.specs.declared.fault.FaultCode.{FaultCode}
@@ -29,15 +29,32 @@ is_pyx_code word = list_any (λ code. bytes_eq (pyx_code_text code) word) PYX_CO
 abbrev pub is_fault_code : Bytes → Bool
 is_fault_code word = list_any (λ code. bytes_eq (fault_code_text code) word) FAULT_CODES
 
--- replies of one word
+-- whether words are those of a refusal
+
+abbrev pub is_refusal_two : Bytes → Bytes → Bool
+is_refusal_two word second =
+    if bytes_eq word (codes "conflict") then is_some (number_of 64 second)
+    else bytes_eq word (codes "toomanynames") && bytes_eq second (codes "10000")
+
+abbrev pub is_refusal_three : Bytes → Bytes → Bytes → Bool
+is_refusal_three word second third =
+    bytes_eq word (codes "refused") && (is_pyx_code second && is_some (number_of 32 third))
+
+abbrev pub is_refusal : Words → Bool
+is_refusal [] = false
+is_refusal (word ∷ []) = bytes_eq word (codes "absent")
+is_refusal (word ∷ second ∷ []) = is_refusal_two word second
+is_refusal (word ∷ second ∷ third ∷ []) = is_refusal_three word second third
+is_refusal (word ∷ second ∷ third ∷ fourth ∷ words) = false
+
+-- other replies of one word
 abbrev pub lone_words : Words
 lone_words =
-    codes "absent" ∷ codes "nomap" ∷ codes "notmap" ∷ codes "noditaval" ∷ codes "toomanynodes"
-    ∷ codes "toomanypages" ∷ []
+    codes "nomap" ∷ codes "notmap" ∷ codes "noditaval" ∷ codes "toomanynodes" ∷ codes "toomanypages" ∷ []
 
--- replies of a word and a number, without lines
+-- other replies of a word and a number below 2^64, without lines
 abbrev pub numbered_words : Words
-numbered_words = codes "stored" ∷ codes "removed" ∷ codes "conflict" ∷ codes "toolarge" ∷ []
+numbered_words = codes "stored" ∷ codes "removed" ∷ codes "toolarge" ∷ []
 
 abbrev pub is_among : Words → Bytes → Bool
 is_among words word = list_any (bytes_eq word) words
@@ -56,24 +73,35 @@ below_one word = none_if (is_among lone_words word)
 abbrev pub below_two : Bytes → Bytes → Option Below
 below_two word second =
     if is_among numbered_words word then none_if (is_some (number_of 64 second))
-    else if bytes_eq word (codes "toomanynames") then none_if (bytes_eq second (codes "10000"))
+    else if bytes_eq word (codes "grouped") then none_if (is_some (number_of 32 second))
     else if bytes_eq word (codes "text") then option_map Texts (number_of 64 second)
     else if bytes_eq word (codes "names") then option_map Names (number_of 64 second)
     else None
 
 abbrev pub below_three : Bytes → Bytes → Bytes → Option Below
 below_three word second third =
-    if bytes_eq word (codes "refused") then none_if (is_pyx_code second && is_some (number_of 32 third))
-    else if bytes_eq word (codes "built") then both (number_of 64 second) (number_of 64 third)
-    else None
+    if bytes_eq word (codes "built") then both (number_of 64 second) (number_of 64 third) else None
+
+-- other replies of two words or three
+abbrev pub below_some : Bytes → Bytes → Words → Option Below
+below_some word second [] = below_two word second
+below_some word second (third ∷ []) = below_three word second third
+below_some word second (third ∷ fourth ∷ words) = None
+
+-- behind the word for a group that was stopped: the number of an edit, and its refusal
+abbrev pub below_stopped : Bytes → Words → Option Below
+below_stopped number refusal = none_if (is_refusal refusal && is_some (number_of 32 number))
+
+-- what the words of a reply say if they are no refusal
+abbrev pub below_other : Words → Option Below
+below_other [] = None
+below_other (word ∷ []) = below_one word
+below_other (word ∷ second ∷ words) =
+    if bytes_eq word (codes "stopped") then below_stopped second words else below_some word second words
 
 -- what the words of a reply say; if they are no reply, nothing
 abbrev pub below_of : Words → Option Below
-below_of [] = None
-below_of (word ∷ []) = below_one word
-below_of (word ∷ second ∷ []) = below_two word second
-below_of (word ∷ second ∷ third ∷ []) = below_three word second third
-below_of (word ∷ second ∷ third ∷ fourth ∷ words) = None
+below_of words = if is_refusal words then Some none_below else below_other words
 
 -- the lines below an entry
 

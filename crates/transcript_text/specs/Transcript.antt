@@ -14,7 +14,7 @@ use Rattle.dita_doc.specs.PyxEscapes.{escaped}
 use Rattle.dita_doc.specs.Faults.{pyx_code_text}
 use Rattle.dita_doc.specs.Lines.{lines_of, line, IsLineText}
 use Rattle.dita_doc.specs.Name.{is_name}
-use Rattle.dita_doc.specs.Desk.{Reply, IsStored, IsRemoved, Bytes, NameList, IsRefused, Conflict, Absent, TooManyNames, Begun, stored_limit}
+use Rattle.dita_doc.specs.Desk.{Refusal, BodyFault, OtherVersion, NotStored, NoRoom, Reply, IsStored, IsRemoved, Bytes, NameList, IsRefused, Conflict, Absent, TooManyNames, Begun, IsGrouped, IsStopped, stored_limit}
 use Rattle.dita_doc.specs.History.{Entry}
 use Rattle.fault_report.specs.FaultLine.{line_of}
 
@@ -42,14 +42,20 @@ pub data BuildShown : Type 0 where
   StoppedBy : PlanStop → BuildShown
   PagesTooLarge : (total : ℕ) → BuildShown
 
+-- why a request is refused, or an edit of a group
+pub data RefusalShown : Type 0 where
+  RefusedFor : (code : PyxCode) (line : ℕ) → RefusalShown
+  ConflictAt : (version : ℕ) → RefusalShown
+  IsAbsent : RefusalShown
+  IsFull : RefusalShown
+
 -- what a reply is, and of a build what it gave
 pub data Shown : Type 0 where
   StoredAt : (version : ℕ) → Shown
   RemovedAt : (version : ℕ) → Shown
-  ConflictAt : (version : ℕ) → Shown
-  IsAbsent : Shown
-  IsFull : Shown
-  RefusedFor : (code : PyxCode) (line : ℕ) → Shown
+  Refuses : RefusalShown → Shown
+  GroupedAs : (edits : ℕ) → Shown
+  StoppedAt : (number : ℕ) (refusal : RefusalShown) → Shown
   Lines : (lines : List (List ℕ)) → Shown
   Names : (names : List (List ℕ × ℕ)) → Shown
   OfBuild : BuildShown → Shown
@@ -66,14 +72,19 @@ built_words (BuiltPages pages faults) = codes "built " ++ decimal (length pages)
 built_words (StoppedBy stop) = stop_text stop
 built_words (PagesTooLarge total) = codes "toolarge " ++ decimal total
 
+abbrev pub refusal_words : RefusalShown → List ℕ
+refusal_words (RefusedFor code number) = codes "refused " ++ pyx_code_text code ++ codes " " ++ decimal number
+refusal_words (ConflictAt version) = codes "conflict " ++ decimal version
+refusal_words IsAbsent = codes "absent"
+refusal_words IsFull = codes "toomanynames " ++ decimal stored_limit
+
 -- the words of an entry's line behind its three numbers
 abbrev pub shown_words : Shown → List ℕ
 shown_words (StoredAt version) = codes "stored " ++ decimal version
 shown_words (RemovedAt version) = codes "removed " ++ decimal version
-shown_words (ConflictAt version) = codes "conflict " ++ decimal version
-shown_words IsAbsent = codes "absent"
-shown_words IsFull = codes "toomanynames " ++ decimal stored_limit
-shown_words (RefusedFor code number) = codes "refused " ++ pyx_code_text code ++ codes " " ++ decimal number
+shown_words (Refuses refusal) = refusal_words refusal
+shown_words (GroupedAs edits) = codes "grouped " ++ decimal edits
+shown_words (StoppedAt number refusal) = codes "stopped " ++ decimal number ++ codes " " ++ refusal_words refusal
 shown_words (Lines lines) = codes "text " ++ decimal (length lines)
 shown_words (Names names) = codes "names " ++ decimal (length names)
 shown_words (OfBuild built) = built_words built
@@ -100,10 +111,9 @@ built_lines (PagesTooLarge total) = []
 abbrev pub shown_lines : Shown → List (List ℕ)
 shown_lines (StoredAt version) = []
 shown_lines (RemovedAt version) = []
-shown_lines (ConflictAt version) = []
-shown_lines IsAbsent = []
-shown_lines IsFull = []
-shown_lines (RefusedFor code number) = []
+shown_lines (Refuses refusal) = []
+shown_lines (GroupedAs edits) = []
+shown_lines (StoppedAt number refusal) = []
 shown_lines (Lines lines) = lines
 shown_lines (Names names) = map name_line names
 shown_lines (OfBuild built) = built_lines built
@@ -218,13 +228,18 @@ IsBuildShown (BuiltPages pages faults) = Fits64 (length pages) × Fits64 (length
 IsBuildShown (StoppedBy stop) = Unit {0}
 IsBuildShown (PagesTooLarge total) = Fits64 total
 
+abbrev pub IsRefusalShown : RefusalShown → Type 0
+IsRefusalShown (RefusedFor code number) = Fits32 number
+IsRefusalShown (ConflictAt version) = Fits64 version
+IsRefusalShown IsAbsent = Unit {0}
+IsRefusalShown IsFull = Unit {0}
+
 abbrev pub IsShown : Shown → Type 0
 IsShown (StoredAt version) = Fits64 version
 IsShown (RemovedAt version) = Fits64 version
-IsShown (ConflictAt version) = Fits64 version
-IsShown IsAbsent = Unit {0}
-IsShown IsFull = Unit {0}
-IsShown (RefusedFor code number) = Fits32 number
+IsShown (Refuses refusal) = IsRefusalShown refusal
+IsShown (GroupedAs edits) = Fits32 edits
+IsShown (StoppedAt number refusal) = Fits32 number × IsRefusalShown refusal
 IsShown (Lines lines) = Fits64 (length lines) × All IsLineText lines
 IsShown (Names names) = Fits64 (length names) × All IsNameLine names
 IsShown (OfBuild built) = IsBuildShown built
@@ -266,6 +281,13 @@ pub record IsTranscript (transcript : Transcript) : Type 0 where
 abbrev pub fault_shown : Fault → FaultShown
 fault_shown fault = record { name = fault.name; line = fault.line; code = fault.code; detail = escaped fault.detail }
 
+-- why an edit of a group is refused, as it is shown
+abbrev pub refusal_shown : Refusal → RefusalShown
+refusal_shown (BodyFault fault) = RefusedFor fault.code fault.line
+refusal_shown (OtherVersion version) = ConflictAt version
+refusal_shown NotStored = IsAbsent
+refusal_shown (NoRoom limit) = IsFull
+
 -- what is shown of a build is there exactly for the reply that a build has its place: else nothing is shown
 abbrev pub unless_built : Option BuildShown → Shown → Option Shown
 unless_built None shown = Some shown
@@ -277,11 +299,13 @@ reply_shown (IsStored version) built = unless_built built (StoredAt version)
 reply_shown (IsRemoved version) built = unless_built built (RemovedAt version)
 reply_shown (Bytes bytes) built = unless_built built (Lines (lines_of bytes))
 reply_shown (NameList names) built = unless_built built (Names names)
-reply_shown (IsRefused fault) built = unless_built built (RefusedFor fault.code fault.line)
-reply_shown (Conflict version) built = unless_built built (ConflictAt version)
-reply_shown Absent built = unless_built built IsAbsent
-reply_shown (TooManyNames limit) built = unless_built built IsFull
+reply_shown (IsRefused fault) built = unless_built built (Refuses (RefusedFor fault.code fault.line))
+reply_shown (Conflict version) built = unless_built built (Refuses (ConflictAt version))
+reply_shown Absent built = unless_built built (Refuses IsAbsent)
+reply_shown (TooManyNames limit) built = unless_built built (Refuses IsFull)
 reply_shown Begun built = option_map OfBuild built
+reply_shown (IsGrouped edits) built = unless_built built (GroupedAs edits)
+reply_shown (IsStopped number refusal) built = unless_built built (StoppedAt number (refusal_shown refusal))
 
 abbrev pub entry_with : ℕ → Entry → Shown → EntryShown
 entry_with place entry shown = record { place = place; session = entry.session; number = entry.number; shown = shown }

@@ -3,7 +3,7 @@ use Rattle.std.specs.Prelude.{◌≡◌, ◌++◌, ℕ, Bool, true, false, List,
 use Rattle.std.specs.Fmt.{decimal}
 use Rattle.std.specs.List.{flat_map}
 use Rattle.std.specs.Str.{is_utf8}
-use Rattle.dita_doc.specs.Desk.{Reply, IsStored, IsRemoved, Bytes, NameList, IsRefused, Conflict, Absent, TooManyNames, Begun}
+use Rattle.dita_doc.specs.Desk.{Reply, IsStored, IsRemoved, Bytes, NameList, IsRefused, Conflict, Absent, TooManyNames, Begun, IsGrouped, IsStopped}
 use Rattle.dita_doc.specs.Lines.{line}
 use Rattle.transcript_text.specs.Transcript.{Shown, PageShown, BuildShown, BuiltPages, StoppedBy, PagesTooLarge, InOutlet, InRow, shown_words, shown_lines, bar_line, fault_shown}
 use Rattle.transcript_text.specs.Transcript as shown
@@ -40,6 +40,8 @@ is_begun (Conflict version) = false
 is_begun Absent = false
 is_begun (TooManyNames limit) = false
 is_begun Begun = true
+is_begun (IsGrouped edits) = false
+is_begun (IsStopped number refusal) = false
 
 -- the bytes of a reply that has some are UTF-8
 abbrev pub IsText : Reply → Type 0
@@ -52,6 +54,8 @@ IsText (Conflict version) = Unit {0}
 IsText Absent = Unit {0}
 IsText (TooManyNames limit) = Unit {0}
 IsText Begun = Unit {0}
+IsText (IsGrouped edits) = Unit {0}
+IsText (IsStopped number refusal) = Unit {0}
 
 -- the beginning of an entry: its three numbers
 abbrev pub numbers_text : ℕ → ℕ → ℕ → List ℕ

@@ -77,18 +77,60 @@ pub const FAULT_CODES: [FaultCode; 31] = [
 pub fn read_reply(reply: &[u8]) -> Option<Below>
     ensures { result ≡ below_spec.below_of (bytes_spec.spaced_parts reply.now) }
 {
+    if is_refusal(reply) {
+        Some(Below::Texts(0))
+    } else {
+        read_other(reply)
+    }
+}
+
+fn is_refusal(words: &[u8]) -> bool
+    ensures { result ≡ below_spec.is_refusal (bytes_spec.spaced_parts words.now) }
+{
+    let (first, rest) = split_word(words);
+    let Some(rest) = rest else {
+        return first == b"absent".as_slice();
+    };
+    let (second, rest) = split_word(rest);
+    let Some(rest) = rest else {
+        return is_refusal_of_two(first, second);
+    };
+    let (third, rest) = split_word(rest);
+    match rest {
+        None => is_refusal_of_three(first, second, third),
+        Some(_) => false,
+    }
+}
+
+fn is_refusal_of_two(word: &[u8], second: &[u8]) -> bool
+    ensures { result ≡ below_spec.is_refusal_two word.now second.now }
+{
+    if word == b"conflict".as_slice() {
+        number64(second).is_some()
+    } else {
+        word == b"toomanynames".as_slice() && second == b"10000".as_slice()
+    }
+}
+
+fn is_refusal_of_three(word: &[u8], second: &[u8], third: &[u8]) -> bool
+    ensures { result ≡ below_spec.is_refusal_three word.now second.now third.now }
+{
+    word == b"refused".as_slice() && is_pyx_code(second) && number32(third).is_some()
+}
+
+// The same for a reply that is no refusal.
+fn read_other(reply: &[u8]) -> Option<Below>
+    ensures { result ≡ below_spec.below_other (bytes_spec.spaced_parts reply.now) }
+{
     let (first, rest) = split_word(reply);
     let Some(rest) = rest else {
         return read_one(first);
     };
     let (second, rest) = split_word(rest);
-    let Some(rest) = rest else {
-        return read_two(first, second);
-    };
-    let (third, rest) = split_word(rest);
-    match rest {
-        None => read_three(first, second, third),
-        Some(_) => None,
+    if first == b"stopped".as_slice() {
+        read_stopped(second, rest)
+    } else {
+        read_some(first, second, rest)
     }
 }
 
@@ -105,12 +147,38 @@ fn read_one(word: &[u8]) -> Option<Below>
 fn is_lone(word: &[u8]) -> bool
     ensures { result ≡ below_spec.is_among below_spec.lone_words word.now }
 {
-    word == b"absent".as_slice()
-        || word == b"nomap".as_slice()
+    word == b"nomap".as_slice()
         || word == b"notmap".as_slice()
         || word == b"noditaval".as_slice()
         || word == b"toomanynodes".as_slice()
         || word == b"toomanypages".as_slice()
+}
+
+// A group that was stopped at the edit of this number, for this refusal.
+fn read_stopped(number: &[u8], refusal: Option<&[u8]>) -> Option<Below>
+    ensures { result
+        ≡ below_spec.below_stopped number.now (words_spec.words_in refusal.entry) }
+{
+    if is_refusal(refusal?) && number32(number).is_some() {
+        Some(Below::Texts(0))
+    } else {
+        None
+    }
+}
+
+// A reply of two words, or of three if there are more.
+fn read_some(word: &[u8], second: &[u8], rest: Option<&[u8]>) -> Option<Below>
+    ensures { result
+        ≡ below_spec.below_some word.now second.now (words_spec.words_in rest.entry) }
+{
+    let Some(rest) = rest else {
+        return read_two(word, second);
+    };
+    let (third, rest) = split_word(rest);
+    match rest {
+        None => read_three(word, second, third),
+        Some(_) => None,
+    }
 }
 
 fn read_two(word: &[u8], second: &[u8]) -> Option<Below>
@@ -120,12 +188,9 @@ fn read_two(word: &[u8], second: &[u8]) -> Option<Below>
         number64(second)?;
         return Some(Below::Texts(0));
     }
-    if word == b"toomanynames".as_slice() {
-        return if second == b"10000".as_slice() {
-            Some(Below::Texts(0))
-        } else {
-            None
-        };
+    if word == b"grouped".as_slice() {
+        number32(second)?;
+        return Some(Below::Texts(0));
     }
     if word == b"text".as_slice() {
         return Some(Below::Texts(number64(second)?));
@@ -139,22 +204,12 @@ fn read_two(word: &[u8], second: &[u8]) -> Option<Below>
 fn is_numbered(word: &[u8]) -> bool
     ensures { result ≡ below_spec.is_among below_spec.numbered_words word.now }
 {
-    word == b"stored".as_slice()
-        || word == b"removed".as_slice()
-        || word == b"conflict".as_slice()
-        || word == b"toolarge".as_slice()
+    word == b"stored".as_slice() || word == b"removed".as_slice() || word == b"toolarge".as_slice()
 }
 
 fn read_three(word: &[u8], second: &[u8], third: &[u8]) -> Option<Below>
     ensures { result ≡ below_spec.below_three word.now second.now third.now }
 {
-    if word == b"refused".as_slice() {
-        if !is_pyx_code(second) {
-            return None;
-        }
-        number32(third)?;
-        return Some(Below::Texts(0));
-    }
     if word == b"built".as_slice() {
         return Some(Below::Built(number64(second)?, number64(third)?));
     }

@@ -12,7 +12,9 @@ ghost use Rattle.transcript_text.specs.Transcript as transcript_spec;
 ghost use Rattle.transcript_text.specs.Written as written_spec;
 
 use crate::built::{BuiltText, PageMark};
-use dita_doc::{Entry, Fault, List, Name, NoMemory, PlanStop, Read, Reply, split_at_first};
+use dita_doc::{
+    EditFault, Entry, Fault, List, Name, NoMemory, PlanStop, Read, Reply, split_at_first,
+};
 use fault_report::fault_line;
 use std::alloc::{AllocError, Global};
 
@@ -87,17 +89,51 @@ fn append_reply(alloc: Global, out: &mut List<u8>, reply: &Reply) -> Result<(), 
         Reply::Removed(version) => append_number(alloc, out, b"removed ", *version),
         Reply::Bytes(bytes) => append_text(alloc, out, bytes.as_slice()),
         Reply::NameList(names) => append_names(alloc, out, names.as_slice()),
-        Reply::Refused(fault) => {
-            let line = fault.line;
+        Reply::Refused(fault) => append_refusal(alloc, out, EditFault::Refused(*fault)),
+        Reply::Conflict(version) => append_refusal(alloc, out, EditFault::Conflict(*version)),
+        Reply::Absent => append_refusal(alloc, out, EditFault::Absent),
+        Reply::TooManyNames(limit) => append_refusal(alloc, out, EditFault::TooManyNames(*limit)),
+        Reply::Begun => Ok(()),
+        Reply::Grouped(edits) => append_number(alloc, out, b"grouped ", u64::from(*edits)),
+        Reply::Stopped(number, fault) => append_stopped(alloc, out, *number, *fault),
+    }
+}
+
+// Appends a refusal. The limit of names is always the same.
+fn append_refusal(alloc: Global, out: &mut List<u8>, fault: EditFault) -> Result<(), AllocError>
+    ensures text { let refusal = transcript_spec.refusal_shown (seen_spec.refusal_seen fault) in
+        OnOk result
+        (out.new ≡ out.old ++ lines_spec.line (transcript_spec.refusal_words refusal)) }
+    ensures form { let refusal = transcript_spec.refusal_shown (seen_spec.refusal_seen fault) in
+        OnOk result (transcript_spec.IsRefusalShown refusal) }
+{
+    match fault {
+        EditFault::Refused(fault) => {
             out.append(b"refused ")?;
             out.append(fault.code.text().as_bytes())?;
-            append_number(alloc, out, b" ", u64::from(line))
+            append_number(alloc, out, b" ", u64::from(fault.line))
         }
-        Reply::Conflict(version) => append_number(alloc, out, b"conflict ", *version),
-        Reply::Absent => out.append(b"absent\n"),
-        Reply::TooManyNames(_) => append_number(alloc, out, b"toomanynames ", 10000),
-        Reply::Begun => Ok(()),
+        EditFault::Conflict(version) => append_number(alloc, out, b"conflict ", version),
+        EditFault::Absent => out.append(b"absent\n"),
+        EditFault::TooManyNames(_) => append_number(alloc, out, b"toomanynames ", 10000),
     }
+}
+
+// Appends the number of the edit at which a group was stopped, and the refusal.
+fn append_stopped(
+    alloc: Global,
+    out: &mut List<u8>,
+    number: u32,
+    fault: EditFault,
+) -> Result<(), AllocError>
+    ensures text { let refusal = transcript_spec.refusal_shown (seen_spec.refusal_seen fault) in
+        let shown = transcript_spec.StoppedAt number refusal in
+        OnOk result (out.new ≡ out.old ++ written_spec.shown_text shown) }
+    ensures form { let refusal = transcript_spec.refusal_shown (seen_spec.refusal_seen fault) in
+        OnOk result (transcript_spec.IsShown (transcript_spec.StoppedAt number refusal)) }
+{
+    out.append(format!(in alloc; "stopped {number} ")?.as_bytes())?;
+    append_refusal(alloc, out, fault)
 }
 
 // Appends the end of a line: words, and a number.

@@ -1,11 +1,9 @@
 -- What is found, and how much there is, after something was stored or taken away.
-use Rattle.std.proofs.Common.{◌≡◌, ◌≢◌, ℕ, suc, ◌+◌, ◌≤◌, true, false, Bool, List, [], ◌∷◌, Some, None, IsSome, is_some, refl, length, cond, not, sym, ap, ◌∙◌, subst, arith}
-use Rattle.std.specs.List.{AllByRecursion}
+use Rattle.std.proofs.Common.{◌≡◌, ◌≢◌, ℕ, suc, ◌+◌, ◌≤◌, true, false, Bool, List, [], ◌∷◌, Some, None, IsSome, is_some, refl, length, cond, not, sym, ap, ◌∙◌, arith}
 use Rattle.std.specs.Ordering.{nat_cmp}
 use Rattle.std.specs.Cmp.Lexicographic.{slice_cmp, bytes_decides}
 use Rattle.std.specs.declared.cmp.Ordering.TheVariants.{Less, Equal, Greater}
 use Rattle.std.proofs.lemmas.Bool.{false≢true}
-use Rattle.std.proofs.lemmas.Option.{none-some, same_Some}
 use Rattle.dita_doc.specs.Desk.{Stored, State, IsSortedByName, is_named, found, with_stored, without_name}
 use Rattle.dita_doc.proofs.NameOrder.{with_order, named_itself, named_by_order, found_above, same_from_equal, below_from_above, below_all_lower}
 
@@ -83,45 +81,6 @@ found_without_other gone (stored ∷ state) name other =
       | false ↦ λ e. ap (cond (is_named name stored) (Some stored)) rest
     ] in
     by_test refl
-
--- what holds of each document holds of what is found, and is kept
-pub every_found : (P : Stored → Type 0) (state : State) (name : List ℕ) (stored : Stored) → AllByRecursion P state
-    → found state name ≡ Some stored → P stored
-every_found P [] name stored every is = absurd (none-some stored is)
-every_found P (first ∷ state) name stored every is =
-    let rest = every_found P state name stored every.1 in
-    let by_test : is_named name first ≡ is_named name first → P stored =
-    elim (is_named name first) as (λ b. is_named name first ≡ b → P stored) [
-      | true ↦ λ e. subst P (same_Some first stored (sym (ap (λ b. cond b (Some first) (found state name)) e) ∙ is))
-          every.0
-      | false ↦ λ e. rest (sym (ap (λ b. cond b (Some first) (found state name)) e) ∙ is)
-    ] in
-    by_test refl
-
-pub every_with : (P : Stored → Type 0) (new : Stored) (state : State) → P new → AllByRecursion P state
-    → AllByRecursion P (with_stored new state)
-every_with P new [] this every = (this, tt)
-every_with P new (stored ∷ state) this every =
-    let rest = every_with P new state this every.1 in
-    elim (slice_cmp nat_cmp new.name stored.name) as (λ order. AllByRecursion P (with_order new stored state order)) [
-      | Less ↦ (this, every)
-      | Equal ↦ (this, every.1)
-      | Greater ↦ (every.0, rest)
-    ]
-
-pub every_without : (P : Stored → Type 0) (name : List ℕ) (state : State) → AllByRecursion P state
-    → AllByRecursion P (without_name name state)
-every_without P name [] every = tt
-every_without P name (stored ∷ state) every =
-    let rest = every_without P name state every.1 in
-    elim (is_named name stored) as (λ b. AllByRecursion P
-    (cond (not b) (stored ∷ without_name name state) (without_name name state)))
-    [ true ↦ rest | false ↦ (every.0, rest) ]
-
-pub every_weaker : (P Q : Stored → Type 0) (state : State) → ((stored : Stored) → P stored → Q stored)
-    → AllByRecursion P state → AllByRecursion Q state
-every_weaker P Q [] weaker every = tt
-every_weaker P Q (stored ∷ state) weaker every = (weaker stored every.0, every_weaker P Q state weaker every.1)
 
 -- how many names there are afterwards
 pub length_with : (new : Stored) (state : State) → length (with_stored new state) ≤ length state + 1

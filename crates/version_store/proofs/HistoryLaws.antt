@@ -1,17 +1,18 @@
 -- Laws of histories: their replay, what one more entry does, and where each stored document comes from.
-use Rattle.std.proofs.Common.{◌≡◌, ℕ, zero, suc, ◌+◌, ◌<◌, ◌≤◌, true, false, Bool, List, [], ◌∷◌, ◌++◌, Some, None, IsOk, is_ok, Ok, Err, refl, length, cond, not, ◌&&◌, is_some, take, sym, ap, ◌∙◌, subst, arith, inl, inr, ◌⊎◌, length-append, append_assoc, nat_le, ◌==◌}
-use Rattle.std.specs.List.{AllByRecursion, slice_get}
+use Rattle.std.proofs.Common.{◌≡◌, ℕ, zero, suc, ◌+◌, ◌<◌, ◌≤◌, true, false, Bool, List, [], ◌∷◌, ◌++◌, Some, None, IsOk, refl, length, not, ◌&&◌, is_some, take, sym, ap, ◌∙◌, subst, arith, inl, inr, ◌⊎◌, length-append, append_assoc, nat_le}
+use Rattle.std.specs.List.{slice_get}
 use Rattle.std.proofs.lemmas.List.{append-nil, take-append-le, take_all}
 use Rattle.std.proofs.lemmas.List.Sums.{sum-map, sum_by_push}
 use Rattle.std.proofs.lemmas.Option.{none-some, same_Some}
 use Rattle.std.proofs.lemmas.Bool.Decides.{nat_tests}
 use Rattle.dita_doc.specs.Pyx.{document_of}
-use Rattle.dita_doc.specs.Request.{Request, text_size, Put, PutIf, Remove, Get, Names, Build}
-use Rattle.dita_doc.specs.Desk.{Stored, State, IsSortedByName, found, version_at, with_stored, without_name, stored_limit, store_reply, unless_refused, reply, Reply, IsStored, TooManyNames, IsRefused, Conflict, remove_reply, nodes_in, after_reply, next}
+use Rattle.dita_doc.specs.Request.{Edit, Request, text_size, Single, Get, Names, Build, Group}
+use Rattle.dita_doc.specs.Desk.{Stored, State, IsSortedByName, found, with_stored, without_name, stored_limit, reply, nodes_in, next_edit, after_edits, halt_of, unless_halted, next}
 use Rattle.dita_doc.specs.History.{Entry, replay, AreLegal, sources, history_size}
 use Rattle.dita_doc.proofs.NameOrder.{sorted_with, sorted_without}
-use Rattle.version_store.specs.Entries.{Puts, ComesFrom}
-use Rattle.version_store.proofs.FoundLaws.{every_found, every_with, every_without, every_weaker, length_with, length_with_found, length_without}
+use Rattle.version_store.specs.Entries.{Puts, ComesFrom, edited_name}
+use Rattle.version_store.proofs.EditLaws.{put_at, HasRoom, edit_does, edit_found, edits_found}
+use Rattle.version_store.proofs.FoundLaws.{length_with, length_with_found, length_without}
 
 -- the replay of what follows begins where the first part ends
 pub replay_append : (state : State) (place : ℕ) (front back : List Entry)
@@ -88,76 +89,38 @@ size_push history entry =
     sum-map bytes (history ++ entry ∷ []) ∙ sum_by_push bytes history entry
     ∙ ap (λ n. n + bytes entry) (sym (sum-map bytes history))
 
--- the document that a put at a place stores
-abbrev pub put_at : ℕ → List ℕ → List ℕ → Stored
-put_at place name body = record { name = name; nodes = nodes_in (document_of body); bytes = body; version = place + 1 }
-
--- there is room for one more name, or this one is there
-abbrev pub HasRoom : State → List ℕ → Type 0
-HasRoom state name = (nat_le stored_limit (length state) && not (is_some (found state name))) ≡ false
-
 -- what is kept where a text is stored that there is room for, and where a name is taken away, is kept by each request
-module _ (P : State → Type 0) (state : State) (place : ℕ) where
-  stores_keeps : (name body : List ℕ) (after : Reply → State)
-      → after (TooManyNames stored_limit) ≡ state
-      → after (IsStored (place + 1)) ≡ with_stored (put_at place name body) state
-      → P state → (HasRoom state name → P (with_stored (put_at place name body) state))
-      → P (after (store_reply state place name))
-  stores_keeps name body after full stored kept stores =
-      let by_room : (nat_le stored_limit (length state) && not (is_some (found state name)))
-      ≡ (nat_le stored_limit (length state) && not (is_some (found state name)))
-      → P (after (store_reply state place name)) =
-      elim (nat_le stored_limit (length state) && not (is_some (found state name)))
-      as (λ b. (nat_le stored_limit (length state) && not (is_some (found state name))) ≡ b
-      → P (after (cond b (TooManyNames stored_limit) (IsStored (place + 1))))) [
-        | true ↦ λ e. subst P (sym full) kept
-        | false ↦ λ e. subst P (sym stored) (stores e)
-      ] in
-      by_room refl
+module _ (P : State → Type 0) (place : ℕ)
+    (stores : (state : State) (name body : List ℕ) → P state → IsOk (document_of body) → HasRoom state name
+    → P (with_stored (put_at place name body) state))
+    (removes : (state : State) (name : List ℕ) → P state → P (without_name name state)) where
+  edit_keeps : (state : State) (edit : Edit) → P state → P (next_edit state place edit)
+  edit_keeps state edit kept = elim (edit_does state place edit) [
+    | inl does ↦ subst P (sym does.leaves) (stores state does.name does.bytes kept does.read does.room)
+    | inr (inl does) ↦ subst P (sym does.leaves) (removes state (edited_name edit) kept)
+    | inr (inr does) ↦ subst P (sym does.leaves) kept
+  ]
 
-  put_keeps : (name body : List ℕ) (after : Reply → State) (answer : Reply)
-      → ((fault : _) → after (IsRefused fault) ≡ state)
-      → P state → (IsOk (document_of body) → P (after answer)) → P (after (unless_refused (document_of body) answer))
-  put_keeps name body after answer refused kept stores =
-      let by_read : document_of body ≡ document_of body → P (after (unless_refused (document_of body) answer)) =
-      elim (document_of body) as (λ read. document_of body ≡ read → P (after (unless_refused read answer))) [
-        | Ok tree ↦ λ e. stores (ap is_ok e)
-        | Err fault ↦ λ e. subst P (sym (refused fault)) kept
-      ] in
-      by_read refl
+  edits_keep : (state : State) (edits : List Edit) → P state → P (after_edits state place edits)
+  edits_keep state [] kept = kept
+  edits_keep state (edit ∷ edits) kept =
+      edits_keep (next_edit state place edit) edits (edit_keeps state edit kept)
 
-  pub next_keeps : (request : Request) → P state
-      → ((name body : List ℕ) → Puts request name body → IsOk (document_of body) → HasRoom state name
-      → P (with_stored (put_at place name body) state))
-      → ((name : List ℕ) → P (without_name name state))
-      → P (next state place request)
-  next_keeps (Put name body) kept stores removes =
-      put_keeps name body (after_reply state (Put name body)) (store_reply state place name) (λ fault. refl) kept
-      (λ read.
-      stores_keeps name body (after_reply state (Put name body)) refl refl kept
-      (λ room. stores name body (refl, refl) read room))
-  next_keeps (PutIf version name body) kept stores removes =
-      let after = after_reply state (PutIf version name body) in
-      put_keeps name body after (cond (version_at state name == version) (store_reply state place name)
-      (Conflict (version_at state name))) (λ fault. refl) kept (λ read.
-      elim (version_at state name == version) as
-      (λ b. P (after (cond b (store_reply state place name) (Conflict (version_at state name))))) [
-        | true ↦ stores_keeps name body after refl refl kept (λ room. stores name body (refl, refl) read room)
-        | false ↦ kept
-      ])
-  next_keeps (Remove name) kept stores removes =
-      elim (found state name) as (λ hit. P (after_reply state (Remove name) (remove_reply hit)))
-      [ None ↦ kept | Some stored ↦ removes name ]
-  next_keeps (Get name) kept stores removes = kept
-  next_keeps Names kept stores removes = kept
-  next_keeps (Build map val) kept stores removes = kept
+  pub next_keeps : (state : State) (request : Request) → P state → P (next state place request)
+  next_keeps state (Single edit) kept = edit_keeps state edit kept
+  next_keeps state (Get name) kept = kept
+  next_keeps state Names kept = kept
+  next_keeps state (Build root val) kept = kept
+  next_keeps state (Group edits) kept =
+      elim (halt_of state place edits) as (λ halt. P (unless_halted halt (after_edits state place edits) state))
+      [ None ↦ edits_keep state edits kept | Some halt ↦ kept ]
 
 -- names stay in order
 pub sorted_next : (state : State) (place : ℕ) (request : Request) → IsSortedByName state
     → IsSortedByName (next state place request)
-sorted_next state place request sorted = next_keeps IsSortedByName state place request sorted
-    (λ name body puts read room. sorted_with (put_at place name body) state sorted)
-    (λ name. sorted_without name state sorted)
+sorted_next state place request sorted = next_keeps IsSortedByName place
+    (λ state name body sorted read room. sorted_with (put_at place name body) state sorted)
+    (λ state name sorted. sorted_without name state sorted) state request sorted
 
 pub sorted_replay : (state : State) (place : ℕ) (history : List Entry) → IsSortedByName state
     → IsSortedByName (replay state place history)
@@ -178,13 +141,27 @@ few_stored : (limit : ℕ) (new : Stored) (state : State) → IsSortedByName sta
 few_stored limit new state sorted few (inl less) = omega (arith, length_with new state)
 few_stored limit new state sorted few (inr there) = omega (arith, length_with_found new state sorted there)
 
+-- in order, and not more than the limit
+record IsFew (state : State) : Type 0 where
+  pub sorted : IsSortedByName state
+  pub few : length state ≤ stored_limit
+
 pub few_next : (state : State) (place : ℕ) (request : Request) → IsSortedByName state → length state ≤ stored_limit
     → length (next state place request) ≤ stored_limit
 few_next state place request sorted few =
-    next_keeps (λ after. length after ≤ stored_limit) state place request few
-    (λ name body puts read room. few_stored stored_limit (put_at place name body) state sorted few
-    (room_or_there stored_limit (length state) (is_some (found state name)) room))
-    (λ name. omega (arith, length_without name state))
+    let after : IsFew (next state place request) =
+    next_keeps IsFew place
+    (λ state name body is read room. record {
+      sorted = sorted_with (put_at place name body) state is.sorted;
+      few = few_stored stored_limit (put_at place name body) state is.sorted is.few
+          (room_or_there stored_limit (length state) (is_some (found state name)) room);
+    })
+    (λ state name is. record {
+      sorted = sorted_without name state is.sorted;
+      few = omega (arith, is.few, length_without name state);
+    })
+    state request (record { sorted = sorted; few = few }) in
+    after.few
 
 pub few_replay : (state : State) (place : ℕ) (history : List Entry) → IsSortedByName state
     → length state ≤ stored_limit → length (replay state place history) ≤ stored_limit
@@ -226,44 +203,71 @@ from_more history more stored from = record {
   nodes = from.nodes;
 }
 
-from_next : (earlier : List Entry) (entry : Entry) (state : State) → AllByRecursion (ComesFrom earlier) state
-    → AllByRecursion (ComesFrom (earlier ++ entry ∷ [])) (next state (length earlier) entry.request)
-from_next earlier entry state every =
-    let kept = every_weaker (ComesFrom earlier) (ComesFrom (earlier ++ entry ∷ [])) state
-    (from_more earlier (entry ∷ [])) every in
-    next_keeps (AllByRecursion (ComesFrom (earlier ++ entry ∷ []))) state (length earlier) entry.request kept
-    (λ name body puts read room. every_with (ComesFrom (earlier ++ entry ∷ []))
-    (put_at (length earlier) name body) state (record {
-      place = length earlier;
-      entry = entry;
-      version = refl;
-      stands = slice_get-end earlier entry;
-      puts = puts;
-      read = read;
-      nodes = refl;
-    }) kept)
-    (λ name. every_without (ComesFrom (earlier ++ entry ∷ [])) name state kept)
+-- each document that is found comes from one of these entries
+abbrev AllFrom : List Entry → State → Type 0
+AllFrom entries state = (name : List ℕ) (stored : Stored) → found state name ≡ Some stored → ComesFrom entries stored
 
-from_replay : (earlier entries : List Entry) (state : State) → AllByRecursion (ComesFrom earlier) state
-    → AllByRecursion (ComesFrom (earlier ++ entries)) (replay state (length earlier) entries)
-from_replay earlier [] state every = subst (λ all. AllByRecursion (ComesFrom all) state)
-    (sym (append-nil earlier)) every
+-- what the last entry put comes from it
+from_last : (earlier : List Entry) (entry : Entry) (request : Request) (name : List ℕ) (stored : Stored)
+    → entry.request ≡ request → stored.name ≡ name → Puts request name stored.bytes
+    → stored.version ≡ length earlier + 1 → IsOk (document_of stored.bytes)
+    → stored.nodes ≡ nodes_in (document_of stored.bytes) → ComesFrom (earlier ++ entry ∷ []) stored
+from_last earlier entry request name stored asks named puts version read nodes = record {
+  place = length earlier;
+  entry = entry;
+  version = version;
+  stands = slice_get-end earlier entry;
+  puts = subst (λ (r : Request). Puts r stored.name stored.bytes) (sym asks)
+      (subst (λ (n : List ℕ). Puts request n stored.bytes) (sym named) puts);
+  read = read;
+  nodes = nodes;
+}
+
+from_request : (earlier : List Entry) (entry : Entry) (state : State) (request : Request) → entry.request ≡ request
+    → AllFrom earlier state → AllFrom (earlier ++ entry ∷ []) (next state (length earlier) request)
+from_request earlier entry state (Single edit) asks every name stored is =
+    elim (edit_found state (length earlier) edit name stored is) [
+      | inl stood ↦ from_more earlier (entry ∷ []) stored (every name stored stood.stood)
+      | inr put ↦ from_last earlier entry (Single edit) name stored asks put.named put.puts put.version put.read
+          put.nodes
+    ]
+from_request earlier entry state (Get named) asks every name stored is =
+    from_more earlier (entry ∷ []) stored (every name stored is)
+from_request earlier entry state Names asks every name stored is =
+    from_more earlier (entry ∷ []) stored (every name stored is)
+from_request earlier entry state (Build root val) asks every name stored is =
+    from_more earlier (entry ∷ []) stored (every name stored is)
+from_request earlier entry state (Group edits) asks every name stored is =
+    let place = length earlier in
+    let by_halt : halt_of state place edits ≡ halt_of state place edits
+    → found (next state place (Group edits)) name ≡ Some stored → ComesFrom (earlier ++ entry ∷ []) stored =
+    elim (halt_of state place edits) as (λ halt. halt_of state place edits ≡ halt
+    → found (unless_halted halt (after_edits state place edits) state) name ≡ Some stored
+    → ComesFrom (earlier ++ entry ∷ []) stored) [
+      | None ↦ λ none there. elim (edits_found edits 1 state place name stored none there) [
+        | inl before ↦ from_more earlier (entry ∷ []) stored (every name stored before.1)
+        | inr later ↦ from_last earlier entry (Group edits) name stored asks later.put.named
+            (record { edit = later.edit; last = later.last; puts = later.put.puts })
+            later.put.version later.put.read later.put.nodes
+      ]
+      | Some halt ↦ λ some there. from_more earlier (entry ∷ []) stored (every name stored there)
+    ] in
+    by_halt refl is
+
+from_replay : (earlier entries : List Entry) (state : State) → AllFrom earlier state
+    → AllFrom (earlier ++ entries) (replay state (length earlier) entries)
+from_replay earlier [] state every = subst (λ all. AllFrom all state) (sym (append-nil earlier)) every
 from_replay earlier (entry ∷ entries) state every =
     let after = next state (length earlier) entry.request in
-    let rest : AllByRecursion (ComesFrom ((earlier ++ entry ∷ []) ++ entries))
-    (replay after (length (earlier ++ entry ∷ [])) entries) =
-    from_replay (earlier ++ entry ∷ []) entries after (from_next earlier entry state every) in
-    let placed : AllByRecursion (ComesFrom ((earlier ++ entry ∷ []) ++ entries))
-    (replay after (length earlier + 1) entries) =
-    subst (λ n. AllByRecursion (ComesFrom ((earlier ++ entry ∷ []) ++ entries)) (replay after n entries))
+    let rest : AllFrom ((earlier ++ entry ∷ []) ++ entries) (replay after (length (earlier ++ entry ∷ [])) entries) =
+    from_replay (earlier ++ entry ∷ []) entries after (from_request earlier entry state entry.request refl every) in
+    let placed : AllFrom ((earlier ++ entry ∷ []) ++ entries) (replay after (length earlier + 1) entries) =
+    subst (λ n. AllFrom ((earlier ++ entry ∷ []) ++ entries) (replay after n entries))
     (length-append earlier (entry ∷ [])) rest in
-    subst (λ all. AllByRecursion (ComesFrom all) (replay after (length earlier + 1) entries))
+    subst (λ all. AllFrom all (replay after (length earlier + 1) entries))
     (append_assoc earlier (entry ∷ []) entries) placed
-
-pub from_entries : (history : List Entry) → AllByRecursion (ComesFrom history) (replay [] 0 history)
-from_entries history = from_replay [] history [] tt
 
 pub from_sources : (history : List Entry) (n : ℕ) (name : List ℕ) (stored : Stored)
     → found (sources history n) name ≡ Some stored → ComesFrom (take n history) stored
-from_sources history n name stored is = every_found (ComesFrom (take n history)) (sources history n) name stored
-    (from_entries (take n history)) is
+from_sources history n name stored is =
+    from_replay [] (take n history) [] (λ name stored is. absurd (none-some stored is)) name stored is

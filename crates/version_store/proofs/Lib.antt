@@ -1,4 +1,4 @@
-mod NameListLaws
 mod KeptLaws
+pub mod EditLaws
 pub mod FoundLaws
 pub mod HistoryLaws

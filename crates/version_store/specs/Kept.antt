@@ -1,13 +1,14 @@
 -- What a store keeps (own): the history of all that it has answered, within two limits. One more request stands at the
 -- end of the history, with the reply that the desk gives at its place. The stored sources are the history's replay.
-use Rattle.std.specs.Prelude.{◌≡◌, ◌+◌, ◌<◌, ◌≤◌, ◌⊎◌, ℕ, List, [], ◌∷◌, ◌++◌, length, map}
+use Rattle.std.specs.Prelude.{◌≡◌, ◌+◌, ◌<◌, ◌≤◌, ◌⊎◌, ℕ, List, [], ◌∷◌, ◌++◌, Option, length, map}
 use Rattle.dita_doc.specs.declared.request.Entry as given
 use Rattle.dita_doc.specs.Request.{Request, text_size}
-use Rattle.dita_doc.specs.Desk.{State, Reply, reply}
+use Rattle.dita_doc.specs.Desk.{State, Reply, reply, next}
 use Rattle.dita_doc.specs.History.{Entry, IsLegal, sources, history_size}
 use Rattle.dita_doc.specs.Seen.{entry_seen}
 use Rattle.dita_doc.specs.declared.stop.Stop.{Stop}
 use Rattle.dita_doc.specs.declared.stop.Stop.TheVariants.{Fault, NoMemory}
+use Rattle.version_store.specs.Change.{left_by}
 use Rattle.version_store.specs.declared.full.Full.{Full}
 
 -- the history, and at most how many entries and bytes of names and bodies it may have
@@ -42,6 +43,12 @@ stored_now kept = sources kept.history (length kept.history)
 -- the desk's reply to a request at the end of the history
 abbrev pub reply_now : Kept → Request → Reply
 reply_now kept request = reply (stored_now kept) (length kept.history) request
+
+-- what is stored by a request with this reply at the end of the history, and these sources that a group has left, is
+-- what the desk stores
+abbrev pub IsLeft : Kept → Request → Reply → Option State → Type 0
+IsLeft kept request answer left =
+    left_by (stored_now kept) request answer left ≡ next (stored_now kept) (length kept.history) request
 
 -- the entry of a request of a session at the end of the history
 abbrev pub next_entry : ℕ → ℕ → Request → Kept → Entry

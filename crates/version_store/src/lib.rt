@@ -5,9 +5,12 @@
 //! what is stored is always the history's replay.
 #![tactic(auto)]
 
+mod answer;
 mod change;
 mod full;
+mod group;
 mod reply;
+mod size;
 mod store;
 
 pub use full::Full;

@@ -1,44 +1,35 @@
-//! The reply to one request, by what is stored. Nothing changes here.
+//! The reply to an edit or a question, by what is stored. Nothing changes here.
 
 ghost use Rattle.std.specs.Prelude.{◌≡◌, ◌+◌, ◌<◌, ◌^◌, ◌&&◌, IfOk, not, is_some, length, nat_le, map};
 ghost use Rattle.dita_doc.specs.Request as request_spec;
 ghost use Rattle.dita_doc.specs.Desk as desk_spec;
 ghost use Rattle.dita_doc.specs.Seen as seen_spec;
 
-use dita_doc::{Body, List, Name, Read, Reply, Request, Sources};
+use dita_doc::{Body, Edit, List, Name, Read, Reply, Sources};
 use std::alloc::{AllocError, Global};
 use std::sync::Arc;
 
 // How many names may be stored.
 const STORED_LIMIT: u32 = 10_000;
 
-/// The reply to the request at a place.
-pub fn reply_to(
-    alloc: Global,
-    sources: &Sources,
-    place: u64,
-    request: &Request,
-) -> Result<Reply, AllocError>
+/// The reply to the edit at a place.
+pub fn edit_reply(sources: &Sources, place: u64, edit: &Edit) -> Reply
     requires { place + 1 < 2 ^ 64 }
-    ensures { IfOk result (λ answer. seen_spec.reply_seen answer
-        ≡ desk_spec.reply sources.now place (seen_spec.request_seen request.now)) }
+    ensures { seen_spec.reply_seen result
+        ≡ desk_spec.edit_reply sources.now place (seen_spec.edit_seen edit.now) }
 {
-    match request {
-        Request::Put(name, body) => Ok(put_reply(sources, place, name, body)),
-        Request::PutIf(version, name, body) => {
-            Ok(put_if_reply(sources, place, *version, name, body))
-        }
-        Request::Remove(name) => Ok(remove_reply(sources, name)),
-        Request::Get(name) => get_reply(sources, name),
-        Request::Names => names_reply(alloc, sources),
-        Request::Build(_, _) => Ok(Reply::Begun),
+    match edit {
+        Edit::Put(name, body) => put_reply(sources, place, name, body),
+        Edit::PutIf(version, name, body) => put_if_reply(sources, place, *version, name, body),
+        Edit::Remove(name) => remove_reply(sources, name),
     }
 }
 
-fn put_reply(sources: &Sources, place: u64, name: &Name, body: &Body) -> Reply
+/// The reply to a put.
+pub fn put_reply(sources: &Sources, place: u64, name: &Name, body: &Body) -> Reply
     requires { place + 1 < 2 ^ 64 }
     ensures { seen_spec.reply_seen result
-        ≡ desk_spec.reply sources.now place
+        ≡ desk_spec.edit_reply sources.now place
         (request_spec.Put name.now (seen_spec.body_seen body.now)) }
 {
     match &body.read {
@@ -47,10 +38,11 @@ fn put_reply(sources: &Sources, place: u64, name: &Name, body: &Body) -> Reply
     }
 }
 
-fn put_if_reply(sources: &Sources, place: u64, version: u64, name: &Name, body: &Body) -> Reply
+/// The reply to a put if this version stands under the name.
+pub fn put_if_reply(sources: &Sources, place: u64, version: u64, name: &Name, body: &Body) -> Reply
     requires { place + 1 < 2 ^ 64 }
     ensures { seen_spec.reply_seen result
-        ≡ desk_spec.reply sources.now place
+        ≡ desk_spec.edit_reply sources.now place
         (request_spec.PutIf version name.now (seen_spec.body_seen body.now)) }
 {
     let stands = version_under(sources, name);
@@ -89,7 +81,8 @@ fn version_under(sources: &Sources, name: &Name) -> u64
     }
 }
 
-fn remove_reply(sources: &Sources, name: &Name) -> Reply
+/// The reply to a removal.
+pub fn remove_reply(sources: &Sources, name: &Name) -> Reply
     ensures { seen_spec.reply_seen result
         ≡ desk_spec.remove_reply (desk_spec.found sources.now name.now) }
 {
@@ -99,7 +92,8 @@ fn remove_reply(sources: &Sources, name: &Name) -> Reply
     }
 }
 
-fn get_reply(sources: &Sources, name: &Name) -> Result<Reply, AllocError>
+/// The reply to a get.
+pub fn get_reply(sources: &Sources, name: &Name) -> Result<Reply, AllocError>
     ensures { IfOk result (λ answer. seen_spec.reply_seen answer
         ≡ desk_spec.get_reply (desk_spec.found sources.now name.now)) }
 {
@@ -109,12 +103,13 @@ fn get_reply(sources: &Sources, name: &Name) -> Result<Reply, AllocError>
     }
 }
 
-fn names_reply(alloc: Global, sources: &Sources) -> Result<Reply, AllocError>
+/// All names that are stored, with their versions.
+pub fn names_reply(alloc: Global, sources: &Sources) -> Result<Reply, AllocError>
     ensures { IfOk result (λ answer. seen_spec.reply_seen answer
         ≡ desk_spec.NameList (map desk_spec.listed sources.now)) }
 {
     let mut names = Vec::new(alloc);
-    for document in sources.as_slice() {
+    for document in sources.iter() {
         names.push(Read {
             name: document.name.clone()?,
             version: document.version,
@@ -137,6 +132,8 @@ pub fn copy_of(alloc: Global, reply: &Reply) -> Result<Reply, AllocError>
         Reply::Absent => Ok(Reply::Absent),
         Reply::TooManyNames(limit) => Ok(Reply::TooManyNames(*limit)),
         Reply::Begun => Ok(Reply::Begun),
+        Reply::Grouped(edits) => Ok(Reply::Grouped(*edits)),
+        Reply::Stopped(number, fault) => Ok(Reply::Stopped(*number, *fault)),
     }
 }
 

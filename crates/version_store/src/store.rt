@@ -1,18 +1,19 @@
 //! The history of all that was asked, with what is stored after it.
 
-ghost use Rattle.std.specs.Prelude.{◌≡◌, ◌<◌, ◌≤◌, ◌∷◌, [], ◌++◌, Some, IfOk, IfErr, OnOk, OnErr, length};
+ghost use Rattle.std.specs.Prelude.{◌≡◌, ◌<◌, ◌≤◌, ◌∷◌, [], ◌++◌, Some, IfOk, IfErr, OnOk, OnErr, length, option_map};
 ghost use Rattle.std.specs.Arc.{arc_value};
 ghost use Rattle.std.specs.List.{slice_get};
-ghost use Rattle.dita_doc.specs.Desk as desk_spec;
 ghost use Rattle.dita_doc.specs.History as history_spec;
 ghost use Rattle.dita_doc.specs.Request as request_spec;
 ghost use Rattle.dita_doc.specs.Seen as seen_spec;
 ghost use Rattle.version_store.specs.Change as change_spec;
 ghost use Rattle.version_store.specs.Kept as kept_spec;
 
+use crate::answer::{Answer, answer_to};
 use crate::change::change;
 use crate::full::Full;
-use crate::reply::{copy_of, reply_to};
+use crate::reply::copy_of;
+use crate::size::text_bytes;
 use dita_doc::{Entry, NoMemory, Reply, Request, Sources, Stop};
 use std::alloc::{AllocError, Global};
 use std::marker::Model;
@@ -85,6 +86,7 @@ impl Store {
         request: Request,
     ) -> Result<u64, Stop<Full>>
         requires origin { seen_spec.HasOwnOrigin request }
+        requires edits { request_spec.HasFewEdits (seen_spec.request_seen request) }
         ensures place { IfOk result (λ place. place ≡ length self.old.history) }
         ensures ok { OnOk result (self.new
             ≡ kept_spec.answered session number (seen_spec.request_seen request) self.old) }
@@ -93,13 +95,14 @@ impl Store {
         ensures full { IfErr result
             (kept_spec.IsFullIf self.old (seen_spec.request_seen request)) }
     {
-        let reply = self.reply_to(alloc, &request)?;
-        let place = self.push(Entry {
+        let Answer { reply, left } = self.answer_to(alloc, &request)?;
+        let entry = Entry {
             session,
             number,
             request,
             reply,
-        })?;
+        };
+        let place = self.push(entry, left)?;
         Ok(place)
     }
 
@@ -117,6 +120,7 @@ impl Store {
         request: Request,
     ) -> Result<(u64, Reply), Stop<Full>>
         requires origin { seen_spec.HasOwnOrigin request }
+        requires edits { request_spec.HasFewEdits (seen_spec.request_seen request) }
         ensures place { IfOk result (λ answer. answer.0 ≡ length self.old.history) }
         ensures reply { IfOk result (λ answer. seen_spec.reply_seen answer.1
             ≡ kept_spec.reply_now self.old (seen_spec.request_seen request)) }
@@ -127,14 +131,15 @@ impl Store {
         ensures full { IfErr result
             (kept_spec.IsFullIf self.old (seen_spec.request_seen request)) }
     {
-        let reply = self.reply_to(alloc, &request)?;
+        let Answer { reply, left } = self.answer_to(alloc, &request)?;
         let copy = copy_of(alloc, &reply)?;
-        let place = self.push(Entry {
+        let entry = Entry {
             session,
             number,
             request,
             reply,
-        })?;
+        };
+        let place = self.push(entry, left)?;
         Ok((place, copy))
     }
 
@@ -163,31 +168,40 @@ impl Store {
         self.entries.len() as u64
     }
 
-    // The reply to one more request, if there is room for it.
-    fn reply_to(&self, alloc: Global, request: &Request) -> Result<Reply, Stop<Full>>
-        ensures reply { IfOk result (λ reply. seen_spec.reply_seen reply
+    // The answer to one more request, if there is room for it.
+    fn answer_to(&self, alloc: Global, request: &Request) -> Result<Answer, Stop<Full>>
+        requires origin { seen_spec.HasOwnOrigin request.now }
+        requires edits { request_spec.HasFewEdits (seen_spec.request_seen request.now) }
+        ensures reply { IfOk result (λ answer. seen_spec.reply_seen answer.reply
             ≡ kept_spec.reply_now self.now (seen_spec.request_seen request.now)) }
+        ensures left { IfOk result (λ answer. kept_spec.IsLeft self.now
+            (seen_spec.request_seen request.now) (seen_spec.reply_seen answer.reply)
+            (option_map arc_value answer.left)) }
         ensures room { OnOk result
             (kept_spec.Fits self.now (seen_spec.request_seen request.now)) }
         ensures full { IfErr result
             (kept_spec.IsFullIf self.now (seen_spec.request_seen request.now)) }
     {
         let place = self.entries();
-        if place >= self.entry_limit || text_bytes(request) > self.text_limit - self.text {
+        let room = u128::from(self.text_limit - self.text);
+        if place >= self.entry_limit || text_bytes(request) > room {
             return Err(Stop::Fault(Full {
                 entries: place,
                 bytes: self.text,
             }));
         }
-        Ok(reply_to(alloc, &self.sources, place, request)?)
+        Ok(answer_to(alloc, &self.sources, place, request)?)
     }
 
-    // Puts an entry at the end of the history, stores or removes what it says, and tells its place.
-    fn push(&mut self, entry: Entry) -> Result<u64, AllocError>
+    // Puts an entry at the end of the history, changes the sources as it says, and tells its place.
+    fn push(&mut self, entry: Entry, left: Option<Arc<Sources>>) -> Result<u64, AllocError>
         requires origin { seen_spec.HasOwnOrigin entry.request }
+        requires edits { request_spec.HasFewEdits (seen_spec.request_seen entry.request) }
         requires room { kept_spec.Fits self.old (seen_spec.request_seen entry.request) }
         requires reply { seen_spec.reply_seen entry.reply
             ≡ kept_spec.reply_now self.old (seen_spec.request_seen entry.request) }
+        requires left { kept_spec.IsLeft self.old (seen_spec.request_seen entry.request)
+            (seen_spec.reply_seen entry.reply) (option_map arc_value left) }
         ensures place { IfOk result (λ place. place ≡ length self.old.history) }
         ensures ok { OnOk result (self.new ≡ kept_spec.answered entry.session entry.number
             (seen_spec.request_seen entry.request) self.old) }
@@ -195,48 +209,32 @@ impl Store {
     {
         let size = text_bytes(&entry.request);
         let place = self.entries();
-        append(&mut self.entries, &mut self.sources, entry)?;
-        self.text += size;
+        append(&mut self.entries, &mut self.sources, entry, left)?;
+        self.text += size as u64;
         Ok(place)
     }
 }
 
-// Puts an entry at the end, and stores or removes what it says. Without memory nothing changes.
+// Puts an entry at the end, and changes the sources as it says. Without memory nothing changes.
 fn append(
     entries: &mut Vec<Entry>,
     sources: &mut Arc<Sources>,
     entry: Entry,
+    left: Option<Arc<Sources>>,
 ) -> Result<(), AllocError>
-    requires text { change_spec.StoresText
+    requires text { change_spec.StoresTextIfEdit
         (seen_spec.request_seen entry.request) (seen_spec.reply_seen entry.reply) }
     requires origin { seen_spec.HasOwnOrigin entry.request }
     ensures entries { OnOk result (entries.new.items ≡ entries.old.items ++ entry ∷ []) }
     ensures sources { OnOk result (arc_value sources.new
-        ≡ desk_spec.after_reply (arc_value sources.old)
-        (seen_spec.request_seen entry.request) (seen_spec.reply_seen entry.reply)) }
+        ≡ change_spec.left_by (arc_value sources.old) (seen_spec.request_seen entry.request)
+        (seen_spec.reply_seen entry.reply) (option_map arc_value left)) }
     ensures err { OnErr result ((entries.new.items ≡ entries.old.items)
         × (arc_value sources.new ≡ arc_value sources.old)) }
 {
     // With this room the push takes no memory: it can't fail once the sources have changed.
     entries.reserve(1)?;
-    change(sources, &entry.request, &entry.reply)?;
+    change(sources, &entry.request, &entry.reply, left)?;
     entries.push(entry)?;
     Ok(())
-}
-
-// The bytes of a request's names and body.
-fn text_bytes(request: &Request) -> u64
-    ensures { result ≡ request_spec.text_size (seen_spec.request_seen request.now) }
-{
-    match request {
-        Request::Put(name, body) | Request::PutIf(_, name, body) => {
-            name.as_bytes().len() as u64 + body.bytes.len() as u64
-        }
-        Request::Remove(name) | Request::Get(name) => name.as_bytes().len() as u64,
-        Request::Names => 0,
-        Request::Build(map, None) => map.as_bytes().len() as u64,
-        Request::Build(map, Some(val)) => {
-            map.as_bytes().len() as u64 + val.as_bytes().len() as u64
-        }
-    }
 }

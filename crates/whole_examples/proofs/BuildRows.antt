@@ -1,5 +1,4 @@
--- The definitions of builds and of the desk, run on small sources: the two pages of a map with one topic byte for byte,
--- and replies that are known by hand.
+-- The definitions of builds, run on small sources: the two pages of a map with one topic byte for byte.
 use Prim.Native.String.{String}
 use Rattle.std.specs.Fmt.{digits}
 use Rattle.std.specs.List.{flat_map}
@@ -7,22 +6,19 @@ use Rattle.std.specs.Prelude.{◌≡◌, ℕ, List, [], ◌∷◌, ◌++◌, Non
 use Rattle.std.specs.Str.{is_utf8, chars}
 use lib.Utf8.{encode}
 use Rattle.build_spec.specs.Built.{Done, Stopped}
-use Rattle.dita_doc.specs.Desk.{State, IsStored, IsRemoved, IsRefused, Bytes, NameList, Conflict, Absent, reply, next}
 use Rattle.dita_doc.specs.Lines.{line}
 use Rattle.dita_doc.specs.PlainText.{folded}
 use Rattle.dita_doc.specs.Pyx.{document_of}
-use Rattle.dita_doc.specs.Request.{Put, PutIf, Remove, Get, Names}
 use Rattle.dita_doc.specs.Tree.{Content, End, Chars, Element}
 use Rattle.dita_doc.specs.declared.doc.Attribute.{Attribute}
 use Rattle.dita_doc.specs.declared.fault.FaultCode.TheVariants as faults
-use Rattle.dita_doc.specs.declared.fault.PyxCode.TheVariants as fault
 use Rattle.dita_doc.specs.declared.plan.PlanStop.TheVariants as stops
 use Rattle.map_spec.specs.Included.{map_included}
 use Rattle.map_spec.specs.PlanOf.{plan_of}
-use Rattle.page_spec.specs.Blocks.{body_html}
-use Rattle.page_spec.specs.Content.{followed_from, resolved_from}
-use Rattle.page_spec.specs.Contents.{contents, items_from}
-use Rattle.page_spec.specs.Pushes.{all_pushes}
+use Rattle.html_spec.specs.Blocks.{body_html}
+use Rattle.conref_spec.specs.Content.{followed_from, resolved_from}
+use Rattle.html_spec.specs.Contents.{contents, items_from}
+use Rattle.map_spec.specs.Pushes.{all_pushes}
 use Rattle.part_spec.specs.Parts.{clean_build, page_part}
 use Rattle.reader_spec.specs.World.{World}
 
@@ -95,46 +91,3 @@ no_map = refl
 
 blanks_are_folded : folded (32 ∷ 97 ∷ 9 ∷ 32 ∷ 98 ∷ 32 ∷ []) ≡ codes "a b"
 blanks_are_folded = refl
-
--- what is stored is not what was refused
-abbrev faulty : List ℕ
-faulty = codes "(p" ++ lf ++ codes ")q" ++ lf
-
-faulty_body : reply [] 0 (Put (codes "t.dita") faulty) ≡ IsRefused (record { code = fault.CloseMismatch; line = 2 })
-unfolding document_of is_utf8 chars encode
-faulty_body = refl
-
-nothing_stored : next [] 0 (Put (codes "t.dita") faulty) ≡ []
-unfolding document_of is_utf8 chars encode
-nothing_stored = refl
-
-nothing_found : reply [] 1 (Get (codes "t.dita")) ≡ Absent
-nothing_found = refl
-
--- two that store under one name, each where nothing stands there
-abbrev good : List ℕ
-good = codes "(p" ++ lf ++ codes ")p" ++ lf
-
-abbrev first : State
-first = next [] 0 (PutIf 0 (codes "t.dita") good)
-
-first_stored : reply [] 0 (PutIf 0 (codes "t.dita") good) ≡ IsStored 1
-unfolding document_of is_utf8 chars encode
-first_stored = refl
-
-second_conflict : reply first 1 (PutIf 0 (codes "t.dita") good) ≡ Conflict 1
-unfolding document_of is_utf8 chars encode
-second_conflict = refl
-
-names_by_bytes : reply (next first 1 (Put (codes "a") good)) 2 Names
-    ≡ NameList ((codes "a", 2) ∷ (codes "t.dita", 1) ∷ [])
-unfolding document_of is_utf8 chars encode
-names_by_bytes = refl
-
-removed : reply (next first 1 (Put (codes "a") good)) 2 (Remove (codes "t.dita")) ≡ IsRemoved 1
-unfolding document_of is_utf8 chars encode
-removed = refl
-
-got : reply first 1 (Get (codes "t.dita")) ≡ Bytes good
-unfolding document_of is_utf8 chars encode
-got = refl

@@ -1,6 +1,7 @@
 mod BuildRows
 mod ClassRows
 mod CommandRows
+mod DeskRows
 mod DitavalRows
 mod FaultRows
 mod ReferenceRows

@@ -10,12 +10,12 @@ use Rattle.build_spec.specs.Built.{Built, Done}
 use Rattle.dita_doc.specs.Desk.{State, Reply, IsStored, Begun, reply, next}
 use Rattle.dita_doc.specs.Lines.{line}
 use Rattle.dita_doc.specs.Pyx.{document_of}
-use Rattle.dita_doc.specs.Request.{Request, Put, Build}
+use Rattle.dita_doc.specs.Request.{Request, Put, Single, Build}
 use Rattle.dita_doc.specs.Tree.{End, Element, nodes_of}
 use Rattle.map_spec.specs.Included.{map_included}
 use Rattle.map_spec.specs.PlanOf.{plan_of}
-use Rattle.page_spec.specs.Contents.{contents, items_from}
-use Rattle.page_spec.specs.Pushes.{all_pushes}
+use Rattle.html_spec.specs.Contents.{contents, items_from}
+use Rattle.map_spec.specs.Pushes.{all_pushes}
 use Rattle.part_spec.specs.Parts.{clean_build, page_part}
 use Rattle.reader_spec.specs.World.{world_of}
 use Rattle.run_spec.specs.CleanRun.{CleanRun, clean_run, run_answered, run_of}
@@ -36,7 +36,7 @@ abbrev script : List ℕ
 script = codes "1 put m.ditamap" ++ 10 ∷ map_text ++ lines ("." ∷ "1 build m.ditamap" ∷ [])
 
 abbrev put : Request
-put = Put in_m map_text
+put = Single (Put in_m map_text)
 
 abbrev steps : List Step
 steps = record { session = 1; request = put } ∷ record { session = 1; request = Build in_m None } ∷ []

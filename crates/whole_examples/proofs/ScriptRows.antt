@@ -3,7 +3,7 @@ use Rattle.std.specs.Prelude.{◌≡◌, ℕ, List, [], ◌∷◌, ◌++◌, Som
 use Rattle.std.specs.Str.{is_utf8, chars}
 use lib.Utf8.{encode}
 use Rattle.script_text.specs.declared.fault.ScriptCode.TheVariants as fault
-use Rattle.dita_doc.specs.Request.{Put, Build}
+use Rattle.dita_doc.specs.Request.{Put, Remove, Single, Build, Group}
 use Rattle.script_text.specs.Script.{script_of}
 use Rattle.script_laws.specs.Blocks.{Steps, IsScriptOf}
 use Rattle.script_laws.proofs.WholeLaws.{script_said, script_read}
@@ -42,10 +42,34 @@ unfolding script_of is_utf8 chars encode
 no_text = refl
 
 good : script_of (codes "# x" ++ lf ++ codes "1 put a" ++ lf ++ codes "-x" ++ lf ++ codes "." ++ lf
-    ++ codes " 02  build a b") ≡ Ok (record { session = 1; request = Put (codes "a") (codes "-x" ++ lf) } ∷ record
+    ++ codes " 02  build a b") ≡ Ok (record { session = 1; request = Single (Put (codes "a") (codes "-x" ++ lf)) } ∷ record
     { session = 2; request = Build (codes "a") (Some (codes "b")) } ∷ [])
 unfolding script_of is_utf8 chars encode
 good = refl
+
+-- a group with two edits, a comment between them, whose `end` is the last line
+group_read : script_of (codes "1 group" ++ lf ++ codes "remove a" ++ lf ++ codes "# x" ++ lf ++ codes "put b" ++ lf
+    ++ codes "-x" ++ lf ++ codes "." ++ lf ++ codes "end") ≡ Ok (record
+    { session = 1; request = Group (Remove (codes "a") ∷ Put (codes "b") (codes "-x" ++ lf) ∷ []) } ∷ [])
+unfolding script_of is_utf8 chars encode
+group_read = refl
+
+-- no question stands in a group
+question_in_a_group : script_of (codes "1 group" ++ lf ++ codes "get a" ++ lf ++ codes "end")
+    ≡ Err (record { code = fault.BadCommand; line = 2 })
+unfolding script_of is_utf8 chars encode
+question_in_a_group = refl
+
+-- a group ends with a line that is `end` alone, without a space
+group_without_end : script_of (codes "1 group" ++ lf ++ codes "remove a" ++ lf)
+    ≡ Err (record { code = fault.NoEnd; line = 2 })
+unfolding script_of is_utf8 chars encode
+group_without_end = refl
+
+space_before_end : script_of (codes "1 group" ++ lf ++ codes " end")
+    ≡ Err (record { code = fault.BadCommand; line = 2 })
+unfolding script_of is_utf8 chars encode
+space_before_end = refl
 
 -- The same texts as lists of blocks
 
@@ -55,7 +79,7 @@ no_blocks steps script =
     let read = script_read (codes "1 put a" ++ lf ++ codes "..") steps script in let faulty = no_end in absurd cc
 
 -- a comment, a put, and a build without its last LF
-some_blocks : IsScriptOf (record { session = 1; request = Put (codes "a") (codes "-x" ++ lf) }
+some_blocks : IsScriptOf (record { session = 1; request = Single (Put (codes "a") (codes "-x" ++ lf)) }
     ∷ record { session = 2; request = Build (codes "a") (Some (codes "b")) } ∷ [])
     (codes "# x" ++ lf ++ codes "1 put a" ++ lf ++ codes "-x" ++ lf ++ codes "." ++ lf ++ codes " 02  build a b")
 some_blocks = script_said _ _ good

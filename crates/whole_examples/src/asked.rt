@@ -1,12 +1,14 @@
 //! What a reader answers about stored documents, and what it was asked.
 
 ghost use Rattle.std.specs.Prelude.{IfOk};
+ghost use Rattle.dita_doc.specs.Request as request_spec;
 ghost use Rattle.dita_doc.specs.Seen as seen_spec;
 
 use crate::documents::topic;
 use dita_doc::{DocKind, List, Name, NoMemory, Request, Text};
 use pyx_text::read_body;
-use readers::{KnownTitles, Reader, SourceReader, Titles};
+use readers::{Reader, Titles};
+use source_reader::{KnownTitles, SourceReader};
 use std::alloc::{AllocError, Global};
 use std::test::Fail;
 use version_store::Store;
@@ -17,7 +19,9 @@ fn name(alloc: Global, text: &str) -> Result<Name, AllocError> {
 
 // A put of a topic with the title `Hello`.
 fn put(alloc: Global, name: &Name) -> Result<Request, NoMemory>
-    ensures { IfOk result (λ request. seen_spec.HasOwnOrigin request) }
+    ensures origin { IfOk result (λ request. seen_spec.HasOwnOrigin request) }
+    ensures edits { IfOk result (λ request.
+        request_spec.HasFewEdits (seen_spec.request_seen request)) }
 {
     let text = topic(alloc, "t", "Hello", &["A"])?;
     let body = read_body(alloc, name, List::from_slice(alloc, text.as_bytes())?)?;

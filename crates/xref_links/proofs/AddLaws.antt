@@ -6,8 +6,8 @@ use Rattle.dita_doc.specs.declared.content.KeyAnswer.{KeyAnswer}
 use Rattle.dita_doc.specs.declared.plan.Target.TheVariants as targets
 use Rattle.map_spec.specs.Elements.{has_types}
 use Rattle.map_spec.specs.Written.{Element}
-use Rattle.page_spec.specs.Anchors.{Added, Here, added_by, added_of, defined_key, image_added, image_by, image_of, is_image, is_link, is_xref, key_faults_of, keyref_of, linked_added, linked_by_key, linked_by_read, linked_of, linked_with, nothing_added, read_href, topic_here}
-use Rattle.page_spec.specs.Places.{TopicAt}
+use Rattle.html_spec.specs.Anchors.{Added, Here, added_by, added_of, defined_key, image_added, image_by, image_of, is_image, is_link, is_xref, key_faults_of, keyref_of, linked_added, linked_by_key, linked_by_read, linked_of, linked_with, nothing_added, read_href, topic_here}
+use Rattle.map_spec.specs.Places.{TopicAt}
 use Rattle.map_spec.specs.Elements.{attribute}
 use Rattle.std.specs.Prelude.{codes}
 use Rattle.xref_links.specs.Adding.{HasKey, HasMore, IsGiven, IsKeyed, alone, element_of, stands_in, target_of}

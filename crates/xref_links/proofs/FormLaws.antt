@@ -5,8 +5,8 @@ use Rattle.std.proofs.Common.{refl, sym, ap, ◌∙◌}
 use Rattle.html_forms.specs.Shown.{form_found, form_shown_of}
 use Rattle.html_forms.specs.declared.forms.Form.{Form}
 use Rattle.html_forms.specs.declared.forms.Form.TheVariants as forms
-use Rattle.page_spec.specs.Anchors.{is_reference_form, shows_href}
-use Rattle.page_spec.specs.Blocks as blocks
+use Rattle.html_spec.specs.Anchors.{is_reference_form, shows_href}
+use Rattle.html_spec.specs.Blocks as blocks
 
 abbrev Row : Type 0
 Row = List ℕ × blocks.Form

@@ -7,7 +7,7 @@ use Rattle.dita_doc.specs.declared.plan.PageId.{PageId}
 use Rattle.dita_doc.specs.declared.plan.PagePlan.{PagePlan}
 use Rattle.doc_elements.specs.Walk.{element_of}
 use Rattle.map_spec.specs.Keys.{key_answer}
-use Rattle.page_spec.specs.Anchors.{Here}
+use Rattle.html_spec.specs.Anchors.{Here}
 use Rattle.reader_spec.specs.World.{World}
 use Rattle.readers.specs.Setting.{Stand}
 use Rattle.xref_links.specs.Adding.{IsHere}

@@ -7,7 +7,7 @@ use Rattle.dita_doc.specs.declared.stop.NoMemory.{NoMemory}
 use Rattle.map_spec.specs.Elements.{attribute}
 use Rattle.map_spec.specs.Target.{target_by}
 use Rattle.map_spec.specs.Written.{Element}
-use Rattle.page_spec.specs.Anchors.{Here, format_of, in_topic, read_as, read_href, scope_of}
+use Rattle.html_spec.specs.Anchors.{Here, format_of, in_topic, read_as, read_href, scope_of}
 use Rattle.xref_links.specs.Adding.{IsRead}
 
 module _ (here : Here) (topic : List ℕ) (element : Element) where

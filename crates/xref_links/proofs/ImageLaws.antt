@@ -10,7 +10,7 @@ use Rattle.map_spec.specs.Elements.{attribute}
 use Rattle.map_spec.specs.Pages.{local_name}
 use Rattle.map_spec.specs.Target.{file_named, is_far, rest_of}
 use Rattle.map_spec.specs.Written.{Element}
-use Rattle.page_spec.specs.Anchors.{Here, has_form, image_added, image_by, image_by_href, lead_of, read_as, scope_of, shows_href}
+use Rattle.html_spec.specs.Anchors.{Here, has_form, image_added, image_by, image_by_href, lead_of, read_as, scope_of, shows_href}
 use Rattle.xref_links.specs.Adding.{HasMore, IsRead, alone, element_of, href_outside}
 use Rattle.xref_links.specs.declared.made.AnchorsMade.{AnchorsMade}
 use Rattle.xref_links.specs.declared.page.Page.{Page}

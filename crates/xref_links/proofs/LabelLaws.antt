@@ -12,7 +12,7 @@ use Rattle.doc_elements.specs.Walk as walk
 use Rattle.doc_elements.proofs.BareLaws.{bare, child_same, text_held}
 use Rattle.map_spec.specs.Elements.{first_child, plain_text}
 use Rattle.map_spec.specs.Written.{Element, Whole, Chars, Node, written_in}
-use Rattle.page_spec.specs.Anchors.{Here, link_label, text_of_target}
+use Rattle.html_spec.specs.Anchors.{Here, link_label, text_of_target}
 use Rattle.xref_links.specs.Adding.{element_of}
 use Rattle.xref_links.specs.Body.{written_at}
 use Rattle.xref_links.specs.declared.page.Page.{Page}

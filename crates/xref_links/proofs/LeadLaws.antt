@@ -19,8 +19,8 @@ use Rattle.href_text.specs.Joined.{relative_path}
 use Rattle.map_spec.specs.Elements.{fault_at}
 use Rattle.map_spec.specs.Pages.{is_page_for, is_page_of, local_name, page_for, place_of}
 use Rattle.map_spec.specs.Written.{Element}
-use Rattle.page_spec.specs.Anchors as anchors
-use Rattle.page_spec.specs.Anchors.{Here, fragment, lead_by_key, lead_of, lead_to, lead_to_page, topic_or_first}
+use Rattle.html_spec.specs.Anchors as anchors
+use Rattle.html_spec.specs.Anchors.{Here, fragment, lead_by_key, lead_of, lead_to, lead_to_page, topic_or_first}
 use Rattle.readers.specs.Founded.{StaysFounded}
 use Rattle.readers.specs.Setting.{Stand}
 use Rattle.readers.specs.Told.{Told}

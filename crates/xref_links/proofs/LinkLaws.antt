@@ -9,7 +9,7 @@ use Rattle.dita_doc.specs.declared.fault.Fault.{Fault}
 use Rattle.dita_doc.specs.declared.plan.Target.{Target}
 use Rattle.map_spec.specs.Keys.{id_of_key}
 use Rattle.map_spec.specs.Written.{Element, Written}
-use Rattle.page_spec.specs.Anchors.{Added, Here, Linked, Read, defined_key, has_form, holds_link, is_link, is_reference_form, is_this_page, keyref_of, lead_by_key, lead_of, link_added, linked_added, linked_by_key, linked_by_read}
+use Rattle.html_spec.specs.Anchors.{Added, Here, Linked, Read, defined_key, has_form, holds_link, is_link, is_reference_form, is_this_page, keyref_of, lead_by_key, lead_of, link_added, linked_added, linked_by_key, linked_by_read}
 use Rattle.xref_links.specs.Adding.{HasMore, IsGiven, IsLead, IsRead, added_with, alone, element_of, inside_of, label_with, link_to, read_as}
 use Rattle.xref_links.proofs.TypeLaws.{or_all, or_none}
 use Rattle.xref_links.specs.declared.keyed.Keyed.{Keyed}

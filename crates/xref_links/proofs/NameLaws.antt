@@ -15,7 +15,7 @@ use Rattle.dita_doc.specs.declared.plan.Target.TheVariants as targets
 use Rattle.map_spec.specs.Elements.{attribute}
 use Rattle.map_spec.specs.Target.{target_by}
 use Rattle.map_spec.specs.Written.{Element, Written, Node}
-use Rattle.page_spec.specs.Anchors.{Here, format_of, in_topic, read_as, read_href, scope_of}
+use Rattle.html_spec.specs.Anchors.{Here, format_of, in_topic, read_as, read_href, scope_of}
 use Rattle.plan_nodes.specs.Given.{IsTold}
 use Rattle.plan_nodes.proofs.GivenLaws.{may_target}
 use Rattle.readers.specs.Founded.{AreAllowed, Grows, StaysFounded, homes, is_among}

@@ -8,8 +8,8 @@ use Rattle.std.proofs.lemmas.List.{map-append}
 use Rattle.std.proofs.lemmas.List.Elements.{filter_map-append}
 use Rattle.map_spec.specs.Titles.{id_of}
 use Rattle.map_spec.specs.Written.{Element, Written, End, Chars, Node, size}
-use Rattle.page_spec.specs.Anchors.{Added, Here, added_of, topic_here}
-use Rattle.page_spec.specs.Places.{Standing, TopicAt, is_topic, standing_from, topic_inside}
+use Rattle.html_spec.specs.Anchors.{Added, Here, added_of, topic_here}
+use Rattle.map_spec.specs.Places.{Standing, TopicAt, is_topic, standing_from, topic_inside}
 use Rattle.xref_links.specs.Adding.{AreOnTheWay, HasMore, HaveMore, IsEmpty, added_from, anchors_of, faults_of, links_of, topic_id}
 use Rattle.xref_links.specs.Here.{AreMade}
 use Rattle.xref_links.specs.declared.made.AnchorsMade.{AnchorsMade}

@@ -16,10 +16,10 @@ use Rattle.map_spec.specs.Elements.{attribute, fault_at}
 use Rattle.map_spec.specs.Keys.{id_of_key, key_answer}
 use Rattle.map_spec.specs.Pages.{page_for}
 use Rattle.map_spec.specs.Written.{Element, Whole, Written, End}
-use Rattle.page_spec.specs.Anchors as anchors
-use Rattle.page_spec.specs.Anchors.{Added, Here, Read, added_of, if_defined, is_this_page, keyref_of}
-use Rattle.page_spec.specs.Places as places
-use Rattle.page_spec.specs.Places.{TopicAt, standing_from}
+use Rattle.html_spec.specs.Anchors as anchors
+use Rattle.html_spec.specs.Anchors.{Added, Here, Read, added_of, if_defined, is_this_page, keyref_of}
+use Rattle.map_spec.specs.Places as places
+use Rattle.map_spec.specs.Places.{TopicAt, standing_from}
 use Rattle.readers.specs.Setting.{Stand}
 use Rattle.xref_links.specs.Body.{element_at, written_at}
 use Rattle.xref_links.specs.declared.keyed.Keyed.{Keyed}

@@ -6,7 +6,7 @@ use Rattle.dita_doc.specs.declared.plan.Plan.{Plan}
 use Rattle.map_spec.specs.Keys.{key_answer}
 use Rattle.map_spec.specs.Pages.{page_for}
 use Rattle.map_spec.specs.Written.{Written}
-use Rattle.page_spec.specs.Anchors.{Here, anchor_faults, anchors, element_links}
+use Rattle.html_spec.specs.Anchors.{Here, anchor_faults, anchors, element_links}
 use Rattle.reader_spec.specs.World.{World}
 use Rattle.readers.specs.Setting.{Setting}
 use Rattle.xref_links.specs.declared.made.AnchorsMade.{AnchorsMade}

@@ -2,8 +2,8 @@
 use Rattle.std.specs.Prelude.{◌≡◌}
 use Rattle.map_spec.specs.Elements.{has_types}
 use Rattle.map_spec.specs.Written.{Element}
-use Rattle.page_spec.specs.Anchors.{is_image, is_link, is_xref}
-use Rattle.page_spec.specs.Places.{is_topic}
+use Rattle.html_spec.specs.Anchors.{is_image, is_link, is_xref}
+use Rattle.map_spec.specs.Places.{is_topic}
 use Rattle.xref_links.specs.declared.types.Types.{Types}
 
 pub record AreTypes (element : Element) (types : Types) : Type 0 where

@@ -5,8 +5,8 @@ ghost use Rattle.dita_doc.specs.ClassValue as class_value_spec;
 ghost use Rattle.href_text.specs.Reference as reference_spec;
 ghost use Rattle.map_spec.specs.Elements as elements_spec;
 ghost use Rattle.map_spec.specs.Target as target_spec;
-ghost use Rattle.page_spec.specs.Anchors as anchors_spec;
-ghost use Rattle.page_spec.specs.Anchors.{Here};
+ghost use Rattle.html_spec.specs.Anchors as anchors_spec;
+ghost use Rattle.html_spec.specs.Anchors.{Here};
 ghost use Rattle.xref_links.specs.Adding as spec;
 
 use crate::page::{Page, Standing};

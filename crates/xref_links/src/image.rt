@@ -3,8 +3,8 @@
 ghost use Rattle.std.specs.Prelude.{◌≡◌, ℕ, List, IfOk, OnOk, None, if◌then◌else◌};
 ghost use Rattle.doc_elements.specs.Walk as walk_spec;
 ghost use Rattle.html_forms.specs.Shown as shown_spec;
-ghost use Rattle.page_spec.specs.Anchors as anchors_spec;
-ghost use Rattle.page_spec.specs.Anchors.{Here};
+ghost use Rattle.html_spec.specs.Anchors as anchors_spec;
+ghost use Rattle.html_spec.specs.Anchors.{Here};
 ghost use Rattle.xref_links.specs.Adding as spec;
 
 use crate::hrefs::read_image_href;

@@ -5,20 +5,26 @@ use Rattle.dita_doc.specs.Bytes.{Bytes}
 use Rattle.dita_doc.specs.Desk.{Stored, found, nodes_in}
 use Rattle.dita_doc.specs.History.{Entry, sources}
 use Rattle.dita_doc.specs.Pyx.{document_of}
-use Rattle.dita_doc.specs.Request.{Request, Put, PutIf, Remove, Get, Names, Build}
-use Rattle.version_store.specs.Entries.{Entries, Puts}
+use Rattle.dita_doc.specs.Request.{Edit, Put, PutIf, Remove, Request, Single, Get, Names, Build, Group}
+use Rattle.version_store.specs.Entries.{Entries, EditPuts, Puts}
 use Rattle.dita_doc.proofs.NameOrder.{named_as_found}
 use Rattle.version_store.proofs.HistoryLaws.{from_sources, slice_get-take}
 use Rattle.history_laws.proofs.versions_tell.Goals as goal
 
--- a request puts one body under a name
+-- an edit and a request put one body under a name
+one_body_of_edit : (edit : Edit) (name x y : Bytes) → EditPuts edit name x → EditPuts edit name y → x ≡ y
+one_body_of_edit (Put named body) name x y p q = sym p.1 ∙ q.1
+one_body_of_edit (PutIf version named body) name x y p q = sym p.1 ∙ q.1
+one_body_of_edit (Remove named) name x y p q = absurd p
+
 one_body : (request : Request) (name x y : Bytes) → Puts request name x → Puts request name y → x ≡ y
-one_body (Put named body) name x y p q = sym p.1 ∙ q.1
-one_body (PutIf version named body) name x y p q = sym p.1 ∙ q.1
-one_body (Remove named) name x y p q = absurd p
+one_body (Single edit) name x y p q = one_body_of_edit edit name x y p q
 one_body (Get named) name x y p q = absurd p
 one_body Names name x y p q = absurd p
-one_body (Build map val) name x y p q = absurd p
+one_body (Build root val) name x y p q = absurd p
+one_body (Group edits) name x y p q =
+    one_body_of_edit q.edit name x y
+    (subst (λ (e : Edit). EditPuts e name x) (same_Some p.edit q.edit (sym p.last ∙ q.last)) p.puts) q.puts
 
 same_stored : (s t : Stored) → s.name ≡ t.name → s.nodes ≡ t.nodes → s.bytes ≡ t.bytes → s.version ≡ t.version → s ≡ t
 same_stored s t a b c d = λ i. record { name = a i; nodes = b i; bytes = c i; version = d i }

@@ -1,5 +1,5 @@
 use Rattle.language_laws.proofs.ChainStepLaws.{chain_is_whole}
-use Rattle.language_laws.proofs.FreeLaws.{free_is_whole}
+use Rattle.build_plan.proofs.FreeLaws.{free_is_whole}
 use Rattle.language_laws.proofs.ItemStepLaws.{items_are_whole}
 use Rattle.language_laws.proofs.KeyStepLaws.{qualified_is_whole, walk_is_whole}
 use Rattle.language_laws.proofs.MapStepLaws.{included_is_whole}

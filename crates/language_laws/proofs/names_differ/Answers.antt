@@ -1,7 +1,7 @@
 use Rattle.std.proofs.Common.{arith}
 use Rattle.map_spec.specs.PlanOf.{limits}
-use Rattle.language_laws.proofs.FitLaws.{plan_fits}
-use Rattle.language_laws.proofs.NameLaws.{plan_differs}
+use Rattle.build_plan.proofs.FitLaws.{plan_fits}
+use Rattle.build_plan.proofs.NameLaws.{plan_differs}
 use Rattle.language_laws.proofs.names_differ.Goals as goal
 
 pub returns-clause-differ : goal.returns-clause-differ

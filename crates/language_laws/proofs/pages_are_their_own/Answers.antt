@@ -1,4 +1,4 @@
-use Rattle.language_laws.proofs.UseLaws.{plan_own}
+use Rattle.build_plan.proofs.UseLaws.{plan_own}
 use Rattle.language_laws.proofs.pages_are_their_own.Goals as goal
 
 pub returns : goal.returns

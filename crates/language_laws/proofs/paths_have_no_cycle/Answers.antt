@@ -1,5 +1,5 @@
 use Rattle.std.specs.Prelude.{◌+◌}
-use Rattle.page_spec.specs.Content.{path_limit}
+use Rattle.conref_spec.specs.Content.{path_limit}
 use Rattle.language_laws.proofs.MapPathLaws.{included_fits}
 use Rattle.language_laws.proofs.PathLaws.{follows_from}
 use Rattle.language_laws.proofs.paths_have_no_cycle.Goals as goal

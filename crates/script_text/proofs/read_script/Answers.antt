@@ -1,6 +1,6 @@
 use Rattle.std.proofs.Common.{◌≡◌, Err, sym, ◌∙◌, arith, rules}
 use Rattle.std.proofs.lemmas.List.{length-map}
-use Rattle.script_text.specs.Facts.{IsUtf8Step}
+use Rattle.script_text.specs.Facts.{IsUtf8Step, HasFewStep}
 use Rattle.script_text.specs.Read.{step_seen}
 use Rattle.script_text.proofs.StepLaws.{script_cut}
 use Rattle.script_text.proofs.ScriptLaws.{HasNumber, script_sessions, steps_fit, seen_all}
@@ -25,5 +25,6 @@ invariant_of-result c =
       sessions = seen_all HasNumber steps (script_sessions c.args.bytes.now _ told);
       size = fits.size;
       utf8 = seen_all IsUtf8Step steps fits.utf8;
+      few_edits = seen_all HasFewStep steps fits.few_edits;
       origins = c.in_ok-steps.ensures.origins;
     }

@@ -7,6 +7,7 @@ use Rattle.readers.proofs.GrowthLaws.{agrees_before, grows_trans}
 use Rattle.readers.specs.Setting.{Setting, Stand}
 use Rattle.clean_build.specs.Bodies.{content_of}
 use Rattle.clean_build.proofs.BodyLaws.{body_is, body_links, stays_body}
+use Rattle.clean_build.proofs.AskLaws.{asks_behind}
 use Rattle.clean_build.proofs.body.page_body.Goals as goal
 
 pub returns-clause-known : goal.returns-clause-known
@@ -67,3 +68,15 @@ returns-in_err-body-clause-grows g c =
 
 pub returns-clause-grows : goal.returns-clause-grows
 returns-clause-grows g c = grows_trans _ _ _ c.resolve_page_with.ensures.grows c.anchors.ensures.grows
+
+pub returns-in_err-anchors-clause-asks : goal.returns-in_err-anchors-clause-asks
+returns-in_err-anchors-clause-asks g c = asks_behind _ _ _ _ c.resolve_page_with.ensures.grows
+    c.resolve_page_with.ensures.asks c.anchors.ensures.asks
+
+pub returns-in_err-body-clause-asks : goal.returns-in_err-body-clause-asks
+returns-in_err-body-clause-asks g c = asks_behind _ _ _ _ c.resolve_page_with.ensures.grows
+    c.resolve_page_with.ensures.asks c.anchors.ensures.asks
+
+pub returns-clause-asks : goal.returns-clause-asks
+returns-clause-asks g c = asks_behind _ _ _ _ c.resolve_page_with.ensures.grows
+    c.resolve_page_with.ensures.asks c.anchors.ensures.asks

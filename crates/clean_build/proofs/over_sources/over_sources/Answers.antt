@@ -1,5 +1,5 @@
 use Rattle.std.proofs.Common.{sym, ap, subst, ◌∙◌}
-use Rattle.plan_layer.specs.Made.{AreKept}
+use Rattle.pushed_docs.specs.Made.{AreKept}
 use Rattle.reader_spec.specs.World.{world_of}
 use Rattle.clean_build.specs.Tables.{made_for}
 use Rattle.clean_build.proofs.over_sources.over_sources.Goals as goal

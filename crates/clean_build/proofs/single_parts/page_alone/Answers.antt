@@ -2,7 +2,7 @@ use Rattle.std.specs.Option.{option_copied}
 use Rattle.std.specs.Prelude.{is_some, List}
 use Rattle.std.proofs.Common.{refl, sym, ap, subst, ◌∙◌}
 use Rattle.dita_doc.specs.declared.fault.Fault.{Fault}
-use Rattle.page_spec.specs.Pushes.{pushed}
+use Rattle.map_spec.specs.Pushes.{pushed}
 use Rattle.part_spec.specs.Parts.{rooms}
 use Rattle.readers.proofs.FoundedLaws.{stays_after, stays_same}
 use Rattle.readers.proofs.GrowthLaws.{agrees_before, grows_trans}
@@ -14,6 +14,8 @@ use Rattle.clean_build.proofs.NameLaws.{stays_links, stays_page, stays_with}
 use Rattle.clean_build.proofs.PageLaws.{page_nowhere, page_there}
 use Rattle.clean_build.proofs.ReadyLaws.{can_link}
 use Rattle.clean_build.proofs.SingleLaws.{nothing_at, page_at}
+use Rattle.readers.proofs.DocumentLaws.{asks_same}
+use Rattle.clean_build.proofs.AskLaws.{asks_alone, asks_links}
 use Rattle.clean_build.proofs.single_parts.page_alone.Goals as goal
 
 pub returns-in_default-clause-known : goal.returns-in_default-clause-known
@@ -75,3 +77,26 @@ returns-in_err-html-clause-grows g c = grows_trans _ _ _ c.of.ensures.grows c.ru
 
 pub returns-clause-grows : goal.returns-clause-grows
 returns-clause-grows g c = grows_trans _ _ _ c.of.ensures.grows c.run.ensures.grows
+
+pub returns-in_default-clause-asks : goal.returns-in_default-clause-asks
+returns-in_default-clause-asks g c = asks_same _ _ _ _ refl
+
+pub returns-in_err-links-clause-asks : goal.returns-in_err-links-clause-asks
+returns-in_err-links-clause-asks g c = asks_links c.args.ground c.args.index _ _ c.of.ensures.asks
+
+pub returns-in_err-faults_by_row-clause-asks : goal.returns-in_err-faults_by_row-clause-asks
+returns-in_err-faults_by_row-clause-asks g c = asks_links c.args.ground c.args.index _ _ c.of.ensures.asks
+
+pub returns-in_err-html-clause-asks : goal.returns-in_err-html-clause-asks
+returns-in_err-html-clause-asks g c =
+    let page = c.in-Some.page.now in
+    let there = page_at c.args.ground.plan.now.pages c.as_slice.result.now c.args.index page c.as_slice.ensures
+    c.in-Some.ensures.lookup.3.0 c.in-Some.ensures.lookup.1 in
+    asks_alone c.args.ground c.args.index page there _ _ _ c.of.ensures.grows c.of.ensures.asks c.run.ensures.asks
+
+pub returns-clause-asks : goal.returns-clause-asks
+returns-clause-asks g c =
+    let page = c.in-Some.page.now in
+    let there = page_at c.args.ground.plan.now.pages c.as_slice.result.now c.args.index page c.as_slice.ensures
+    c.in-Some.ensures.lookup.3.0 c.in-Some.ensures.lookup.1 in
+    asks_alone c.args.ground c.args.index page there _ _ _ c.of.ensures.grows c.of.ensures.asks c.run.ensures.asks

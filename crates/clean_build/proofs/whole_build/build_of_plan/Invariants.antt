@@ -1,6 +1,6 @@
 use Rattle.std.specs.Prelude.{[]}
 use Rattle.reader_spec.specs.World.{world_of}
-use Rattle.readers.specs.Noted.{told_alone}
+use Rattle.source_reader.specs.Stored.{told_alone}
 use Rattle.readers.specs.Setting.{no_setting}
 use Rattle.clean_build.proofs.whole_build.build_of_plan.Given as goal
 

@@ -4,7 +4,7 @@ use Rattle.std.proofs.Common.{refl, sym, ap, subst, ◌∙◌}
 use Rattle.dita_doc.specs.declared.fact.Html.{Html}
 use Rattle.dita_doc.specs.declared.fault.Fault.{Fault}
 use Rattle.dita_doc.specs.declared.plan.PagePlan.{PagePlan}
-use Rattle.page_spec.specs.Pushes.{pushed}
+use Rattle.map_spec.specs.Pushes.{pushed}
 use Rattle.part_spec.specs.Parts.{page_part, page_parts, rooms}
 use Rattle.clean_build.specs.Made.{page_behind}
 use Rattle.clean_build.proofs.PartLaws.{all_put, next_put, none_put, without_rows}

@@ -7,6 +7,9 @@ use Rattle.readers.specs.Founded.{StaysFounded, homes}
 use Rattle.xref_links.specs.Here.{IsPageOf}
 use Rattle.clean_build.specs.Bodies.{IsBodyMade}
 use Rattle.clean_build.proofs.ReadyLaws.{is_page}
+use Rattle.conref_pull.specs.Asking.{of_content}
+use Rattle.readers.proofs.DocumentLaws.{asks_same}
+use Rattle.readers.specs.Documents.{AsksOnly}
 use Rattle.clean_build.proofs.works.body_on_ground.Goals as goal
 
 pub returns-clause-known : goal.returns-clause-known
@@ -28,3 +31,12 @@ returns-clause-founded g c = subst (λ (context : Context).
     StaysFounded (homes (g.A.Reader.stand c.args.asker.now).setting.nodes
     ++ context.page.doc ∷ ditavals context.val context.page.filters) (g.A.Reader.told c.args.asker.now)
     (g.A.Reader.told c.page_body.new.asker)) c.in_ok-context.ensures c.page_body.ensures.founded
+
+pub returns-in_err-context-clause-asks : goal.returns-in_err-context-clause-asks
+returns-in_err-context-clause-asks g c = asks_same _ _ _ _ refl
+
+pub returns-clause-asks : goal.returns-clause-asks
+returns-clause-asks g c = subst (λ (context : Context).
+    AsksOnly of_content (context.page.doc ∷ ditavals context.val context.page.filters)
+    (g.A.Reader.told c.args.asker.now) (g.A.Reader.told c.page_body.new.asker)) c.in_ok-context.ensures
+    c.page_body.ensures.asks

@@ -2,6 +2,7 @@ use Rattle.clean_build.specs.Ground.{context_for}
 use Rattle.clean_build.proofs.NameLaws.{stays_content, stays_linked, stays_titled}
 use Rattle.clean_build.proofs.PageLaws.{page_shown}
 use Rattle.readers.proofs.GrowthLaws.{agrees_before, grows_trans}
+use Rattle.clean_build.proofs.AskLaws.{asks_behind}
 use Rattle.clean_build.proofs.works.rooted.Goals as goal
 
 pub returns-clause-known : goal.returns-clause-known
@@ -50,3 +51,26 @@ returns-in_err-html-clause-grows g c = grows_trans _ _ _ c.body_on_ground.ensure
 pub returns-clause-grows : goal.returns-clause-grows
 returns-clause-grows g c = grows_trans _ _ _ c.body_on_ground.ensures.grows
     (grows_trans _ _ _ c.of_page.ensures.grows c.titled.ensures.grows)
+
+pub returns-in_err-body-clause-asks : goal.returns-in_err-body-clause-asks
+returns-in_err-body-clause-asks g c = c.body_on_ground.ensures.asks
+
+pub returns-in_err-of_nodes-clause-asks : goal.returns-in_err-of_nodes-clause-asks
+returns-in_err-of_nodes-clause-asks g c = asks_behind _ _ _ _ c.body_on_ground.ensures.grows
+    c.body_on_ground.ensures.asks c.of_page.ensures.asks
+
+pub returns-in_err-hrefs-clause-asks : goal.returns-in_err-hrefs-clause-asks
+returns-in_err-hrefs-clause-asks g c = asks_behind _ _ _ _ c.body_on_ground.ensures.grows
+    c.body_on_ground.ensures.asks c.of_page.ensures.asks
+
+pub returns-in_err-html-clause-asks : goal.returns-in_err-html-clause-asks
+returns-in_err-html-clause-asks g c = asks_behind _ _ _ _
+    (grows_trans _ _ _ c.body_on_ground.ensures.grows c.of_page.ensures.grows)
+    (asks_behind _ _ _ _ c.body_on_ground.ensures.grows c.body_on_ground.ensures.asks c.of_page.ensures.asks)
+    c.titled.ensures.asks
+
+pub returns-clause-asks : goal.returns-clause-asks
+returns-clause-asks g c = asks_behind _ _ _ _
+    (grows_trans _ _ _ c.body_on_ground.ensures.grows c.of_page.ensures.grows)
+    (asks_behind _ _ _ _ c.body_on_ground.ensures.grows c.body_on_ground.ensures.asks c.of_page.ensures.asks)
+    c.titled.ensures.asks

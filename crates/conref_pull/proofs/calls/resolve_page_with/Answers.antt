@@ -7,7 +7,7 @@ use Rattle.dita_doc.specs.declared.doc.Doc.{Doc}
 use Rattle.dita_doc.specs.declared.plan.Context.{Context}
 use Rattle.map_spec.specs.Written.{Written}
 use Rattle.readers.specs.Documents.{IsGiven}
-use Rattle.page_spec.specs.Content.{Made, page_root, resolved_in}
+use Rattle.conref_spec.specs.Content.{Made, page_root, resolved_in}
 use Rattle.map_spec.specs.Written.{End}
 use Rattle.readers.specs.Named.{named_found, named_tree, reused_in}
 use Rattle.readers.specs.Setting.{Stand}

@@ -14,7 +14,7 @@ use Rattle.readers.proofs.GrowthLaws.{grows_trans, agrees_before}
 use Rattle.conref_pull.specs.Asking.{AreGiven, reused_of_doc}
 use Rattle.conref_pull.proofs.AskingLaws.{about_next, about_page, about_rules, about_then, given_none, given_reused, none_among}
 use Rattle.std.proofs.lemmas.Result.{IfOk-weaker, on_ok_weaker}
-use Rattle.page_spec.specs.Content.{Made, page_root, resolved_in}
+use Rattle.conref_spec.specs.Content.{Made, page_root, resolved_in}
 use Rattle.conref_pull.specs.Hrefs.{HaveNamed, HaveNamedIn}
 use Rattle.conref_pull.specs.Putting.{built}
 use Rattle.conref_pull.specs.Resolved.{IsResolved, too_many_faults}

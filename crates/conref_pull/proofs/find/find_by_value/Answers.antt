@@ -4,7 +4,7 @@ use Rattle.std.specs.Option.{option_copied, unwrap_or}
 use Rattle.std.proofs.Common.{List, ℕ}
 use Rattle.href_text.specs.Joined.{joined}
 use Rattle.map_spec.specs.Target.{if_read}
-use Rattle.page_spec.specs.Content.{by_conref, found_in}
+use Rattle.conref_spec.specs.Content.{by_conref, found_in}
 use Rattle.conref_pull.specs.Setting.{setting_of}
 use Rattle.conref_pull.proofs.AskingLaws.{about_among, first_page}
 use Rattle.conref_pull.proofs.FileLaws.{value_among}

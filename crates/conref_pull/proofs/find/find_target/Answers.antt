@@ -2,7 +2,7 @@ use Rattle.std.proofs.Common.{List, ℕ, Option, [], ◌∷◌, sym, ap, refl, s
 use Rattle.std.specs.Option.{option_to_list, unwrap_or}
 use Rattle.dita_doc.specs.declared.plan.Target.{Target}
 use Rattle.map_spec.specs.Pages.{local_name}
-use Rattle.page_spec.specs.Content.{found_in, key_named}
+use Rattle.conref_spec.specs.Content.{found_in, key_named}
 use Rattle.conref_pull.specs.Asking.{AreGiven}
 use Rattle.conref_pull.specs.Setting.{setting_of}
 use Rattle.conref_pull.proofs.AskingLaws.{about_given, about_same}

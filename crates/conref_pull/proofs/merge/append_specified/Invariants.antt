@@ -1,5 +1,5 @@
 use Rattle.std.proofs.Common.{◌≡◌, ◌++◌, drop}
-use Rattle.page_spec.specs.Content.{specified}
+use Rattle.conref_spec.specs.Content.{specified}
 use Rattle.conref_pull.proofs.merge.append_specified.Given as goal
 
 abbrev pub invariant-loop-attribute : goal.invariant-loop-attribute

@@ -2,7 +2,7 @@ use Rattle.std.proofs.Common.{◌∙◌, ap}
 use Rattle.std.specs.List.{list_any}
 use Rattle.std.specs.Prelude.{bytes_eq}
 use Rattle.std.proofs.lemmas.List.{take_all}
-use Rattle.page_spec.specs.Pushes.{pushing_names, without_names}
+use Rattle.map_spec.specs.Pushes.{pushing_names, without_names}
 use Rattle.conref_push.proofs.AttributeLaws.{kept_more}
 use Rattle.conref_push.proofs.attributes.attributes_beside.Goals as goal
 

@@ -1,5 +1,5 @@
 use Rattle.std.proofs.Common.{◌≡◌, take}
-use Rattle.page_spec.specs.Pushes.{pushing_names, without_names}
+use Rattle.map_spec.specs.Pushes.{pushing_names, without_names}
 use Rattle.conref_push.proofs.attributes.attributes_beside.Given as goal
 
 abbrev pub invariant-loop-attribute : goal.invariant-loop-attribute

@@ -3,7 +3,7 @@ use Rattle.std.proofs.lemmas.List.{take_all}
 use Rattle.std.specs.List.{list_any}
 use Rattle.std.specs.Prelude.{◌||◌, bytes_eq}
 use Rattle.dita_doc.specs.ClassValue.{value_of}
-use Rattle.page_spec.specs.Pushes.{id_written, pushing_names, without_names}
+use Rattle.map_spec.specs.Pushes.{id_written, pushing_names, without_names}
 use Rattle.conref_push.proofs.AttributeLaws.{kept_instead}
 use Rattle.conref_push.proofs.attributes.attributes_instead.Goals as goal
 

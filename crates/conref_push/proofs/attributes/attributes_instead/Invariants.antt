@@ -1,6 +1,6 @@
 use Rattle.std.proofs.Common.{◌≡◌, ◌∷◌, ◌++◌, [], take, codes}
 use Rattle.dita_doc.specs.ClassValue.{value_of}
-use Rattle.page_spec.specs.Pushes.{id_written, pushing_names, without_names}
+use Rattle.map_spec.specs.Pushes.{id_written, pushing_names, without_names}
 use Rattle.conref_push.proofs.attributes.attributes_instead.Given as goal
 
 abbrev pub invariant-loop-attribute : goal.invariant-loop-attribute

@@ -4,7 +4,7 @@ use Rattle.doc_elements.specs.Walk.{content_in, element_of}
 use Rattle.doc_maker.specs.Building.{behind}
 use Rattle.doc_maker.specs.Made.{building}
 use Rattle.map_spec.specs.Written.{Chars, End, written_in}
-use Rattle.page_spec.specs.Pushes.{without_acting}
+use Rattle.map_spec.specs.Pushes.{without_acting}
 use Rattle.conref_push.proofs.MakingLaws.{closed_with, quiet_acting, quiet_first, quiet_node, quiet_put, way_end, way_on}
 use Rattle.conref_push.proofs.pushed_doc.+put_quiet.Goals as goal
 

@@ -4,7 +4,7 @@ use Rattle.dita_doc.specs.Tree.{size_of}
 use Rattle.doc_elements.specs.Walk.{content_in}
 use Rattle.doc_maker.specs.Building.{behind}
 use Rattle.doc_maker.specs.Made.{building}
-use Rattle.page_spec.specs.Pushes.{without_acting}
+use Rattle.map_spec.specs.Pushes.{without_acting}
 use Rattle.conref_push.proofs.pushed_doc.+put_quiet.Given as goal
 
 abbrev pub decreases-put_quiet : goal.decreases-put_quiet

@@ -3,7 +3,7 @@ use Rattle.std.specs.Arc.{arc_value}
 use Rattle.dita_doc.specs.Tree.{tree_of}
 use Rattle.dita_doc.specs.declared.doc.Doc.{Doc}
 use Rattle.map_spec.specs.Written.{written_in}
-use Rattle.page_spec.specs.Pushes.{pushed_from}
+use Rattle.map_spec.specs.Pushes.{pushed_from}
 use Rattle.readers.specs.Documents.{IsGiven}
 use Rattle.conref_push.specs.Into.{froms}
 use Rattle.conref_push.specs.Making.{AreAsked, AreGroups}

@@ -3,7 +3,7 @@ use Rattle.dita_doc.specs.Siblings.{content}
 use Rattle.dita_doc.specs.Tree.{size_of}
 use Rattle.doc_elements.specs.Walk.{content_in, element_of}
 use Rattle.map_spec.specs.Written.{written_in}
-use Rattle.page_spec.specs.Places.{topic_inside}
+use Rattle.map_spec.specs.Places.{topic_inside}
 use Rattle.topic_find.proofs.WalkLaws.{size_written}
 use Rattle.conref_push.specs.Sight.{element_before, sight_of}
 use Rattle.conref_push.proofs.SightLaws.{way_element, way_end, way_text}

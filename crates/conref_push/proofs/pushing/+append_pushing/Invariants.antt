@@ -2,7 +2,7 @@ use Rattle.std.proofs.Common.{◌≡◌, ◌+◌, ◌++◌, ◌≤◌, ℕ, List
 use Rattle.dita_doc.specs.Siblings.{content}
 use Rattle.dita_doc.specs.Tree.{size_of}
 use Rattle.doc_elements.specs.Walk.{content_in}
-use Rattle.page_spec.specs.Places.{TopicAt, standing_from}
+use Rattle.map_spec.specs.Places.{TopicAt, standing_from}
 use Rattle.conref_push.specs.Sight.{all_seen, element_before, id_around, sight_of}
 use Rattle.conref_push.proofs.pushing.+append_pushing.Given as goal
 

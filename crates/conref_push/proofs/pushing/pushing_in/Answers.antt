@@ -2,7 +2,7 @@ use Rattle.std.proofs.Common.{◌≡◌, None, refl, map, subst}
 use Rattle.dita_doc.specs.Siblings.{content}
 use Rattle.dita_doc.specs.Tree.{Content}
 use Rattle.map_spec.specs.Written.{written_in}
-use Rattle.page_spec.specs.Places.{all_standing}
+use Rattle.map_spec.specs.Places.{all_standing}
 use Rattle.topic_find.proofs.WalkLaws.{root_fits}
 use Rattle.conref_push.specs.Sight.{all_seen, sight_of}
 use Rattle.conref_push.proofs.SightLaws.{from_none}

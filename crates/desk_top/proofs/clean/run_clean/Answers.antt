@@ -9,7 +9,7 @@ returns-in-Ok-answered g c =
     let pages = rw c.as_slice.ensures at c.in-Ok-answered.ensures.pages in
     let written = rw c.as_slice-in-Ok-answered.ensures at c.written.ensures in
     ends_written _ _ c.in-Ok.input c.in-Ok-answered.output c.in-Ok-answered.status _ c.in-Ok.ensures.ok answer.0
-    answer.1 form pages written
+    answer.1 form pages c.in-Ok.ensures.cause.stays c.in-Ok-answered.ensures.cause.stays written
 
 pub returns-in-Err-Fault-answered : goal.returns-in-Err-Fault-answered
 returns-in-Err-Fault-answered g c =

@@ -1,4 +1,4 @@
-use Rattle.std.proofs.Common.{◌≡◌, ◌<◌, ◌≤◌, ◌-◌, ℕ, List, ◌++◌, min, take, length, arith, length-append, length-take, append-nil}
+use Rattle.std.proofs.Common.{◌≡◌, ◌<◌, ◌≤◌, ◌-◌, ℕ, List, ◌++◌, min, take, length, arith, length-append, length-take, append-nil, ◌∙◌}
 use Rattle.std.proofs.KnownBytes.{Consumes-trans}
 use Rattle.desk_top.proofs.outside.read_all.Goals as goal
 
@@ -24,7 +24,7 @@ loop-buffer-preserved g c =
           (rw c.len-in-loop-buffer-2.ensures.length at c.min-room.ensures) c.loop-buffer.invariant.within;
       room = c.loop-buffer.invariant.room;
       gave = rw e (Consumes-trans _ _ _ _ _ c.loop-buffer.invariant.gave c.in-Ok.ensures.bytes.0);
-      counted = omega (arith, c.in-Ok.ensures.cause.later);
+      counted = c.in-Ok.ensures.cause.stays ∙ c.loop-buffer.invariant.counted;
     }
 
 pub returns-then-count-eq0-clause-ok : goal.returns-then-count-eq0-clause-ok

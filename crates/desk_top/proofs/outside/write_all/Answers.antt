@@ -1,4 +1,4 @@
-use Rattle.std.proofs.Common.{◌≡◌, ◌-◌, length, take, drop, sym, arith}
+use Rattle.std.proofs.Common.{◌≡◌, ◌-◌, length, take, drop, sym, arith, ◌∙◌}
 use Rattle.std.proofs.KnownBytes.{Appends-trans, Appends-kept}
 use Rattle.std.proofs.Math.Seq.{take-add}
 use Rattle.std.proofs.lemmas.Grind.{common_steps}
@@ -27,5 +27,5 @@ loop-done-preserved g c =
     record {
       inside = grind (arith, common_steps);
       taken = rw take-add (Appends-trans _ _ _ _ _ c.loop-done.invariant.taken taken);
-      counted = omega (arith, c.in_ok-done.ensures.cause.later);
+      counted = c.in_ok-done.ensures.cause.stays ∙ c.loop-done.invariant.counted;
     }

@@ -1,4 +1,4 @@
-use Rattle.language_laws.proofs.WordLaws.{name_under}
+use Rattle.build_plan.proofs.WordLaws.{name_under}
 use Rattle.desk_top.proofs.path.page_path.Goals as goal
 
 pub new-requires : goal.new-requires

@@ -59,7 +59,7 @@ loop-session-preserved g c =
       own = All-tail IsOwnStep _ _ (subst (All IsOwnStep) c.in-Some.ensures.steps.0 c.loop-session.invariant.own);
       desk = c.in_ok-answer.ensures.desk;
       answered = one_answered _ _ _ _ _ _ _ _ _ _ before c.in_ok-answer.ensures.ok c.in_ok-answer.ensures.pages;
-      counted = omega (arith, c.in_ok-answer.ensures.cause.later);
+      counted = c.in_ok-answer.ensures.cause.stays ∙ c.loop-session.invariant.counted;
     }
 
 pub returns-in_err-answer-clause-pages : goal.returns-in_err-answer-clause-pages

@@ -1,4 +1,4 @@
-use Rattle.std.proofs.Common.{◌≡◌, ◌≤◌, length}
+use Rattle.std.proofs.Common.{◌≡◌, length}
 use Rattle.std.specs.List.{All}
 use Rattle.std.specs.Vec.Iter.{into_iter_items, into_iter_len}
 use Rattle.script_text.specs.Facts.{IsOwnStep}
@@ -15,5 +15,5 @@ invariant-loop-session g l = record {
   answered : HasAnswered (steps_seen l.fn.script.steps) l.store.history
       (steps_seen (into_iter_items l.session-iterator)) l.text (g.O.Outlet.pages l.fn.outlet)
       (g.O.Outlet.pages l.outlet);
-  counted : g.O.Outlet.faults l.fn.outlet ≤ g.O.Outlet.faults l.outlet;
+  counted : g.O.Outlet.faults l.outlet ≡ g.O.Outlet.faults l.fn.outlet;
 }

@@ -6,7 +6,7 @@ use Rattle.dita_doc.specs.declared.doc.Doc.{Doc}
 use Rattle.html_blocks.specs.Walk.{content_of, names_of}
 use Rattle.html_tables.specs.Walk.{element_named}
 use Rattle.html_tables.proofs.WalkLaws.{size_named}
-use Rattle.page_spec.specs.Blocks.{shown, shown_from}
+use Rattle.html_spec.specs.Blocks.{shown, shown_from}
 use Rattle.readers.specs.Named.{name_at, named}
 use Rattle.html_blocks.proofs.ContextLaws.{kept_within}
 use Rattle.html_blocks.proofs.NodeLaws.{end_first, first_named, origin_fits, text_named}

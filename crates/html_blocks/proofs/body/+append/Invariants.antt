@@ -2,7 +2,7 @@ use Rattle.std.proofs.Common.{◌≡◌, ◌+◌, ◌*◌, ◌≤◌}
 use Rattle.dita_doc.specs.Siblings.{content, document}
 use Rattle.dita_doc.specs.Tree.{size_of}
 use Rattle.html_blocks.specs.Walk.{IsWithin, content_of}
-use Rattle.page_spec.specs.Blocks.{Context, shown_from}
+use Rattle.html_spec.specs.Blocks.{Context, shown_from}
 use Rattle.html_blocks.proofs.WayLaws.{IsOnTheWay}
 use Rattle.html_blocks.proofs.body.+append.Given as goal
 

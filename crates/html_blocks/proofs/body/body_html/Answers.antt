@@ -2,7 +2,7 @@ use Rattle.std.proofs.Common.{◌∙◌, ap}
 use Rattle.dita_doc.specs.Siblings.{content}
 use Rattle.dita_doc.specs.declared.doc.Doc.{Doc}
 use Rattle.html_blocks.specs.Walk.{content_of}
-use Rattle.page_spec.specs.Blocks.{outside, shown_from}
+use Rattle.html_spec.specs.Blocks.{outside, shown_from}
 use Rattle.readers.specs.Named.{named, named_tree}
 use Rattle.html_blocks.proofs.BodyLaws.{body_shown}
 use Rattle.html_blocks.proofs.NodeLaws.{root_fits}

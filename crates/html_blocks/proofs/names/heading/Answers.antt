@@ -1,5 +1,5 @@
 use Rattle.std.proofs.Common.{ap, arith}
-use Rattle.page_spec.specs.Blocks.{level_of}
+use Rattle.html_spec.specs.Blocks.{level_of}
 use Rattle.html_blocks.proofs.NameLaws.{heading_at, six}
 use Rattle.html_blocks.proofs.names.heading.Goals as goal
 

@@ -1,6 +1,6 @@
 use Rattle.std.proofs.Common.{◌+◌, ◌-◌, ◌^◌, min, sym, ap, ◌∙◌}
 use Rattle.html_blocks.specs.Shown.{around_shown}
-use Rattle.page_spec.specs.Blocks.{heading, title_tag}
+use Rattle.html_spec.specs.Blocks.{heading, title_tag}
 use Rattle.html_blocks.proofs.NameLaws.{heading_capped, heading_next}
 use Rattle.html_blocks.proofs.names.title_name.Goals as goal
 

@@ -3,7 +3,7 @@ use Rattle.dita_doc.specs.Siblings.{content}
 use Rattle.doc_elements.specs.Walk.{found_in}
 use Rattle.html_blocks.specs.Walk.{content_of, names_of}
 use Rattle.map_spec.specs.Elements.{first_child, text_of}
-use Rattle.page_spec.specs.Blocks.{attribute_text}
+use Rattle.html_spec.specs.Blocks.{attribute_text}
 use Rattle.html_blocks.proofs.BareLaws.{child_found}
 use Rattle.html_blocks.proofs.TagLaws.{text_as}
 use Rattle.html_blocks.proofs.start.append_child_alt.Goals as goal

@@ -2,7 +2,7 @@ use Rattle.std.proofs.Common.{◌∙◌, ap, codes, sym}
 use Rattle.doc_elements.specs.Walk.{element_of}
 use Rattle.html_blocks.specs.Opened.{class_by, note_text}
 use Rattle.html_forms.specs.Shown.{form_shown_of}
-use Rattle.page_spec.specs.Blocks.{attribute_text, if_some_text}
+use Rattle.html_spec.specs.Blocks.{attribute_text, if_some_text}
 use Rattle.html_blocks.proofs.TagLaws.{note_parts, text_as}
 use Rattle.html_blocks.proofs.start.append_class.Goals as goal
 

@@ -4,7 +4,7 @@ use Rattle.html_blocks.specs.Opened.{image_by}
 use Rattle.html_blocks.specs.Shown.{name_begun}
 use Rattle.html_blocks.specs.Walk.{element_of, inside_of, names_of}
 use Rattle.map_spec.specs.Titles.{id_of}
-use Rattle.page_spec.specs.Blocks.{alt_of, attribute_text}
+use Rattle.html_spec.specs.Blocks.{alt_of, attribute_text}
 use Rattle.readers.specs.Named.{name_at}
 use Rattle.html_blocks.proofs.TagLaws.{image_parts, text_last, unwrap_now}
 use Rattle.html_blocks.proofs.start.append_image.Goals as goal

@@ -1,7 +1,7 @@
 use Rattle.std.proofs.Common.{◌++◌, ◌∙◌, ap, codes}
 use Rattle.doc_elements.specs.Walk.{element_of}
-use Rattle.page_spec.specs.Blocks.{span_text, spans}
-use Rattle.page_spec.specs.Tables.{rows_of}
+use Rattle.html_spec.specs.Blocks.{span_text, spans}
+use Rattle.html_spec.specs.Tables.{rows_of}
 use Rattle.html_blocks.proofs.TagLaws.{text_then}
 use Rattle.html_blocks.proofs.start.append_spans.Goals as goal
 

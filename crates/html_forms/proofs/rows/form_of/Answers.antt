@@ -1,5 +1,5 @@
 use Rattle.std.proofs.Common.{ℕ, List, ap, option_map}
-use Rattle.page_spec.specs.Blocks as blocks
+use Rattle.html_spec.specs.Blocks as blocks
 use Rattle.html_forms.proofs.rows.form_of.Goals as goal
 
 pub returns-in-Some : goal.returns-in-Some

@@ -1,7 +1,7 @@
 use Rattle.std.proofs.Common.{None, Some}
 use Rattle.dita_doc.specs.ClassValue.{words_of}
 use Rattle.html_forms.specs.Shown.{row_among, row_found, row_shown_of}
-use Rattle.page_spec.specs.Blocks.{row_of}
+use Rattle.html_spec.specs.Blocks.{row_of}
 use Rattle.html_forms.proofs.RowLaws.{row_last, row_more}
 use Rattle.html_forms.proofs.rows.row_among.Goals as goal
 

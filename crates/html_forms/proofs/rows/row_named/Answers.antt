@@ -3,7 +3,7 @@ use Rattle.std.proofs.lemmas.Iterator.{YieldsList-from_slice}
 use Rattle.std.proofs.lemmas.Iterator.Search.{find_from_yields_List}
 use Rattle.std.specs.Slice.Iter.{iter_rest}
 use Rattle.html_forms.specs.Shown.{Row, row_shown_of}
-use Rattle.page_spec.specs.Blocks.{forms, is_form_of}
+use Rattle.html_spec.specs.Blocks.{forms, is_form_of}
 use Rattle.html_forms.proofs.FindLaws.{found_shown}
 use Rattle.html_forms.proofs.rows.row_named.Goals as goal
 

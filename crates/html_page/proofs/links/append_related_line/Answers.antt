@@ -1,4 +1,4 @@
-use Rattle.page_spec.specs.PageHtml.{link_item}
+use Rattle.html_spec.specs.PageHtml.{link_item}
 use Rattle.html_page.proofs.PieceLaws.{appended_last, piece_more}
 use Rattle.html_page.proofs.RelatedLaws.{related_written}
 use Rattle.html_page.proofs.links.append_related_line.Goals as goal

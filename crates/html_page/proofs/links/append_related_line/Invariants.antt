@@ -1,6 +1,6 @@
 use Rattle.std.proofs.Common.{◌≡◌, ◌++◌, take}
 use Rattle.std.specs.List.{flat_map}
-use Rattle.page_spec.specs.PageHtml.{link_item}
+use Rattle.html_spec.specs.PageHtml.{link_item}
 use Rattle.html_page.proofs.links.append_related_line.Given as goal
 
 abbrev pub invariant-loop-link : goal.invariant-loop-link

@@ -1,5 +1,5 @@
 use Rattle.std.proofs.Common.{◌∙◌}
-use Rattle.page_spec.specs.PageHtml.{page_limit, page_text}
+use Rattle.html_spec.specs.PageHtml.{page_limit, page_text}
 use Rattle.html_page.proofs.PageLaws.{page_instead, page_whole}
 use Rattle.html_page.proofs.page.page_html.Goals as goal
 

@@ -2,7 +2,7 @@ use Rattle.std.proofs.Common.{[], ◌∷◌, ◌++◌, bytes_eq, codes, ap, ◌�
 use Rattle.std.specs.List.{list_any}
 use Rattle.dita_doc.specs.Tree.{size_of}
 use Rattle.html_tables.specs.Walk.{AreColumns, Names, content_named, element_named}
-use Rattle.page_spec.specs.Tables.{column_names}
+use Rattle.html_spec.specs.Tables.{column_names}
 use Rattle.readers.specs.Named.{name_at, named}
 use Rattle.html_tables.proofs.ColumnLaws.{names_column, names_inside, names_other, way_ends, way_more, way_same}
 use Rattle.html_tables.proofs.columns.+append_columns.Goals as goal

@@ -2,7 +2,7 @@ use Rattle.std.proofs.Common.{◌++◌, ◌≤◌, ℕ, List}
 use Rattle.dita_doc.specs.Siblings.{content}
 use Rattle.dita_doc.specs.Tree.{size_of}
 use Rattle.html_tables.specs.Walk.{AreColumns, Names, content_named}
-use Rattle.page_spec.specs.Tables.{column_names}
+use Rattle.html_spec.specs.Tables.{column_names}
 use Rattle.html_tables.proofs.ColumnLaws.{IsOnTheWay}
 use Rattle.html_tables.proofs.columns.+append_columns.Given as goal
 

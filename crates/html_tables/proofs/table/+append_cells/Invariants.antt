@@ -2,7 +2,7 @@ use Rattle.std.proofs.Common.{◌≡◌, ◌+◌, ◌≤◌, ℕ, List}
 use Rattle.dita_doc.specs.Siblings.{content}
 use Rattle.dita_doc.specs.Tree.{size_of}
 use Rattle.html_tables.specs.Walk.{IsContext, content_named}
-use Rattle.page_spec.specs.Blocks.{Context, cells_from}
+use Rattle.html_spec.specs.Blocks.{Context, cells_from}
 use Rattle.html_tables.proofs.WalkLaws.{AreOnTheWay}
 use Rattle.html_tables.proofs.table.+append_cells.Given as goal
 

@@ -1,7 +1,10 @@
-use Rattle.std.proofs.Common.{List, length, refl, subst, sym}
+use Rattle.std.proofs.Common.{List, length, refl, subst, sym, ◌∙◌}
 use Rattle.dita_doc.specs.declared.plan.Scope.{Scope}
 use Rattle.key_scopes.specs.Above.{AreEndsFrom, AreInPreorder, parent_in}
 use Rattle.key_scopes.specs.Children.{AreChildNames}
+use Rattle.key_scopes.specs.Numbered.{entries}
+use Rattle.key_scopes.specs.OwnKeys.{by_level, rows_by}
+use Rattle.key_scopes.proofs.OwnKeyLaws.{rows_long}
 use Rattle.key_scopes.proofs.made.table_of.Goals as goal
 
 pub returns : goal.returns
@@ -16,4 +19,11 @@ returns c = record {
   children = subst (λ all. AreChildNames all c.in_ok-children.children.sorted.items c.in_ok-children.children.longest)
       c.as_slice-2.ensures c.in_ok-children.ensures;
   firsts = c.in_ok-definitions.ensures.firsts;
+  own_keys = c.in_ok-own_keys.ensures
+      ∙ (λ i. rows_by (c.len.ensures.length i) (by_level c.args.count (entries (c.deref.ensures.value i))));
 }
+
+pub invariant_of-result : goal.invariant_of-result
+invariant_of-result c =
+    rows_long c.in_ok-own_keys.own_keys.items c.len.result (by_level c.args.count (entries c.deref.result.now))
+    c.in_ok-own_keys.ensures ∙ c.len.ensures.length

@@ -1,6 +1,6 @@
 use Rattle.std.specs.Prelude.{[], ◌∷◌, Some, codes}
 use Rattle.std.proofs.Common.{◌∙◌, ap, sym}
-use Rattle.page_spec.specs.Links.{is_one_of}
+use Rattle.link_spec.specs.Links.{is_one_of}
 use Rattle.link_groups.specs.LinkNodes.{link_node_of}
 use Rattle.link_groups.proofs.link_nodes.link_node.Goals as goal
 

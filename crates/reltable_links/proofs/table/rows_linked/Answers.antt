@@ -2,7 +2,7 @@ use Rattle.std.proofs.Common.{[], ◌∙◌, ap, map, subst, sym}
 use Rattle.dita_doc.specs.declared.content.LinkKind.TheVariants as links
 use Rattle.link_groups.proofs.NodeLaws.{homes_stay}
 use Rattle.map_spec.specs.Cascade.{whole_at}
-use Rattle.page_spec.specs.Links.{links_of_kind}
+use Rattle.link_spec.specs.Links.{links_of_kind}
 use Rattle.readers.proofs.FoundedLaws.{stays_after}
 use Rattle.readers.proofs.GrowthLaws.{agrees_before}
 use Rattle.readers.specs.Setting.{Stand}

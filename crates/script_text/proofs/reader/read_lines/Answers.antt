@@ -3,8 +3,8 @@ use Rattle.std.proofs.lemmas.List.{map-append}
 use Rattle.std.proofs.lemmas.List.Elements.{All-push}
 use Rattle.dita_doc.specs.Lines.{lines_of}
 use Rattle.script_text.specs.Facts.{IsOwnStep}
-use Rattle.script_text.specs.Machine.{pending_seen, turn_seen}
-use Rattle.script_text.specs.declared.machine.Begun.{Begun}
+use Rattle.script_text.specs.Machine.{pending_seen, turned_seen}
+use Rattle.script_text.specs.declared.turn.Begun.{Begun}
 use Rattle.script_text.specs.Read.{step_seen, steps_seen}
 use Rattle.script_text.specs.Script.{is_no_line, script_line}
 use Rattle.script_text.proofs.StepLaws.{line_read, line_long, line_stopped, end_within, end_outside}
@@ -17,7 +17,7 @@ loop-line-preserved c =
     let turned = rw (c.in-Ok-Some.field-0-is, c.len.ensures.length) at c.in-Ok-Some.ensures.turn in
     let own = rw c.in-Ok-Some.field-0-is at c.in-Ok-Some.ensures.own in
     let before = pending_seen c.loop-line.machine.begun in
-    let next = turn_seen c.line.new.self.begun (Some step) in
+    let next = turned_seen c.line.new.self.begun (Some step) in
     let read = line_read script_line c.args.is_cut c.loop-line.number _ before c.in-Some.line.now _ _
     (steps_seen c.loop-line.steps) _ next c.loop-line.invariant.read c.in-Some.ensures.lines last turned in
     let seen = map-append step_seen c.loop-line.steps (step ∷ []) in
@@ -33,7 +33,7 @@ loop-line-preserved-in-Ok-None c =
     let last : false ≡ (c.args.is_cut && is_no_line (lines_of c.in-Some.more.now)) = cc in
     let turned = rw (c.in-Ok-None.field-0-is, c.len.ensures.length) at c.in-Ok-None.ensures.turn in
     let before = pending_seen c.loop-line.machine.begun in
-    let next = turn_seen c.line.new.self.begun None in
+    let next = turned_seen c.line.new.self.begun None in
     let read = line_read script_line c.args.is_cut c.loop-line.number _ before c.in-Some.line.now _ _
     (steps_seen c.loop-line.steps) _ next c.loop-line.invariant.read c.in-Some.ensures.lines last turned in
     record {
@@ -55,7 +55,7 @@ returns-in-Err-clause-steps c =
     let before = pending_seen c.loop-line.machine.begun in
     let turned = rw c.len.ensures.length at c.in-Err.ensures.turn in
     rw c.at_line.ensures
-    (line_stopped script_line c.args.is_cut (turn_seen c.line.new.self.begun) steps_seen c.loop-line.number _ before
+    (line_stopped script_line c.args.is_cut (turned_seen c.line.new.self.begun) steps_seen c.loop-line.number _ before
     c.in-Some.line.now _ _ (steps_seen c.loop-line.steps) _ c.in-Err.stop c.loop-line.invariant.read
     c.in-Some.ensures.lines last turned)
 

@@ -1,5 +1,5 @@
 use Rattle.std.proofs.Common.{ap, sym}
-use Rattle.page_spec.specs.Contents as contents
+use Rattle.html_spec.specs.Contents as contents
 use Rattle.toc_page.proofs.LabelLaws.{href_is, no_target, ok_as}
 use Rattle.toc_page.proofs.NameLaws.{targets_stay}
 use Rattle.toc_page.proofs.href.href_of.Goals as goal

@@ -2,9 +2,9 @@ use Rattle.std.proofs.Common.{◌∙◌, ◌++◌, ap, append_assoc}
 use Rattle.std.specs.Prelude.{codes}
 use Rattle.std.specs.List.{flat_map}
 use Rattle.dita_doc.specs.HtmlEscapes.{escaped}
-use Rattle.page_spec.specs.Blocks.{start_tag}
-use Rattle.page_spec.specs.Contents.{data_text, href_by, label_of, linked}
-use Rattle.page_spec.specs.Links.{target_of}
+use Rattle.html_spec.specs.Blocks.{start_tag}
+use Rattle.html_spec.specs.Contents.{data_text, href_by, label_of, linked}
+use Rattle.link_spec.specs.Links.{target_of}
 use Rattle.readers.proofs.DocumentLaws.{asks_after}
 use Rattle.readers.proofs.FoundedLaws.{stays_after}
 use Rattle.readers.proofs.GrowthLaws.{agrees_before, grows_trans}

@@ -1,7 +1,7 @@
 use Rattle.std.proofs.Common.{◌∙◌, [], ap, map}
 use Rattle.map_spec.specs.Cascade.{whole_at}
-use Rattle.page_spec.specs.Contents.{contents, contents_body}
-use Rattle.page_spec.specs.PageHtml as page_html
+use Rattle.html_spec.specs.Contents.{contents, contents_body}
+use Rattle.html_spec.specs.PageHtml as page_html
 use Rattle.readers.proofs.FoundedLaws.{stays_after}
 use Rattle.readers.proofs.GrowthLaws.{agrees_before, grows_trans}
 use Rattle.readers.specs.Setting.{Stand}

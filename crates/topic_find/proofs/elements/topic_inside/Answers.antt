@@ -1,5 +1,5 @@
 use Rattle.std.proofs.Common.{[], Some, unwrap_or, refl, ap, ◌∙◌}
-use Rattle.page_spec.specs.Places.{TopicAt}
+use Rattle.map_spec.specs.Places.{TopicAt}
 use Rattle.topic_find.proofs.WalkLaws.{read_or}
 use Rattle.topic_find.proofs.elements.topic_inside.Goals as goal
 

@@ -2,7 +2,7 @@ use Rattle.std.proofs.Common.{◌≡◌, ◌+◌, ◌++◌, ◌≤◌, ℕ, List
 use Rattle.dita_doc.specs.Siblings.{content}
 use Rattle.dita_doc.specs.Tree.{size_of}
 use Rattle.map_spec.specs.Written.{Element}
-use Rattle.page_spec.specs.Places.{Standing, first_topic, standing_from}
+use Rattle.map_spec.specs.Places.{Standing, first_topic, standing_from}
 use Rattle.topic_find.specs.Table.{IsOnTheWay, IsTableOf}
 use Rattle.topic_find.specs.Walk.{content_in, topic_at}
 use Rattle.topic_find.proofs.table.+add_elements.Given as goal

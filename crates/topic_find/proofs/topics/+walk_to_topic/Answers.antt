@@ -2,7 +2,7 @@ use Rattle.std.proofs.Common.{◌+◌, [], None, sym, ap, ◌∙◌, arith, rule
 use Rattle.dita_doc.specs.Siblings.{content}
 use Rattle.dita_doc.specs.Tree.{size_of}
 use Rattle.map_spec.specs.Written.{written_in}
-use Rattle.page_spec.specs.Places.{topic_inside}
+use Rattle.map_spec.specs.Places.{topic_inside}
 use Rattle.topic_find.specs.Walk.{element_of, is_topic_wanted}
 use Rattle.topic_find.proofs.WalkLaws.{passed, walk_behind, walk_inside}
 use Rattle.topic_find.proofs.topics.+walk_to_topic.Goals as goal

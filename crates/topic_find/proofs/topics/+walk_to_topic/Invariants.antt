@@ -1,7 +1,7 @@
 use Rattle.std.proofs.Common.{◌≡◌, ◌+◌, ◌≤◌, ℕ, List, Option}
 use Rattle.dita_doc.specs.Siblings.{content}
 use Rattle.dita_doc.specs.Tree.{size_of}
-use Rattle.page_spec.specs.Places.{TopicAt}
+use Rattle.map_spec.specs.Places.{TopicAt}
 use Rattle.topic_find.specs.Walk.{content_in, is_topic_wanted, walk_of}
 use Rattle.topic_find.proofs.topics.+walk_to_topic.Given as goal
 

@@ -1,6 +1,6 @@
 use Rattle.doc_elements.specs.Walk.{element_of}
-use Rattle.page_spec.specs.Anchors.{shows_href}
-use Rattle.page_spec.specs.Blocks.{row_for}
+use Rattle.html_spec.specs.Anchors.{shows_href}
+use Rattle.html_spec.specs.Blocks.{row_for}
 use Rattle.xref_links.proofs.FormLaws.{form_none, form_some}
 use Rattle.xref_links.proofs.image.shows_href.Goals as goal
 

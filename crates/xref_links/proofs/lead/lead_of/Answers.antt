@@ -1,5 +1,5 @@
 use Rattle.std.proofs.Common.{◌∙◌, ap, sym}
-use Rattle.page_spec.specs.Anchors.{lead_of, lead_to}
+use Rattle.html_spec.specs.Anchors.{lead_of, lead_to}
 use Rattle.xref_links.specs.Adding.{element_of}
 use Rattle.xref_links.proofs.LeadLaws.{lead_as, local_founded}
 use Rattle.xref_links.proofs.lead.lead_of.Goals as goal

@@ -1,6 +1,6 @@
 use Rattle.std.proofs.Common.{◌++◌, ◌∙◌, ap, sym}
 use Rattle.std.specs.Option.{option_copied}
-use Rattle.page_spec.specs.Anchors.{fragment}
+use Rattle.html_spec.specs.Anchors.{fragment}
 use Rattle.xref_links.proofs.LeadLaws.{lead_paged, lead_unpaged}
 use Rattle.xref_links.proofs.lead.lead_to_page.Goals as goal
 

@@ -1,6 +1,6 @@
 use Rattle.std.proofs.Common.{◌∙◌, refl}
 use Rattle.std.specs.Prelude.{[]}
-use Rattle.page_spec.specs.Anchors.{linked_by_read}
+use Rattle.html_spec.specs.Anchors.{linked_by_read}
 use Rattle.readers.proofs.GrowthLaws.{agrees_before, grows_trans}
 use Rattle.xref_links.specs.Adding.{element_of, read_as}
 use Rattle.xref_links.proofs.HereLaws.{here_kept}

@@ -1,7 +1,7 @@
 use Rattle.std.proofs.Common.{refl}
 use Rattle.std.specs.Prelude.{codes}
 use Rattle.map_spec.specs.Elements.{attribute}
-use Rattle.page_spec.specs.Anchors.{read_href}
+use Rattle.html_spec.specs.Anchors.{read_href}
 use Rattle.xref_links.specs.Adding.{element_of}
 use Rattle.xref_links.proofs.LinkLaws.{on_ok, written_more}
 use Rattle.xref_links.proofs.NameLaws.{read_founded}

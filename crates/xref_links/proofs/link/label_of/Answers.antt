@@ -1,6 +1,6 @@
 use Rattle.std.proofs.Common.{◌∙◌, ap, sym}
 use Rattle.std.specs.Prelude.{[], unwrap_or}
-use Rattle.page_spec.specs.Anchors.{text_of_target}
+use Rattle.html_spec.specs.Anchors.{text_of_target}
 use Rattle.xref_links.specs.Adding.{element_of, inside_of, label_with}
 use Rattle.xref_links.proofs.LabelLaws.{text_as, text_there}
 use Rattle.xref_links.proofs.link.label_of.Goals as goal

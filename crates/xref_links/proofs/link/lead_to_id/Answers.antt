@@ -1,5 +1,5 @@
 use Rattle.std.proofs.Common.{[], ◌∙◌, ap}
-use Rattle.page_spec.specs.Anchors.{lead_to}
+use Rattle.html_spec.specs.Anchors.{lead_to}
 use Rattle.readers.proofs.GrowthLaws.{agrees_before, grows_trans}
 use Rattle.xref_links.specs.Adding.{element_of}
 use Rattle.xref_links.proofs.HereLaws.{here_kept}

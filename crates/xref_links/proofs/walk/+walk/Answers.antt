@@ -10,7 +10,7 @@ use Rattle.readers.proofs.GrowthLaws.{agrees_before, grows_same, grows_trans}
 use Rattle.readers.specs.Documents.{nothing}
 use Rattle.readers.specs.Founded.{is_among}
 use Rattle.readers.specs.Setting.{Stand}
-use Rattle.page_spec.specs.Places.{topic_inside}
+use Rattle.map_spec.specs.Places.{topic_inside}
 use Rattle.xref_links.specs.Adding.{added_from}
 use Rattle.xref_links.specs.Body.{element_at, written_at}
 use Rattle.readers.specs.Named.{linked_by, linked_in}

@@ -2,8 +2,8 @@ use Rattle.std.proofs.Common.{◌≡◌, ◌+◌, ◌≤◌, ℕ, List, IsTrue, 
 use Rattle.dita_doc.specs.Siblings.{content, document}
 use Rattle.dita_doc.specs.Tree.{size_of}
 use Rattle.dita_doc.specs.declared.plan.PlanNode.{PlanNode}
-use Rattle.page_spec.specs.Anchors.{Here}
-use Rattle.page_spec.specs.Places.{TopicAt}
+use Rattle.html_spec.specs.Anchors.{Here}
+use Rattle.map_spec.specs.Places.{TopicAt}
 use Rattle.readers.specs.Documents.{AsksOnly, nothing}
 use Rattle.readers.specs.Founded.{Grows, StaysFounded, is_among}
 use Rattle.readers.specs.Told.{Agrees}

@@ -1,6 +1,6 @@
 use Rattle.std.proofs.Common.{Option, subst, sym}
 use Rattle.dita_doc.specs.declared.plan.Target.{Target}
-use Rattle.page_spec.specs.Anchors.{defined_key, image_added, image_by, keyref_of}
+use Rattle.html_spec.specs.Anchors.{defined_key, image_added, image_by, keyref_of}
 use Rattle.readers.specs.Founded.{StaysFounded}
 use Rattle.xref_links.specs.Adding.{HasMore, alone, element_of, target_of}
 use Rattle.readers.specs.Named.{linked_by}

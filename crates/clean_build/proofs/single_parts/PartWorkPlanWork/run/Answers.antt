@@ -8,6 +8,10 @@ use Rattle.clean_build.specs.Single.{part_html}
 use Rattle.clean_build.specs.declared.single_parts.Part.{Part}
 use Rattle.clean_build.proofs.NameLaws.{stays_contents}
 use Rattle.clean_build.proofs.ReadyLaws.{contents_html, ok_under, toc_ready}
+use Rattle.conref_pull.specs.Asking.{of_content}
+use Rattle.readers.specs.Documents.{AsksOnly}
+use Rattle.clean_build.specs.Single.{documents_for}
+use Rattle.clean_build.proofs.AskLaws.{asks_widely}
 use Rattle.clean_build.proofs.single_parts.PartWorkPlanWork.run.Goals as goal
 
 pub returns-in-Page-clause-known : goal.returns-in-Page-clause-known
@@ -27,3 +31,13 @@ returns-in-Contents-clause-known g c = λ world agrees.
 
 pub returns-in-Contents-clause-founded : goal.returns-in-Contents-clause-founded
 returns-in-Contents-clause-founded g c = stays_contents _ _ _ c.args.self.ground c.contents.ensures.founded
+
+pub returns-in-Page-clause-asks : goal.returns-in-Page-clause-asks
+returns-in-Page-clause-asks g c = subst (λ (part : Part).
+    AsksOnly of_content (documents_for c.args.self.ground part) (g.A.Reader.told c.args.asker.now)
+    (g.A.Reader.told c.page_alone.new.asker)) (sym c.in-Page.is) c.page_alone.ensures.asks
+
+pub returns-in-Contents-clause-asks : goal.returns-in-Contents-clause-asks
+returns-in-Contents-clause-asks g c = subst (λ (part : Part).
+    AsksOnly of_content (documents_for c.args.self.ground part) (g.A.Reader.told c.args.asker.now)
+    (g.A.Reader.told c.contents.new.asker)) (sym c.in-Contents.is) (asks_widely _ _ _ c.contents.ensures.asks)

@@ -17,3 +17,6 @@ returns-clause-known g c = λ world agrees.
 
 pub returns-clause-founded : goal.returns-clause-founded
 returns-clause-founded g c = stays_contents _ _ _ c.args.self.ground c.contents.ensures.founded
+
+pub returns-clause-asks : goal.returns-clause-asks
+returns-clause-asks g c = c.contents.ensures.asks

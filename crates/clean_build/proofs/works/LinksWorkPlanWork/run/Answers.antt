@@ -11,3 +11,6 @@ returns-clause-known g c = λ world agrees.
 
 pub returns-clause-founded : goal.returns-clause-founded
 returns-clause-founded g c = stays_links _ _ _ c.args.self.ground c.of.ensures.founded
+
+pub returns-clause-asks : goal.returns-clause-asks
+returns-clause-asks g c = c.of.ensures.asks

@@ -17,6 +17,7 @@ use Rattle.clean_build.proofs.NameLaws.{stays_doc, stays_with}
 use Rattle.clean_build.proofs.PageLaws.{page_rooted}
 use Rattle.clean_build.proofs.ReadyLaws.{ok_under}
 use Rattle.clean_build.proofs.RootLaws.{root_at}
+use Rattle.clean_build.proofs.AskLaws.{asks_first, asks_page}
 use Rattle.clean_build.proofs.works.PageWorkPlanWork.run.Goals as goal
 
 pub returns-clause-known : goal.returns-clause-known
@@ -56,3 +57,15 @@ returns-clause-founded g c = stays_after _ _ _ _ c.doc.ensures.grows
 
 pub returns-clause-grows : goal.returns-clause-grows
 returns-clause-grows g c = grows_trans _ _ _ c.doc.ensures.grows c.rooted.ensures.grows
+
+pub returns-in_err-doc-clause-asks : goal.returns-in_err-doc-clause-asks
+returns-in_err-doc-clause-asks g c = asks_first _ _ _ _ c.doc.ensures.asks
+
+pub returns-in_default-clause-asks : goal.returns-in_default-clause-asks
+returns-in_default-clause-asks g c = asks_first _ _ _ _ c.doc.ensures.asks
+
+pub returns-in_default-root_of-clause-asks : goal.returns-in_default-root_of-clause-asks
+returns-in_default-root_of-clause-asks g c = asks_first _ _ _ _ c.doc.ensures.asks
+
+pub returns-clause-asks : goal.returns-clause-asks
+returns-clause-asks g c = asks_page _ _ _ _ _ c.doc.ensures.grows c.doc.ensures.asks c.rooted.ensures.asks

@@ -1,6 +1,6 @@
 use Rattle.std.proofs.Common.{ℕ, List, length}
 use Rattle.map_spec.specs.Written.{Element}
-use Rattle.page_spec.specs.Content.{Place}
+use Rattle.conref_spec.specs.Content.{Place}
 use Rattle.readers.specs.Told.{Told}
 use Rattle.conref_pull.specs.Asking.{AreGivenTo}
 use Rattle.conref_pull.specs.Hrefs.{MergedNamed}

@@ -3,7 +3,7 @@ use Rattle.std.specs.Arc.{arc_value}
 use Rattle.dita_doc.specs.Siblings.{content}
 use Rattle.dita_doc.specs.Tree.{size_of}
 use Rattle.dita_doc.specs.declared.plan.PlanNode.{PlanNode}
-use Rattle.page_spec.specs.Content.{Place}
+use Rattle.conref_spec.specs.Content.{Place}
 use Rattle.reader_spec.specs.World.{World}
 use Rattle.readers.specs.Founded.{Grows}
 use Rattle.readers.specs.Named.{reused_in}

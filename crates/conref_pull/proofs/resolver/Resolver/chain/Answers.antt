@@ -1,6 +1,6 @@
 use Rattle.std.proofs.Common.{List, arith, sym, subst}
 use Rattle.doc_elements.specs.Walk.{element_of}
-use Rattle.page_spec.specs.Content.{followed}
+use Rattle.conref_spec.specs.Content.{followed}
 use Rattle.conref_pull.specs.Asking.{AreGivenTo}
 use Rattle.conref_pull.specs.Linked.{IsFollowed}
 use Rattle.conref_pull.specs.Setting.{path_within, setting_of}

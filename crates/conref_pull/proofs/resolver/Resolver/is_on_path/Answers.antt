@@ -1,4 +1,4 @@
-use Rattle.page_spec.specs.Content.{is_place}
+use Rattle.conref_spec.specs.Content.{is_place}
 use Rattle.conref_pull.specs.Accepting.{place_of}
 use Rattle.conref_pull.specs.Setting.{place_shown}
 use Rattle.conref_pull.proofs.AcceptLaws.{any_within}

@@ -1,7 +1,7 @@
 use Rattle.std.proofs.Common.{Option, sym, ap, refl, subst, ◌∙◌}
 use Rattle.std.specs.Option.{option_copied}
 use Rattle.doc_elements.specs.Walk.{element_of}
-use Rattle.page_spec.specs.Content as content
+use Rattle.conref_spec.specs.Content as content
 use Rattle.conref_pull.specs.Asking.{IsGivenIn}
 use Rattle.conref_pull.specs.Found.{IsSought}
 use Rattle.conref_pull.specs.Setting.{path_within, setting_of}

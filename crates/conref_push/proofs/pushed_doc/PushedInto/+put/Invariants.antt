@@ -5,7 +5,7 @@ use Rattle.dita_doc.specs.declared.content.Push.{Push}
 use Rattle.doc_elements.specs.Walk.{content_in}
 use Rattle.doc_maker.specs.Building.{behind}
 use Rattle.doc_maker.specs.Made.{building}
-use Rattle.page_spec.specs.Pushes.{pushed_from}
+use Rattle.map_spec.specs.Pushes.{pushed_from}
 use Rattle.reader_spec.specs.World.{World}
 use Rattle.conref_push.specs.Making.{IsInto}
 use Rattle.conref_push.proofs.pushed_doc.PushedInto.+put.Given as goal

@@ -4,7 +4,7 @@ use Rattle.dita_doc.specs.Tree.{Content, tree_of}
 use Rattle.doc_maker.specs.Building.{Building, behind, nothing, own_hrefs, whole}
 use Rattle.doc_maker.proofs.BuildingLaws.{whole_of_behind}
 use Rattle.map_spec.specs.Written.{written_in}
-use Rattle.page_spec.specs.Pushes.{pushed_from}
+use Rattle.map_spec.specs.Pushes.{pushed_from}
 use Rattle.topic_find.proofs.WalkLaws.{root_fits}
 use Rattle.conref_push.proofs.OwnLaws.{own_pushed}
 use Rattle.conref_push.proofs.pushed_doc.PushedInto.doc_from.Goals as goal

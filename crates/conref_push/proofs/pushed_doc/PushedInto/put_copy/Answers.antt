@@ -8,7 +8,7 @@ use Rattle.doc_maker.specs.Building.{behind, element, opened}
 use Rattle.doc_maker.specs.Made.{building}
 use Rattle.doc_maker.proofs.BuildingLaws.{behind_end}
 use Rattle.map_spec.specs.Written.{End, Node, Whole}
-use Rattle.page_spec.specs.Pushes.{without_acting}
+use Rattle.map_spec.specs.Pushes.{without_acting}
 use Rattle.conref_push.specs.Making.{copied}
 use Rattle.conref_push.specs.Sight.{element_before}
 use Rattle.conref_push.proofs.MakingLaws.{by_replaced, closed_with}

@@ -3,7 +3,7 @@ use Rattle.reader_spec.specs.World.{World}
 use Rattle.readers.specs.Documents.{AsksOnly}
 use Rattle.readers.specs.Founded.{AreAllowed, Grows, IsFounded, StaysFounded}
 use Rattle.readers.specs.Told.{Agrees}
-use Rattle.page_spec.specs.Pushes.{all_pushes}
+use Rattle.map_spec.specs.Pushes.{all_pushes}
 use Rattle.conref_push.specs.Aimed.{push_targets}
 use Rattle.conref_push.specs.Gathered.{IsGathered}
 use Rattle.conref_push.specs.Table.{acts_among}

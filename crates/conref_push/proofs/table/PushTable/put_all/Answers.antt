@@ -1,7 +1,7 @@
 use Rattle.std.proofs.Common.{◌∙◌, ap, map, refl, take}
 use Rattle.dita_doc.specs.Tree.{tree_of}
 use Rattle.map_spec.specs.Written.{written_in}
-use Rattle.page_spec.specs.Places.{all_standing}
+use Rattle.map_spec.specs.Places.{all_standing}
 use Rattle.readers.proofs.DocumentLaws.{asks_after, asks_same}
 use Rattle.readers.proofs.FoundedLaws.{stays_after, stays_same}
 use Rattle.readers.proofs.GrowthLaws.{agrees_before, grows_same, grows_trans}

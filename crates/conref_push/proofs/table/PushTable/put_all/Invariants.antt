@@ -1,7 +1,7 @@
 use Rattle.std.proofs.Common.{◌≡◌, ℕ, Bool, List, Some, map, take}
 use Rattle.dita_doc.specs.Tree.{tree_of}
 use Rattle.map_spec.specs.Written.{written_in}
-use Rattle.page_spec.specs.Pushes.{AllPushes}
+use Rattle.map_spec.specs.Pushes.{AllPushes}
 use Rattle.reader_spec.specs.World.{World}
 use Rattle.readers.specs.Documents.{AsksOnly, nothing}
 use Rattle.readers.specs.Founded.{Grows, StaysFounded}

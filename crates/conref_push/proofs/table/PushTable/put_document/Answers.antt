@@ -1,7 +1,7 @@
 use Rattle.std.proofs.Common.{◌∷◌, ◌∙◌, [], Some, ap, sym}
 use Rattle.dita_doc.specs.Tree.{tree_of}
 use Rattle.dita_doc.specs.declared.doc.Doc.{Doc}
-use Rattle.page_spec.specs.Pushes.{all_pushes}
+use Rattle.map_spec.specs.Pushes.{all_pushes}
 use Rattle.readers.proofs.DocumentLaws.{asks_one}
 use Rattle.readers.proofs.FoundedLaws.{among_first}
 use Rattle.readers.proofs.GrowthLaws.{agrees_before, grows_same, grows_trans, told_answer}

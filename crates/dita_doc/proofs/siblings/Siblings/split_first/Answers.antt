@@ -1,4 +1,4 @@
-use Rattle.std.proofs.Common.{◌+◌, ◌-◌, arith}
+use Rattle.std.proofs.Common.{◌+◌, ◌-◌, arith, refl}
 use Rattle.dita_doc.proofs.TreeLaws.{begins_element, stands_at, front_within, back_within}
 use Rattle.dita_doc.proofs.siblings.Siblings.split_first.Goals as goal
 
@@ -42,6 +42,11 @@ pub returns-in-Element-clause-content : goal.returns-in-Element-clause-content
 returns-in-Element-clause-content c =
     let begins = begins_element _ _ _ _ c.in-Some.ensures.cases.0 c.args.self.tree c.in-Element.is in
     simp (c.split_at.ensures.front, c.split_at.ensures.back) begins.all
+
+pub returns-in-Element-clause-places : goal.returns-in-Element-clause-places
+returns-in-Element-clause-places c =
+    let begins = begins_element _ _ _ _ c.in-Some.ensures.cases.0 c.args.self.tree c.in-Element.is in
+    (refl, rw c.split_at.ensures.front begins.end)
 
 pub invariant_of-result-clause-within : goal.invariant_of-result-clause-within
 invariant_of-result-clause-within c =

@@ -1,12 +1,14 @@
-use Rattle.std.proofs.Common.{sym}
-use Rattle.dita_doc.specs.Sources.{document_seen}
-use Rattle.dita_doc.proofs.SourcesLaws.{found_read, found_in_gap}
+use Rattle.std.proofs.Common.{sym, ap, subst, ◌∙◌}
+use Rattle.dita_doc.specs.Desk.{State, found}
+use Rattle.dita_doc.specs.Sources.{IsBlockFor}
+use Rattle.dita_doc.proofs.BlockLaws.{found_there}
 use Rattle.dita_doc.proofs.sources.Sources.find.Goals as goal
 
-pub returns-in-Ok : goal.returns-in-Ok
-returns-in-Ok c =
-    sym (found_read document_seen c.self.inside.documents.items c.args.self.now c.args.name.now c.in-Ok.at
-    c.index.result.now c.self.view_is c.in-Ok.ensures.found c.index.ensures)
-
-pub returns-in-Err : goal.returns-in-Err
-returns-in-Err c = sym (found_in_gap _ _ _ c.in-Err.ensures.absent)
+pub returns : goal.returns
+returns c =
+    let name = c.args.name.now in
+    let here = subst (λ all. IsBlockFor all name c.block_for.result) c.deref.ensures.value c.block_for.ensures in
+    c.find.ensures
+    ∙ ap (λ (held : State). found held name) c.deref-2.ensures
+    ∙ sym (found_there c.self.inside.blocks.items name c.block_for.result here c.index.result.now c.index.ensures)
+    ∙ ap (λ (held : State). found held name) c.self.view_is

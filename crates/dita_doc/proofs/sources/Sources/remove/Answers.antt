@@ -1,31 +1,18 @@
-use Rattle.std.proofs.Common.{sym, ap, subst, option_map}
-use Rattle.dita_doc.specs.Desk.{Stored, IsSortedByName}
-use Rattle.dita_doc.specs.Sources.{document_seen}
-use Rattle.dita_doc.proofs.NameOrder.{sorted_without, without_unfound}
-use Rattle.dita_doc.proofs.SourcesLaws.{found_read, found_in_gap, taken_away}
+use Rattle.std.proofs.Common.{sym, ap, subst, ◌∙◌, arith, is_some}
+use Rattle.std.specs.Int.{from_bool}
+use Rattle.dita_doc.specs.Desk.{IsSortedByName}
+use Rattle.dita_doc.specs.Sources.{all_stored}
+use Rattle.dita_doc.proofs.NameOrder.{sorted_without}
+use Rattle.dita_doc.proofs.BlockLaws.{from_test}
 use Rattle.dita_doc.proofs.sources.Sources.remove.Goals as goal
 
-pub returns-in-Ok-clause-after : goal.returns-in-Ok-clause-after
-returns-in-Ok-clause-after c = taken_away document_seen c.self.inside.documents.items c.args.self.now c.self.view_is
-    c.remove.new.self.items c.args.name.now c.in-Ok.at c.in-Ok.ensures.found c.remove.ensures.items
-
-pub invariant_of-self : goal.invariant_of-self
-invariant_of-self c =
-    let is = taken_away document_seen c.self.inside.documents.items c.args.self.now c.self.view_is
-    c.remove.new.self.items c.args.name.now c.in-Ok.at c.in-Ok.ensures.found c.remove.ensures.items in
-    subst IsSortedByName (sym is) (sorted_without c.args.name.now c.args.self.now
-    (subst IsSortedByName c.self.view_is c.self.invariant))
-
-pub returns-in-Ok-clause-version : goal.returns-in-Ok-clause-version
-returns-in-Ok-clause-version c =
-    let is = found_read document_seen c.self.inside.documents.items c.args.self.now c.args.name.now c.in-Ok.at
-    c.remove.result c.self.view_is c.in-Ok.ensures.found c.remove.ensures.value in
-    sym (ap (option_map (λ (stored : Stored). stored.version)) is)
-
-pub returns-in-Err-clause-version : goal.returns-in-Err-clause-version
-returns-in-Err-clause-version c =
-    sym (ap (option_map (λ (stored : Stored). stored.version)) (found_in_gap _ _ _ c.in-Err.ensures.absent))
-
-pub returns-in-Err-clause-after : goal.returns-in-Err-clause-after
-returns-in-Err-clause-after c =
-    sym (without_unfound c.args.name.now c.args.self.now (found_in_gap _ _ _ c.in-Err.ensures.absent))
+pub invariant_of-self-2 : goal.invariant_of-self-2
+invariant_of-self-2 c =
+    let before = c.self.invariant in
+    let told = c.in_ok-version.ensures in
+    let one = c.from.ensures ∙ ap from_bool c.is_some.ensures ∙ from_test (is_some c.in_ok-version.version) in
+    record {
+      sorted = subst IsSortedByName (sym told.ok)
+          (sorted_without c.args.name.now (all_stored c.self.inside.blocks.items) before.sorted);
+      number = omega (arith, told.count, before.number, one);
+    }

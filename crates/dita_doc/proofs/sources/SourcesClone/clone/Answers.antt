@@ -1,17 +1,15 @@
 use Rattle.std.proofs.Common.{sym, subst, ◌∙◌}
-use Rattle.dita_doc.specs.Desk.{IsSortedByName}
-use Rattle.dita_doc.specs.Sources.{document_seen}
-use Rattle.dita_doc.proofs.SourcesLaws.{copies_alike}
+use Rattle.dita_doc.specs.Sources.{AreSources}
+use Rattle.dita_doc.proofs.BlockLaws.{shared_alike}
 use Rattle.dita_doc.proofs.sources.SourcesClone.clone.Goals as goal
 
 pub invariant_of-result : goal.invariant_of-result
-invariant_of-result c = subst IsSortedByName
-    (sym (copies_alike document_seen c.self.inside.documents.items c.in_ok-clone.field-0.items
-    c.in_ok-clone.ensures.cases.0)) c.self.invariant
+invariant_of-result c = subst (AreSources c.self.inside.count)
+    (sym (shared_alike c.self.inside.blocks.items c.in_ok-clone.field-0.items c.in_ok-clone.ensures.cases.0))
+    c.self.invariant
 
 pub returns : goal.returns
-returns c =
-    record {
-      cases = copies_alike document_seen c.self.inside.documents.items c.in_ok-clone.field-0.items
-          c.in_ok-clone.ensures.cases.0 ∙ c.self.view_is;
-    }
+returns c = record {
+  cases = shared_alike c.self.inside.blocks.items c.in_ok-clone.field-0.items c.in_ok-clone.ensures.cases.0
+      ∙ c.self.view_is;
+}

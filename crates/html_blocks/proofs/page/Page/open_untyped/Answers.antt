@@ -2,7 +2,7 @@ use Rattle.std.proofs.Common.{◌++◌, ◌∙◌, [], ap, refl, sym}
 use Rattle.std.proofs.lemmas.List.{append-nil}
 use Rattle.html_blocks.specs.Walk.{element_of}
 use Rattle.map_spec.specs.Elements.{class_faults}
-use Rattle.page_spec.specs.Blocks.{shown, shown_with}
+use Rattle.html_spec.specs.Blocks.{shown, shown_with}
 use Rattle.html_blocks.proofs.ContextLaws.{kept_within}
 use Rattle.html_blocks.proofs.OpenLaws.{open_untyped}
 use Rattle.html_blocks.proofs.WayLaws.{more_faults, same_groups}

@@ -1,13 +1,16 @@
-use Rattle.std.proofs.Common.{Some, sym, ap, ◌∙◌}
+use Rattle.std.proofs.Common.{ap, ◌∙◌}
 use Rattle.doc_elements.specs.Walk.{element_of}
-use Rattle.html_forms.specs.Shown.{form_shown_of}
-use Rattle.page_spec.specs.Blocks.{cell_by}
-use Rattle.html_tables.proofs.WalkLaws.{cell_of_table}
+use Rattle.html_forms.specs.Shown.{row_among}
+use Rattle.html_spec.specs.Blocks.{cell_by}
 use Rattle.html_tables.proofs.table.Walk.cell_of.Goals as goal
 
-pub returns-in-Cell : goal.returns-in-Cell
-returns-in-Cell c = λ name token around is.
-    let element = element_of name c.args.element.now in
-    cell_of_table c.args.place element token around _ _ _ is.head (c.rows_spanned.ensures name)
-    (c.columns_spanned.ensures name around.columns is.columns)
-    ∙ ap (λ form. cell_by around c.args.place element (Some (token, form_shown_of form))) (sym c.in-Cell.is)
+pub returns-in-Some : goal.returns-in-Some
+returns-in-Some c = λ name around is.
+    c.cell_by.ensures name c.in-Some.field-0-0.now around is
+    ∙ ap (cell_by around c.args.place (element_of name c.args.element.now))
+    (c.in-Some.ensures ∙ ap row_among (c.tokens_of.ensures name))
+
+pub returns-in-None : goal.returns-in-None
+returns-in-None c = λ name around is.
+    ap (cell_by around c.args.place (element_of name c.args.element.now))
+    (c.in-None.ensures ∙ ap row_among (c.tokens_of.ensures name))

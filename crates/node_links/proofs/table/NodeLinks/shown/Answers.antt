@@ -1,7 +1,7 @@
 use Rattle.std.proofs.Common.{[], ◌++◌, ◌∙◌, ap}
 use Rattle.dita_doc.specs.declared.content.LinkKind.TheVariants as links
 use Rattle.family_links.specs.Collected.{links_by_collections}
-use Rattle.page_spec.specs.Links.{links_of_kind, page_links}
+use Rattle.link_spec.specs.Links.{links_of_kind, page_links}
 use Rattle.node_links.proofs.NodeLaws.{both_are}
 use Rattle.node_links.proofs.table.NodeLinks.shown.Goals as goal
 

@@ -1,7 +1,7 @@
 use Rattle.std.proofs.Common.{[], ◌∷◌, ◌∙◌, ap, refl, sym}
 use Rattle.plan_layer.specs.Carried.{made_for}
 use Rattle.plan_layer.proofs.CarryLaws as carry
-use Rattle.plan_layer.proofs.MadeLaws.{memo_tried}
+use Rattle.pushed_docs.proofs.MadeLaws.{memo_tried}
 use Rattle.plan_layer.proofs.PassLaws as pass
 use Rattle.readers.specs.Documents.{documents_asked, nothing}
 use Rattle.readers.specs.Founded.{names_asked}

@@ -1,9 +1,7 @@
 use Rattle.std.proofs.Common.{ap}
-use Rattle.plan_layer.specs.Carried.{made_for}
-use Rattle.plan_layer.proofs.MadeLaws.{pushed_made, pushed_shared}
+use Rattle.pushed_docs.proofs.MadeLaws.{pushed_made, pushed_shared}
 use Rattle.readers.specs.Setting.{Stand}
 use Rattle.readers.proofs.GrowthLaws.{agrees_before}
-use Rattle.readers.proofs.LayerLaws.{grows_start}
 use Rattle.plan_layer.proofs.asker.PlanLayerAsker.pushed.Goals as goal
 
 pub returns-in-Some-clause-known : goal.returns-in-Some-clause-known
@@ -15,11 +13,11 @@ returns-in-Some-clause-given g c = (pushed_shared _ _ _ c.in-Some.known.now c.in
     c.in_ok-share.ensures (c.in-Some.ensures.made _ _ c.args.self.now.made)).given
 
 pub made_pushed-requires : goal.made_pushed-requires
-made_pushed-requires g c = record {
-  tabled = λ world agrees. c.args.self.now.tabled world
-      (agrees_before world _ _ (grows_start (made_for c.args.self.now.documents.now c.args.self.now.pages.now
-      g.S.Since.stand.setting) g.S.Since.told c.args.self.now.asked.now) agrees);
-}
+made_pushed-requires g c =
+    let layer = c.args.self.now in
+    let world = (g.K.Reader.stand layer.lower.now).world in record {
+      tabled = layer.tabled world (agrees_before world _ _ layer.grown (g.met.K.Reader.agrees layer.lower.now));
+    }
 
 pub invariant_of-self-2-clause-made : goal.invariant_of-self-2-clause-made
 invariant_of-self-2-clause-made g c = c.put.ensures.made _ _ c.made_pushed.new.asker.made

@@ -1,5 +1,5 @@
 use Rattle.std.proofs.Common.{ap}
-use Rattle.plan_layer.proofs.KeptLaws.{kept_made, kept_shared}
+use Rattle.pushed_docs.proofs.KeptLaws.{kept_made, kept_shared}
 use Rattle.readers.specs.Setting.{Stand}
 use Rattle.plan_layer.proofs.asker.PlanLayerGivesTouched.touched.Goals as goal
 

@@ -2,7 +2,7 @@ use Rattle.std.proofs.Common.{refl, [], ◌∷◌}
 use Rattle.plan_layer.specs.Carried.{made_for}
 use Rattle.plan_layer.proofs.CallLaws.{call_stand, put_asks, put_founded, put_grows, settled_asks, settled_founded, settled_grows, settled_told, tried_asks, tried_founded, tried_grows}
 use Rattle.plan_layer.proofs.CarryLaws as carry
-use Rattle.plan_layer.proofs.MadeLaws.{memo_settled}
+use Rattle.pushed_docs.proofs.MadeLaws.{memo_settled}
 use Rattle.plan_layer.proofs.PassLaws as pass
 use Rattle.plan_layer.proofs.calls.PlanLayerTitles.kind.Goals as goal
 

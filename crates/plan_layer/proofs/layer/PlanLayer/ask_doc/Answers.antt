@@ -1,6 +1,6 @@
 use Rattle.plan_layer.proofs.CarryLaws as carry
-use Rattle.plan_layer.proofs.KeptLaws.{kept_still}
-use Rattle.plan_layer.proofs.MadeLaws.{memo_put}
+use Rattle.pushed_docs.proofs.KeptLaws.{kept_still}
+use Rattle.pushed_docs.proofs.MadeLaws.{memo_put}
 use Rattle.plan_layer.proofs.PassLaws as pass
 use Rattle.plan_layer.proofs.layer.PlanLayer.ask_doc.Goals as goal
 

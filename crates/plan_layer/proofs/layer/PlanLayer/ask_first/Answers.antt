@@ -1,7 +1,7 @@
 use Rattle.std.proofs.Common.{[], ◌∷◌, ap, refl}
 use Rattle.plan_layer.proofs.CarryLaws as carry
-use Rattle.plan_layer.proofs.KeptLaws.{kept_still}
-use Rattle.plan_layer.proofs.MadeLaws.{memo_put}
+use Rattle.pushed_docs.proofs.KeptLaws.{kept_still}
+use Rattle.pushed_docs.proofs.MadeLaws.{memo_put}
 use Rattle.plan_layer.proofs.PassLaws as pass
 use Rattle.readers.specs.Told.{tried}
 use Rattle.plan_layer.proofs.layer.PlanLayer.ask_first.Goals as goal

@@ -1,0 +1,373 @@
+-- Content with its references resolved (DITA 1.3, "Content reference (conref)", "Processing conrefs", "Processing attributes
+-- when resolving conrefs", "The @conrefend attribute", "The @conkeyref attribute"). The limits, the order of the tests,
+-- what is counted, and what an element keeps after a fault, are our own.
+use Rattle.std.specs.Prelude.{◌+◌, ◌==◌, ◌&&◌, ◌||◌, ℕ, zero, suc, Bool, true, false, not, List, [], ◌∷◌, ◌++◌, Option, Some, None, filter, is_some, length, nat_le, nat_lt, option_map, unwrap_or, codes, bytes_eq, if◌then◌else◌}
+use Rattle.std.specs.List.{list_any}
+use Rattle.std.specs.Option.{option_and_then, option_or}
+use Rattle.dita_doc.specs.ClassValue.{value_of}
+use Rattle.dita_doc.specs.declared.content.KeyAnswer.{KeyAnswer}
+use Rattle.dita_doc.specs.declared.content.Rule.{Rule}
+use Rattle.dita_doc.specs.declared.doc.Attribute.{Attribute}
+use Rattle.dita_doc.specs.declared.fault.Fault.{Fault}
+use Rattle.dita_doc.specs.declared.fault.FaultCode.TheVariants as faults
+use Rattle.dita_doc.specs.declared.plan.Reference.{Reference}
+use Rattle.dita_doc.specs.declared.plan.Target.{Target}
+use Rattle.dita_doc.specs.declared.plan.Target.TheVariants as targets
+use Rattle.ditaval_rules.specs.Verdict.{excluded}
+use Rattle.href_text.specs.Joined.{joined}
+use Rattle.href_text.specs.Reference.{reference_of}
+use Rattle.map_spec.specs.Elements.{attribute, fault_at, has_value, is_special}
+use Rattle.map_spec.specs.Judged.{group_faults}
+use Rattle.map_spec.specs.Keys.{id_of_key, key_of}
+use Rattle.map_spec.specs.Target.{if_read, is_same_topic}
+use Rattle.map_spec.specs.Titles.{id_of}
+use Rattle.map_spec.specs.Written.{Element, Written, End, Chars, Node, side_by_side}
+use Rattle.map_spec.specs.Places.{Standing, is_topic, target_in}
+use Rattle.map_spec.specs.Pushes.{without_names}
+
+-- Where a page is resolved: its document, the documents with their pushes, the keys of its scope, and the rules by which an
+-- element is judged: those of the build and of each filter of the page
+pub record Setting : Type 0 where
+  pub page : List ℕ
+  pub pushed : List ℕ → Option Written
+  pub key : List ℕ → KeyAnswer
+  pub rules : List (List Rule)
+
+-- a target that is being resolved: a place of a document with its pushes
+pub record Place : Type 0 where
+  pub doc : List ℕ
+  pub at : ℕ
+
+abbrev pub is_place : Place → Place → Bool
+is_place place other = bytes_eq place.doc other.doc && (place.at == other.at)
+
+abbrev pub path_limit : ℕ
+path_limit = 32
+
+abbrev pub depth_limit : ℕ
+depth_limit = 256
+
+-- What is made: nodes, how many were resolved, and the faults
+
+pub record Made : Type 0 where
+  pub nodes : Written
+  pub count : ℕ
+  pub faults : List Fault
+
+abbrev pub nothing_made : Made
+nothing_made = record { nodes = End; count = 0; faults = [] }
+
+abbrev pub made_beside : Made → Made → Made
+made_beside first second = record {
+  nodes = side_by_side first.nodes second.nodes;
+  count = first.count + second.count;
+  faults = first.faults ++ second.faults;
+}
+
+abbrev pub made_with : List Fault → Made → Made
+made_with faults made = record made { faults = faults ++ made.faults }
+
+-- Judging
+
+abbrev pub goes : Setting → Element → Bool
+goes setting element = list_any (λ rules. excluded rules element.attributes) setting.rules
+
+-- Targets
+
+-- an element found in a document
+pub record Found : Type 0 where
+  pub doc : List ℕ
+  pub nodes : Written
+  pub standing : Standing
+
+abbrev pub found_in : Setting → List ℕ → List ℕ → List ℕ → Option Found
+found_in setting doc topic element = option_and_then (λ nodes.
+    option_map (λ standing. record { doc = doc; nodes = nodes; standing = standing }) (target_in nodes topic element))
+    (setting.pushed doc)
+
+-- `#./element` means the page's document, and in it the topic where the element stands now
+abbrev pub conref_named : Setting → List ℕ → Element → Reference → Option Found
+conref_named setting topic element reference = if is_same_topic reference
+    then found_in setting setting.page topic reference.element
+    else option_and_then (λ doc. found_in setting doc reference.topic reference.element)
+    (if_read (joined element.doc reference.file))
+
+abbrev pub by_conref : Setting → List ℕ → Element → Option (List ℕ) → Option Found
+by_conref setting topic element None = None
+by_conref setting topic element (Some conref) =
+    option_and_then (conref_named setting topic element) (if_read (reference_of conref))
+
+-- the element of a key reference is its id, else the element that the key's reference names
+abbrev pub key_named : Setting → List ℕ → Target → Option Found
+key_named setting keyref (targets.Local doc reference) =
+    found_in setting doc reference.topic (unwrap_or (id_of_key keyref) reference.element)
+key_named setting keyref _ = None
+
+abbrev pub by_key : Setting → Option (List ℕ) → Option Found
+by_key setting None = None
+by_key setting (Some keyref) = key_named setting keyref (setting.key (key_of keyref)).target
+
+abbrev pub key_faults : Setting → Option (List ℕ) → List Fault
+key_faults setting None = []
+key_faults setting (Some keyref) = (setting.key (key_of keyref)).faults
+
+-- A reference of an element: what it names, and the value that does
+
+pub record Sought : Type 0 where
+  pub conref : Option (List ℕ)
+  pub conkeyref : Option (List ℕ)
+
+abbrev pub sought_by : Element → Sought
+sought_by element = record {
+  conref = attribute (codes "conref") element;
+  conkeyref = attribute (codes "conkeyref") element;
+}
+
+abbrev pub has_reference : Sought → Bool
+has_reference sought = is_some sought.conref || is_some sought.conkeyref
+
+-- the key comes first, and the value where that fails
+abbrev pub found_by : Setting → List ℕ → Element → Sought → Option Found
+found_by setting topic element sought =
+    option_or (by_key setting sought.conkeyref) (by_conref setting topic element sought.conref)
+
+abbrev pub value_used : Setting → Sought → List ℕ
+value_used setting sought = if is_some (by_key setting sought.conkeyref)
+    then unwrap_or sought.conkeyref [] else unwrap_or (option_or sought.conref sought.conkeyref) []
+
+-- without a value beside it, an undefined key is told by its name
+abbrev pub missing_fault : Setting → Element → Sought → Fault
+missing_fault setting element sought = if is_some sought.conref || is_some
+    (option_and_then (λ keyref. (setting.key (key_of keyref)).node) sought.conkeyref)
+    then fault_at element faults.ConrefMissing (value_used setting sought)
+    else fault_at element faults.KeyUndefined (key_of (unwrap_or sought.conkeyref []))
+
+-- Ranges: what stands behind the target up to the first sibling with the id of the end
+
+abbrev pub end_id : List ℕ → Option (List ℕ)
+end_id value = option_and_then (λ (reference : Reference).
+    if length reference.element == 0 then None else Some reference.element) (if_read (reference_of value))
+
+abbrev pub has_end_id : List ℕ → Element → Bool
+has_end_id id element = has_value (codes "id") id element
+
+-- the nodes up to and with the one that ends the range
+abbrev pub up_to_end : List ℕ → Written → Option Written
+up_to_end id End = None
+up_to_end id (Chars text doc rest) = option_map (Chars text doc) (up_to_end id rest)
+up_to_end id (Node element inside rest) = if has_end_id id element then Some (Node element inside End)
+    else option_map (Node element inside) (up_to_end id rest)
+
+-- the target itself may be the end
+abbrev pub range_from : List ℕ → Element → Written → Option Written
+range_from id element behind = if has_end_id id element then Some End else up_to_end id behind
+
+abbrev pub range_of : Standing → List ℕ → Option Written
+range_of standing value = option_and_then (λ id. range_from id standing.whole.0 standing.behind) (end_id value)
+
+-- an element without an end has no range
+abbrev pub range_by : Standing → Option (List ℕ) → Option Written
+range_by standing None = Some End
+range_by standing (Some value) = range_of standing value
+
+-- Attributes
+
+abbrev pub use_target : List ℕ
+use_target = codes "-dita-use-conref-target"
+
+-- the values that an element leaves to its target count as not written
+abbrev pub specified : List Attribute → List Attribute
+specified attributes = filter (λ (written : Attribute). not (bytes_eq written.value use_target)) attributes
+
+abbrev pub is_written_in : List Attribute → Attribute → Bool
+is_written_in attributes other = is_some (value_of other.name attributes)
+
+abbrev pub names_not_taken : List (List ℕ)
+names_not_taken =
+    codes "id" ∷ codes "conref" ∷ codes "conkeyref" ∷ codes "conrefend" ∷ codes "conaction" ∷ []
+
+-- the element's own attributes, and those of its target that it has not
+abbrev pub merged : List Attribute → List Attribute → List Attribute
+merged own taken = specified own
+    ++ filter (λ (other : Attribute). not (is_written_in (specified own) other)) (without_names names_not_taken taken)
+
+abbrev pub has_href : List Attribute → Bool
+has_href attributes = is_some (value_of (codes "href") attributes)
+
+abbrev pub takes_href : Element → Element → Bool
+takes_href element target = not (has_href (specified element.attributes)) && has_href target.attributes
+
+abbrev pub merged_element : Element → Element → Element
+merged_element element target = record element {
+  attributes = merged element.attributes target.attributes;
+  href_doc = if takes_href element target then target.href_doc else element.href_doc;
+}
+
+-- Following references: the element with what it takes, whose content counts, the targets that this is resolved within, the
+-- ranges that come behind, whether anything was taken, and the faults
+
+pub record Range : Type 0 where
+  pub nodes : Written
+  pub path : List Place
+
+pub record Followed : Type 0 where
+  pub element : Element
+  pub content : Written
+  pub path : List Place
+  pub ranges : List Range
+  pub has_taken : Bool
+  pub faults : List Fault
+
+abbrev pub unchanged : Element → Written → List Place → List Fault → Followed
+unchanged element inside path faults = record {
+  element = element;
+  content = inside;
+  path = path;
+  ranges = [];
+  has_taken = false;
+  faults = faults;
+}
+
+abbrev pub range_behind : Written → List Place → List Range
+range_behind End path = []
+range_behind nodes path = record { nodes = nodes; path = path } ∷ []
+
+-- the element with what its target, followed in turn, gives it
+abbrev pub taken : Element → Written → List Place → List Fault → Followed → Followed
+taken element range path faults target = record {
+  element = merged_element element target.element;
+  content = target.content;
+  path = target.path;
+  ranges = target.ranges ++ range_behind range path;
+  has_taken = true;
+  faults = faults ++ target.faults;
+}
+
+-- the faults that keep a target from being taken, in the order in which they are tried
+abbrev pub refused_by : List ℕ → ℕ → List Place → Element → Found → Option Fault
+refused_by value depth path element target =
+    if not (is_special target.standing.whole.0 element) then Some (fault_at element faults.ConrefType value)
+    else if not (is_some (range_by target.standing (attribute (codes "conrefend") element)))
+    then Some (fault_at element faults.RangeEnd (unwrap_or (attribute (codes "conrefend") element) []))
+    else if list_any (is_place (record { doc = target.doc; at = target.standing.place })) path
+    then Some (fault_at element faults.ConrefCycle value)
+    else if nat_le path_limit (length path) || nat_lt depth_limit depth
+    then Some (fault_at element faults.ConrefDepth value)
+    else None
+
+abbrev pub taken_or : (List Place → Element → Written → Followed) → List Place → Element → Written → List Fault → Found
+    → Option Fault → Followed
+taken_or follow path element inside before target (Some fault) = unchanged element inside path (before ++ fault ∷ [])
+taken_or follow path element inside before target None =
+    let longer = path ++ record { doc = target.doc; at = target.standing.place } ∷ [] in
+    taken element (unwrap_or (range_by target.standing (attribute (codes "conrefend") element)) End) longer before
+    (follow longer target.standing.whole.0 target.standing.whole.1)
+
+abbrev pub followed_to : (List Place → Element → Written → Followed) → Setting → ℕ → List Place → Element → Written → Sought
+    → Option Found → Followed
+followed_to follow setting depth path element inside sought None = unchanged element inside path
+    (key_faults setting sought.conkeyref ++ missing_fault setting element sought ∷ [])
+followed_to follow setting depth path element inside sought (Some target) =
+    taken_or follow path element inside (key_faults setting sought.conkeyref) target
+    (refused_by (value_used setting sought) depth path element target)
+
+-- a path has at most so many targets, so that one step more is enough
+unfoldable pub followed_from : ℕ → Setting → List ℕ → ℕ → List Place → Element → Written → Followed
+followed_from zero setting topic depth path element inside = unchanged element inside path []
+followed_from (suc steps) setting topic depth path element inside =
+    let sought = sought_by element in
+    if has_reference sought
+    then followed_to (followed_from steps setting topic depth) setting depth path element inside sought
+    (found_by setting topic element sought)
+    else unchanged element inside path []
+
+abbrev pub followed : Setting → List ℕ → ℕ → List Place → Element → Written → Followed
+followed setting topic depth path element inside =
+    followed_from (path_limit + 1) setting topic depth path element inside
+
+-- Resolving: what stands in the place of each node
+
+-- the id that a topic's content sees; an element of a range has none
+abbrev pub id_shown : Bool → List ℕ → List ℕ
+id_shown is_range id = if is_range || bytes_eq id use_target then [] else id
+
+abbrev pub topic_for : Bool → Element → List ℕ → List ℕ
+topic_for is_range element topic = if is_topic element then id_shown is_range (id_of element) else topic
+
+-- once it is merged, the id that it has then
+abbrev pub topic_within : Bool → Element → List ℕ → List ℕ
+topic_within is_range element topic =
+    if is_topic element && not is_range then id_of element else topic
+
+abbrev pub without_id : Bool → Element → Element
+without_id is_range element = if is_range
+    then record element { attributes = without_names (codes "id" ∷ []) element.attributes } else element
+
+-- resolves nodes within longer paths: whether they are of a range, the topic and the depth where they stand, the path
+abbrev pub Resolve : Type 0
+Resolve = Bool → List ℕ → ℕ → List Place → Written → Made
+
+abbrev pub ranges_made : Resolve → List ℕ → ℕ → List Range → Made
+ranges_made resolve topic depth [] = nothing_made
+ranges_made resolve topic depth (range ∷ ranges) =
+    made_beside (resolve true topic depth range.path range.nodes) (ranges_made resolve topic depth ranges)
+
+-- an element that stays, with its content
+abbrev pub element_made : Bool → Element → Made → Made
+element_made is_range element content =
+    record content { nodes = Node (without_id is_range element) content.nodes End; count = 1 + content.count }
+
+-- what was taken is judged once more; the element counts also if it goes
+abbrev pub made_of : Resolve → Setting → Bool → List ℕ → ℕ → (List ℕ → Made) → Followed → Made
+made_of resolve setting is_range topic depth own found = if found.has_taken
+    then made_with (group_faults found.element) (if goes setting found.element
+    then record nothing_made { count = 1 }
+    else element_made is_range found.element
+    (resolve false (topic_within is_range found.element topic) (depth + 1) found.path found.content))
+    else element_made is_range found.element (own (topic_within is_range found.element topic))
+
+-- `own` resolves the content of the element itself, for the topic that it stands in
+abbrev pub element_resolved : Resolve → Setting → Bool → List ℕ → ℕ → List Place → Element → Written → (List ℕ → Made) → Made
+element_resolved resolve setting is_range topic depth path element inside own =
+    let here = topic_for is_range element topic in
+    let found = followed setting here depth path element inside in
+    made_with (group_faults element) (if goes setting element then nothing_made
+    else made_with found.faults (made_beside (made_of resolve setting is_range here depth own found)
+    (ranges_made resolve topic depth found.ranges)))
+
+abbrev pub text_made : List ℕ → List ℕ → Made
+text_made text doc = record { nodes = Chars text doc End; count = 1; faults = [] }
+
+abbrev pub resolved_among : Resolve → Setting → Bool → List ℕ → ℕ → List Place → Written → Made
+resolved_among resolve setting is_range topic depth path End = nothing_made
+resolved_among resolve setting is_range topic depth path (Chars text doc rest) =
+    made_beside (text_made text doc) (resolved_among resolve setting is_range topic depth path rest)
+resolved_among resolve setting is_range topic depth path (Node element inside rest) = made_beside
+    (element_resolved resolve setting is_range topic depth path element inside
+    (λ here. resolved_among resolve setting false here (depth + 1) path inside))
+    (resolved_among resolve setting is_range topic depth path rest)
+
+-- each step is within a longer path
+unfoldable pub resolved_from : ℕ → Setting → Resolve
+resolved_from zero setting is_range topic depth path nodes = nothing_made
+resolved_from (suc steps) setting is_range topic depth path nodes =
+    resolved_among (resolved_from steps setting) setting is_range topic depth path nodes
+
+-- nodes of the page's document, where they stand in this topic and at this depth
+abbrev pub resolved_in : Setting → List ℕ → ℕ → Written → Made
+resolved_in setting topic depth nodes = resolved_from (path_limit + 1) setting false topic depth [] nodes
+
+abbrev pub count_limit : ℕ
+count_limit = 262144
+
+-- content of too many nodes is none, with this one fault
+abbrev pub within : ℕ → List Fault → Made → Made
+within limit fault made =
+    if nat_le made.count limit then made else record { nodes = End; count = limit + 1; faults = fault }
+
+abbrev pub page_root : Setting → Written
+page_root setting = unwrap_or (setting.pushed setting.page) End
+
+-- the whole document of a page; `fault` stands at its root as stored
+abbrev pub resolved_page : ℕ → List Fault → Setting → Made
+resolved_page limit fault setting = within limit fault (resolved_in setting [] 1 (page_root setting))

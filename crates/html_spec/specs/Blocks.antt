@@ -1,0 +1,381 @@
+-- The HTML of content (own): the element of HTML that each element of a page becomes, by the last of its types that the
+-- table has.
+use Rattle.std.specs.Prelude.{◌+◌, ◌==◌, ◌||◌, ℕ, Bool, true, false, List, [], ◌∷◌, ◌++◌, Option, Some, None, find, nat_le, nat_lt, unwrap_or, codes, bytes_eq, if◌then◌else◌}
+use Rattle.std.specs.Fmt.{decimal}
+use Rattle.std.specs.List.{filter_map}
+use Rattle.std.specs.Option.{option_and_then, option_map_or}
+use Rattle.dita_doc.specs.HtmlEscapes.{escaped, escaped_value}
+use Rattle.dita_doc.specs.declared.content.Anchor.{Anchor}
+use Rattle.dita_doc.specs.declared.fault.Fault.{Fault}
+use Rattle.dita_doc.specs.declared.fault.FaultCode.TheVariants as faults
+use Rattle.dita_doc.specs.declared.fact.Html.{Html}
+use Rattle.map_spec.specs.Elements.{attribute, class_faults, fault_at, first_child, has_types, text_of, tokens_of}
+use Rattle.map_spec.specs.Titles.{id_of}
+use Rattle.map_spec.specs.Written.{Element, Written, End, Chars, Node, size}
+use Rattle.html_spec.specs.Tables.{column_names, columns_of, is_group, rows_of}
+
+-- What an element of this type becomes
+
+pub data Form : Type 0 where
+  -- an element of HTML with this name and class, the empty text for none
+  Tag : (name class : List ℕ) → Form
+  Topic : Form
+  Title : Form
+  Note : Form
+  Reference : Form
+  Image : Form
+  Cell : Form
+  SimpleCell : Form
+  -- left out with its content
+  Left : Form
+  -- left out with a fault
+  Foreign : Form
+
+-- a type of the base module, with its form
+abbrev pub topic_type : List ℕ → Form → List ℕ × Form
+topic_type name form = (codes "topic/" ++ name, form)
+
+abbrev pub plain : List ℕ → Form
+plain name = Tag name []
+
+abbrev pub forms : List (List ℕ × Form)
+forms = topic_type (codes "topic") Topic
+    ∷ topic_type (codes "title") Title
+    ∷ topic_type (codes "shortdesc") (Tag (codes "p") (codes "shortdesc"))
+    ∷ topic_type (codes "abstract") (Tag (codes "div") (codes "abstract"))
+    ∷ topic_type (codes "body") (Tag (codes "div") (codes "body"))
+    ∷ topic_type (codes "section") (plain (codes "section"))
+    ∷ topic_type (codes "example") (Tag (codes "div") (codes "example"))
+    ∷ topic_type (codes "note") Note
+    ∷ topic_type (codes "bodydiv") (plain (codes "div"))
+    ∷ topic_type (codes "sectiondiv") (plain (codes "div"))
+    ∷ topic_type (codes "div") (plain (codes "div"))
+    ∷ topic_type (codes "figgroup") (plain (codes "div"))
+    ∷ topic_type (codes "p") (plain (codes "p"))
+    ∷ topic_type (codes "lq") (plain (codes "blockquote"))
+    ∷ topic_type (codes "q") (plain (codes "q"))
+    ∷ topic_type (codes "fig") (plain (codes "figure"))
+    ∷ topic_type (codes "cite") (plain (codes "cite"))
+    ∷ topic_type (codes "ul") (plain (codes "ul"))
+    ∷ topic_type (codes "sl") (plain (codes "ul"))
+    ∷ topic_type (codes "ol") (plain (codes "ol"))
+    ∷ topic_type (codes "li") (plain (codes "li"))
+    ∷ topic_type (codes "sli") (plain (codes "li"))
+    ∷ topic_type (codes "dl") (plain (codes "dl"))
+    ∷ topic_type (codes "dt") (plain (codes "dt"))
+    ∷ topic_type (codes "dd") (plain (codes "dd"))
+    ∷ topic_type (codes "pre") (plain (codes "pre"))
+    ∷ topic_type (codes "lines") (plain (codes "pre"))
+    ∷ topic_type (codes "ph") (plain (codes "span"))
+    ∷ topic_type (codes "keyword") (plain (codes "span"))
+    ∷ topic_type (codes "term") (plain (codes "span"))
+    ∷ topic_type (codes "fn") (Tag (codes "span") (codes "fn"))
+    ∷ (codes "hi-d/b", plain (codes "b"))
+    ∷ (codes "hi-d/i", plain (codes "i"))
+    ∷ (codes "hi-d/u", plain (codes "u"))
+    ∷ (codes "hi-d/sup", plain (codes "sup"))
+    ∷ (codes "hi-d/sub", plain (codes "sub"))
+    ∷ (codes "hi-d/tt", plain (codes "code"))
+    ∷ (codes "pr-d/codeph", plain (codes "code"))
+    ∷ topic_type (codes "xref") Reference
+    ∷ topic_type (codes "image") Image
+    ∷ topic_type (codes "simpletable") (plain (codes "table"))
+    ∷ topic_type (codes "sthead") (plain (codes "tr"))
+    ∷ topic_type (codes "strow") (plain (codes "tr"))
+    ∷ topic_type (codes "stentry") SimpleCell
+    ∷ topic_type (codes "table") (plain (codes "table"))
+    ∷ topic_type (codes "thead") (plain (codes "thead"))
+    ∷ topic_type (codes "tbody") (plain (codes "tbody"))
+    ∷ topic_type (codes "row") (plain (codes "tr"))
+    ∷ topic_type (codes "entry") Cell
+    ∷ topic_type (codes "prolog") Left
+    ∷ topic_type (codes "titlealts") Left
+    ∷ topic_type (codes "related-links") Left
+    ∷ topic_type (codes "data") Left
+    ∷ topic_type (codes "draft-comment") Left
+    ∷ topic_type (codes "required-cleanup") Left
+    ∷ topic_type (codes "indexterm") Left
+    ∷ topic_type (codes "alt") Left
+    ∷ topic_type (codes "desc") Left
+    ∷ topic_type (codes "colspec") Left
+    ∷ topic_type (codes "foreign") Foreign
+    ∷ topic_type (codes "unknown") Foreign
+    ∷ topic_type (codes "object") Foreign
+    ∷ []
+
+abbrev pub is_form_of : List ℕ → List ℕ × Form → Bool
+is_form_of token row = bytes_eq row.0 token
+
+abbrev pub row_of : List ℕ → Option (List ℕ × Form)
+row_of token = find (is_form_of token) forms
+
+abbrev pub last_of : {X : Type 0} → List X → Option X
+last_of [] = None
+last_of (x ∷ []) = Some x
+last_of (x ∷ y ∷ more) = last_of (y ∷ more)
+
+-- the last of an element's types that the table has
+abbrev pub row_for : Element → Option (List ℕ × Form)
+row_for element = last_of (filter_map row_of (tokens_of element))
+
+-- Where an element stands
+
+-- the nearest of topic, section or example, figure and table around
+pub data Around : Type 0 where
+  InTopic : Around
+  InSection : Around
+  InFigure : Around
+  InTable : Around
+
+-- the id of the nearest topic, how many topics are around, the nearest of those above, whether a cell heads its column, in
+-- tables and in simple tables, and the names of the columns of the nearest group
+pub record Context : Type 0 where
+  pub topic : List ℕ
+  pub depth : ℕ
+  pub around : Around
+  pub head : Bool
+  pub simple_head : Bool
+  pub columns : List (Option (List ℕ))
+
+abbrev pub outside : Context
+outside = record { topic = []; depth = 0; around = InTopic; head = false; simple_head = false; columns = [] }
+
+-- what an element of a type changes for those within it
+abbrev pub is_type : List ℕ → List ℕ → Bool
+is_type name token = bytes_eq token (codes "topic/" ++ name)
+
+abbrev pub around_in : List ℕ → Around → Around
+around_in token around =
+    if is_type (codes "topic") token then InTopic
+    else if is_type (codes "section") token || is_type (codes "example") token then InSection
+    else if is_type (codes "fig") token then InFigure
+    else if is_type (codes "table") token then InTable
+    else around
+
+abbrev pub head_in : List ℕ → Bool → Bool
+head_in token head =
+    if is_type (codes "thead") token then true
+    else if is_type (codes "tbody") token || is_type (codes "table") token then false
+    else head
+
+abbrev pub simple_head_in : List ℕ → Bool → Bool
+simple_head_in token head =
+    if is_type (codes "sthead") token then true
+    else if is_type (codes "strow") token || is_type (codes "simpletable") token then false
+    else head
+
+abbrev pub topic_in : List ℕ → Element → Context → Context
+topic_in token element context = if is_type (codes "topic") token
+    then record context { topic = id_of element; depth = context.depth + 1 } else context
+
+abbrev pub columns_in : Element → Written → Context → Context
+columns_in element inside context =
+    if is_group element then record context { columns = column_names inside } else context
+
+abbrev pub within_type : List ℕ → Element → Context → Context
+within_type token element context = record (topic_in token element context) {
+  around = around_in token context.around;
+  head = head_in token context.head;
+  simple_head = simple_head_in token context.simple_head;
+}
+
+-- Bytes with faults
+
+abbrev pub shown : List ℕ → Html
+shown bytes = record { bytes = bytes; faults = [] }
+
+abbrev pub shown_beside : Html → Html → Html
+shown_beside first second =
+    record { bytes = first.bytes ++ second.bytes; faults = first.faults ++ second.faults }
+
+abbrev pub shown_in : List ℕ → Html → List ℕ → Html
+shown_in start html end = record html { bytes = start ++ html.bytes ++ end }
+
+abbrev pub shown_with : List Fault → Html → Html
+shown_with faults html = record html { faults = faults ++ html.faults }
+
+-- Tags
+
+-- an attribute, if it has a value
+abbrev pub attribute_text : List ℕ → Option (List ℕ) → List ℕ
+attribute_text name None = []
+attribute_text name (Some value) = codes " " ++ name ++ codes "=\"" ++ escaped_value value ++ codes "\""
+
+abbrev pub if_some_text : List ℕ → Option (List ℕ)
+if_some_text [] = None
+if_some_text (b ∷ text) = Some (b ∷ text)
+
+abbrev pub start_tag : List ℕ → List ℕ → List ℕ
+start_tag name attributes = codes "<" ++ name ++ attributes ++ codes ">"
+
+abbrev pub end_tag : List ℕ → List ℕ
+end_tag name = codes "</" ++ name ++ codes ">"
+
+-- the id of an element stands behind that of its topic, and a topic's alone; an empty id is none
+abbrev pub id_shown : Context → Bool → List ℕ → Option (List ℕ)
+id_shown context is_topic [] = None
+id_shown context true (b ∷ id) = Some (b ∷ id)
+id_shown context false (b ∷ id) = Some (context.topic ++ codes "__" ++ b ∷ id)
+
+abbrev pub start_of : Context → Bool → Element → (name class more : List ℕ) → List ℕ
+start_of context is_topic element name class more = start_tag name
+    (attribute_text (codes "id") (id_shown context is_topic (id_of element))
+    ++ attribute_text (codes "class") (if_some_text class) ++ more)
+
+-- Titles: their level is the depth of the topic, and one more in a section; h1 to h6
+
+abbrev pub level_of : ℕ → ℕ
+level_of depth = if nat_lt 6 depth then 6 else if depth == 0 then 1 else depth
+
+abbrev pub heading : ℕ → List ℕ
+heading depth = codes "h" ++ decimal (level_of depth)
+
+abbrev pub title_tag : Around → ℕ → List ℕ
+title_tag InTopic depth = heading depth
+title_tag InSection depth = heading (depth + 1)
+title_tag InFigure depth = codes "figcaption"
+title_tag InTable depth = codes "caption"
+
+abbrev pub note_class : Element → List ℕ
+note_class element = codes "note" ++ option_map_or (λ kind. codes " " ++ kind)
+    (option_and_then if_some_text (attribute (codes "type") element)) []
+
+-- Cells
+
+abbrev pub cell_tag : Bool → List ℕ
+cell_tag true = codes "th"
+cell_tag false = codes "td"
+
+abbrev pub span_text : List ℕ → ℕ → List ℕ
+span_text name count = if nat_le count 1 then [] else attribute_text name (Some (decimal count))
+
+abbrev pub spans : Context → Element → List ℕ
+spans context element =
+    span_text (codes "rowspan") (rows_of element) ++ span_text (codes "colspan") (columns_of context.columns element)
+
+-- Links
+
+abbrev pub is_anchor_at : ℕ → Anchor → Bool
+is_anchor_at place anchor = anchor.place == place
+
+abbrev pub anchor_at : List Anchor → ℕ → Option Anchor
+anchor_at anchors place = find (is_anchor_at place) anchors
+
+abbrev pub href_at : List Anchor → ℕ → Option (List ℕ)
+href_at anchors place = option_and_then (λ (anchor : Anchor). anchor.href) (anchor_at anchors place)
+
+abbrev pub label_at : List Anchor → ℕ → List ℕ
+label_at anchors place = unwrap_or (option_and_then (λ (anchor : Anchor). anchor.label) (anchor_at anchors place)) []
+
+-- an element without children shows the text of its link
+abbrev pub content_or_label : List Anchor → ℕ → Written → Html → Html
+content_or_label anchors place End content = shown (escaped (label_at anchors place))
+content_or_label anchors place inside content = content
+
+-- a link stands around the content
+abbrev pub linked_by : Option (List ℕ) → Html → Html
+linked_by None content = content
+linked_by (Some href) content =
+    shown_in (start_tag (codes "a") (attribute_text (codes "href") (Some href))) content (end_tag (codes "a"))
+
+abbrev pub linked_at : List Anchor → ℕ → Html → Html
+linked_at anchors place content = linked_by (href_at anchors place) content
+
+-- Images
+
+abbrev pub alt_of : Element → Written → List ℕ
+alt_of element inside = unwrap_or (attribute (codes "alt") element) (text_of (first_child (codes "topic/alt") inside))
+
+abbrev pub image_tag : Context → List Anchor → ℕ → Element → Written → List ℕ
+image_tag context anchors place element inside = start_of context false element (codes "img") []
+    (attribute_text (codes "src") (Some (unwrap_or (href_at anchors place) []))
+    ++ attribute_text (codes "alt") (Some (alt_of element inside)))
+
+-- Elements
+
+-- an element of HTML around content
+abbrev pub tagged : Context → Bool → Element → (name class more : List ℕ) → Html → Html
+tagged context is_topic element name class more content =
+    shown_in (start_of context is_topic element name class more) content (end_tag name)
+
+abbrev pub reference_tag : Option (List ℕ) → List ℕ
+reference_tag None = codes "span"
+reference_tag (Some href) = codes "a"
+
+abbrev pub form_shown : Context → List Anchor → ℕ → Element → Written → Html → Form → Html
+form_shown context anchors place element inside content (Tag name class) =
+    tagged context false element name class [] (linked_at anchors place content)
+form_shown context anchors place element inside content Topic =
+    tagged context true element (codes "article") [] [] (linked_at anchors place content)
+form_shown context anchors place element inside content Title =
+    tagged context false element (title_tag context.around context.depth) [] [] (linked_at anchors place content)
+form_shown context anchors place element inside content Note =
+    tagged context false element (codes "div") (note_class element) [] (linked_at anchors place content)
+form_shown context anchors place element inside content Reference =
+    tagged context false element (reference_tag (href_at anchors place)) []
+    (attribute_text (codes "href") (href_at anchors place)) content
+form_shown context anchors place element inside content Image = shown (image_tag context anchors place element inside)
+form_shown context anchors place element inside content Cell =
+    tagged context false element (cell_tag context.head) [] (spans context element) (linked_at anchors place content)
+form_shown context anchors place element inside content SimpleCell =
+    tagged context false element (cell_tag context.simple_head) [] [] (linked_at anchors place content)
+form_shown context anchors place element inside content Left = shown []
+form_shown context anchors place element inside content Foreign =
+    shown_with (fault_at element faults.Foreign element.name ∷ []) (shown [])
+
+-- `content` shows what the element holds, where it stands then
+abbrev pub row_shown : Context → List Anchor → ℕ → Element → Written → (Context → Html) → Option (List ℕ × Form) → Html
+row_shown context anchors place element inside content None = linked_at anchors place
+    (content_or_label anchors place inside (content (columns_in element inside context)))
+row_shown context anchors place element inside content (Some row) =
+    form_shown context anchors place element inside (content_or_label anchors place inside
+    (content (columns_in element inside (within_type row.0 element context)))) row.1
+
+-- an element of no type shows its content alone
+abbrev pub element_shown : Context → List Anchor → ℕ → Element → Written → (Context → Html) → Html
+element_shown context anchors place element inside content =
+    if has_types element then row_shown context anchors place element inside content (row_for element)
+    else shown_with (class_faults element) (content context)
+
+abbrev pub shown_from : Context → List Anchor → ℕ → Written → Html
+shown_from context anchors place End = shown []
+shown_from context anchors place (Chars text doc rest) =
+    shown_beside (shown (escaped text)) (shown_from context anchors (place + 1) rest)
+shown_from context anchors place (Node element inside rest) = shown_beside
+    (element_shown context anchors place element inside (λ within. shown_from within anchors (place + 1) inside))
+    (shown_from context anchors (place + 1 + size inside) rest)
+
+-- the body of a page, with the links of its elements
+unfoldable pub body_html : List Anchor → Written → Html
+body_html anchors nodes = shown_from outside anchors 0 nodes
+
+-- The cells of a table, each with its place, and how it is shown
+
+pub record CellAt : Type 0 where
+  pub place : ℕ
+  pub head : Bool
+  pub rows : ℕ
+  pub columns : ℕ
+
+abbrev pub cell_by : Context → ℕ → Element → Option (List ℕ × Form) → List CellAt
+cell_by context place element (Some (token, Cell)) = record {
+  place = place;
+  head = context.head;
+  rows = rows_of element;
+  columns = columns_of context.columns element;
+} ∷ []
+cell_by context place element (Some (token, SimpleCell)) =
+    record { place = place; head = context.simple_head; rows = 1; columns = 1 } ∷ []
+cell_by context place element _ = []
+
+abbrev pub context_in : Element → Written → Option (List ℕ × Form) → Context → Context
+context_in element inside None context = columns_in element inside context
+context_in element inside (Some row) context = columns_in element inside (within_type row.0 element context)
+
+abbrev pub cells_from : Context → ℕ → Written → List CellAt
+cells_from context place End = []
+cells_from context place (Chars text doc rest) = cells_from context (place + 1) rest
+cells_from context place (Node element inside rest) =
+    cell_by context place element (row_for element)
+    ++ cells_from (context_in element inside (row_for element) context) (place + 1) inside
+    ++ cells_from context (place + 1 + size inside) rest

@@ -1,9 +1,0 @@
-pub mod Places
-pub mod Pushes
-pub mod Content
-pub mod Links
-pub mod Anchors
-pub mod Tables
-pub mod Blocks
-pub mod PageHtml
-pub mod Contents

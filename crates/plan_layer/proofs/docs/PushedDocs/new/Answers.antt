@@ -1,5 +1,0 @@
-use Rattle.plan_layer.proofs.KeptLaws.{kept_none}
-use Rattle.plan_layer.proofs.docs.PushedDocs.new.Goals as goal
-
-pub returns : goal.returns
-returns c = λ world documents. kept_none world documents _ c.new.ensures.empty c.new-2.ensures.empty

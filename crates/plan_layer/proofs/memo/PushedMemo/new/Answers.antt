@@ -1,7 +1,0 @@
-use Rattle.conref_push.proofs.DocLaws.{known_none}
-use Rattle.plan_layer.specs.Made.{ArePushed, IsPushed}
-use Rattle.plan_layer.proofs.memo.PushedMemo.new.Goals as goal
-
-pub returns : goal.returns
-unfolding ArePushed
-returns c = λ told documents. known_none (IsPushed told documents) c.new.result c.new.ensures.empty

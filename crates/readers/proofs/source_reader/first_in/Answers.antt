@@ -1,9 +1,0 @@
-use Rattle.std.proofs.Common.{Some, ap, ◌∙◌}
-use Rattle.dita_doc.specs.declared.doc.Doc.{Doc}
-use Rattle.readers.proofs.TitleLaws.{first_there}
-use Rattle.readers.proofs.source_reader.first_in.Goals as goal
-
-pub returns-in-Some : goal.returns-in-Some
-returns-in-Some c = first_there c.args.sources.now c.args.name.now c.in-Some.field-0-0 c.deref.result.now.nodes _
-    (ap (λ (doc : Doc). Some (c.in-Some.field-0-0, doc.nodes)) c.deref.ensures ∙ c.in-Some.ensures.value)
-    (c.first_of.ensures c.args.name.now)
