@@ -18,7 +18,7 @@ pub ditaval_more : (read more : List RulesRead) (place : Option ℕ) → IsWithi
 ditaval_more read more None within = refl
 ditaval_more read more (Some at) within = get_more read more at within
 
-within_more : (count larger : ℕ) (place : Option ℕ) → count ≤ larger → IsWithin count place → IsWithin larger place
+pub within_more : (count larger : ℕ) (place : Option ℕ) → count ≤ larger → IsWithin count place → IsWithin larger place
 within_more count larger None grows within = tt
 within_more count larger (Some at) grows within = omega (arith, within)
 

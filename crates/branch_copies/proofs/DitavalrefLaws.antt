@@ -14,15 +14,15 @@ use Rattle.map_spec.specs.Written.{Element, Whole}
 use Rattle.plan_nodes.specs.Given.{AreTold, FollowsElements, IsTold}
 use Rattle.plan_nodes.specs.Home as home
 use Rattle.plan_nodes.proofs.GivenLaws.{may_name, told_later}
-use Rattle.readers.specs.Documents.{AsksOnly, Covers, Follows, MayAsk, nothing}
+use Rattle.readers.specs.Documents.{AskedBy, AsksOnly, Covers, Follows, MayAsk, nothing}
 use Rattle.readers.specs.Founded.{AreAllowed, Grows, StaysFounded, is_allowed, is_among}
 use Rattle.readers.specs.Told.{Told}
-use Rattle.readers.proofs.DocumentLaws.{asks_after, asks_among, asks_same, asks_then, covers_nothing, none_may}
+use Rattle.readers.proofs.DocumentLaws.{covers_nothing, none_may}
 use Rattle.readers.proofs.FoundedLaws.{among_one, none_allowed, stays_after, stays_same, stays_then}
-use Rattle.readers.proofs.GrowthLaws.{growing}
+use Rattle.readers.proofs.GrowthLaws.{growing, grows_same, grows_trans}
 use Rattle.reader_spec.specs.World.{World}
 use Rattle.branch_copies.specs.BranchRead.{documents_named, targets_of}
-use Rattle.branch_copies.specs.Ditavalrefs.{AreDitavalrefs, AreGiven, ditaval_targets, is_ref, ref_targets}
+use Rattle.branch_copies.specs.Ditavalrefs.{AreDitavalrefs, AreGiven, AsksDitavals, MayAskRefs, ditaval_targets, is_ref, ref_targets}
 use Rattle.branch_copies.specs.Stands.{is_ditavalref_at}
 use Rattle.branch_copies.proofs.HomeLaws.{whole_found}
 
@@ -98,18 +98,49 @@ module _ (nodes : List PlanNode) (homes : List (Option Whole)) (at : ℕ) (node 
         stays.by roots (targets_allowed old (element_of node.doc found.0.now) (was_told old given) roots) founded;
   }
 
-  pub asks_ref : (old new : List Told) → AreGiven old nodes homes → AreDitavalrefs homes nodes
-      → is_ditavalref_at nodes at ≡ true → AsksOnly nothing (targets_of (element_of node.doc found.0.now)) old new
-      → AsksOnly ditaval_targets [] old new
-  asks_ref old new given refs kind asks =
+  pub asks_ref : (old new : List Told) → AreGiven old nodes homes → is_ditavalref_at nodes at ≡ true
+      → AsksOnly nothing (targets_of (element_of node.doc found.0.now)) old new → AsksDitavals homes nodes [] old new
+  asks_ref old new given kind asks =
       let own : is_ditavalref node.kind ≡ true =
       sym (ap (λ o. option_map_or (λ (n : PlanNode). is_ditavalref n.kind) o false) here) ∙ kind in
-      let is : is_ref (element_of node.doc found.0.now) ≡ true =
-      refs.each at node (whole_of node.doc found) here own (whole_here old given) in
       record {
-        by = λ rule roots covers none asked. asks.by rule roots (covers_nothing rule)
-            (targets_may old (element_of node.doc found.0.now) (was_told old given) is rule roots covers) asked;
+        by = λ rule roots none refs asked. asks.by rule roots (covers_nothing rule)
+            (refs.each old at node (whole_of node.doc found) (grows_same old) given.given here own
+            (whole_here old given)) asked;
       }
+
+-- One call after another
+
+refs_later : (rule : Follows) (roots : List (List ℕ)) (homes : List (Option Whole)) (nodes : List PlanNode)
+    (old new : List Told) → Grows old new → MayAskRefs rule roots homes nodes old
+    → MayAskRefs rule roots homes nodes new
+refs_later rule roots homes nodes old new grows refs = record {
+  each = λ told at node whole more given here kind is.
+      refs.each told at node whole (grows_trans _ _ _ grows more) given here kind is;
+}
+
+pub ditavals_same : (homes : List (Option Whole)) (nodes : List PlanNode) (names : List (List ℕ)) (old new : List Told)
+    → new ≡ old → AsksDitavals homes nodes names old new
+ditavals_same homes nodes names old new is =
+    record { by = λ rule roots may refs asked. subst (AskedBy rule roots) (sym is) asked }
+
+pub ditavals_after : (homes : List (Option Whole)) (nodes : List PlanNode) (a b c : List Told) → Grows a b
+    → AsksDitavals homes nodes [] a b → AsksDitavals homes nodes [] b c → AsksDitavals homes nodes [] a c
+ditavals_after homes nodes a b c grows before next = record {
+  by = λ rule roots may refs asked. next.by rule roots (none_may rule roots b)
+      (refs_later rule roots homes nodes a b grows refs) (before.by rule roots may refs asked);
+}
+
+-- where the nodes of ditavalrefs stand for ditavalrefs, what they name follows from what was told
+pub asks_refs : (homes : List (Option Whole)) (nodes : List PlanNode) (names : List (List ℕ)) (old new : List Told)
+    → AreDitavalrefs homes nodes → AsksDitavals homes nodes names old new → AsksOnly ditaval_targets names old new
+asks_refs homes nodes names old new are asks = record {
+  by = λ rule roots covers may asked. asks.by rule roots may (record {
+    each = λ told at node whole grows given here kind is.
+        targets_may told whole.0 (given.each at whole (some_at (slice_get homes at) whole is))
+        (are.each at node whole here kind is) rule roots covers;
+  }) asked;
+}
 
 -- the nodes' own documents first, and then their DITAVALs
 
@@ -118,18 +149,21 @@ pub stays_both : (names : List (List ℕ)) (a b c : List Told) → StaysFounded 
 stays_both names a b c before next =
     stays_then names [] a b c before (λ roots allowed. none_allowed roots b) next
 
-pub asks_first : (names : List (List ℕ)) (a b : List Told) → AsksOnly nothing names a b
-    → AsksOnly ditaval_targets names a b
-asks_first names a b = asks_among ditaval_targets nothing names names a b (covers_nothing ditaval_targets)
-    (λ m among. among)
+pub asks_first : (homes : List (Option Whole)) (nodes : List PlanNode) (names : List (List ℕ)) (a b : List Told)
+    → AsksOnly nothing names a b → AsksDitavals homes nodes names a b
+asks_first homes nodes names a b asks =
+    record { by = λ rule roots may refs asked. asks.by rule roots (covers_nothing rule) may asked }
 
-pub asks_both : (names : List (List ℕ)) (a b c : List Told) → AsksOnly nothing names a b
-    → AsksOnly ditaval_targets [] b c → AsksOnly ditaval_targets names a c
-asks_both names a b c before next = asks_then ditaval_targets ditaval_targets names [] a b c (λ rule covers. covers)
-    (asks_first names a b before) (λ rule roots covers may. none_may rule roots b) next
+pub asks_both : (homes : List (Option Whole)) (nodes : List PlanNode) (names : List (List ℕ)) (a b c : List Told)
+    → Grows a b → AsksOnly nothing names a b → AsksDitavals homes nodes [] b c → AsksDitavals homes nodes names a c
+asks_both homes nodes names a b c grows before next = record {
+  by = λ rule roots may refs asked. next.by rule roots (none_may rule roots b)
+      (refs_later rule roots homes nodes a b grows refs)
+      (before.by rule roots (covers_nothing rule) may asked);
+}
 
 -- what closes most claims on a call that asks for both
 pub ruleset branching = (growing, given_of, stays_both, asks_first, asks_both)
 
 -- what closes most claims on the DITAVALs that are asked for
-pub ruleset ditavals = (growing, given_of, given_later, stays_same, stays_after, asks_same, asks_after)
+pub ruleset ditavals = (growing, given_of, given_later, stays_same, stays_after, ditavals_same, ditavals_after)

@@ -1,6 +1,7 @@
 mod AppendedLaws
 mod BranchLaws
 mod DitavalLaws
+pub mod DomainLaws
 mod EndLaws
 mod FirstLaws
 mod LeavesLaws

@@ -13,17 +13,18 @@ use Rattle.ditaval_rules.specs.Verdict as verdict
 use Rattle.ditaval_rules.specs.declared.rules.RulesRead.{RulesRead}
 use Rattle.map_spec.specs.Branches as branches
 use Rattle.map_spec.specs.Branches.{affix_written, is_no_text, marked}
-use Rattle.map_spec.specs.Judged.{is_excluded, whole_of}
+use Rattle.map_spec.specs.Judged.{declared_of, is_excluded, whole_of}
 use Rattle.map_spec.specs.MapTree.{Head, node_of}
 use Rattle.map_spec.specs.Written.{Whole}
 use Rattle.plan_nodes.specs.Home as home
 use Rattle.reader_spec.specs.World.{World}
 use Rattle.branch_copies.specs.BranchRead.{name_of, place_of}
 use Rattle.branch_copies.specs.Ditavals.{ditaval_at}
+use Rattle.branch_copies.specs.Domains.{names_at}
 use Rattle.branch_copies.specs.Leaves.{chosen}
 use Rattle.branch_copies.specs.Marks.{affixes_of, copied_node, filters_of, if_affix}
 use Rattle.branch_copies.specs.Read.{AreRead, IsRead}
-use Rattle.branch_copies.specs.Source.{IsSource, excludes, excludes_at}
+use Rattle.branch_copies.specs.Source.{IsSource, excludes, excludes_at, table_at}
 use Rattle.branch_copies.specs.Through.{excluded_by, marked_by}
 use Rattle.branch_copies.specs.declared.branch.Branch.{Branch}
 use Rattle.branch_copies.specs.declared.node.Source.{Source}
@@ -166,22 +167,24 @@ none_by true true tokens = refl
 none_by true false tokens = no_token tokens
 none_by false grouped tokens = refl
 
-none_excludes : (attribute : Attribute) → verdict.excludes [] attribute ≡ false
-none_excludes attribute =
-    none_by (verdict.is_conditional attribute.name) (verdict.is_grouped attribute.value) (words_of attribute.value)
+none_excludes : (declared : List (List ℕ)) (attribute : Attribute) → verdict.excludes [] declared attribute ≡ false
+none_excludes declared attribute = none_by (verdict.is_conditional_among declared attribute.name)
+    (verdict.is_grouped attribute.value) (words_of attribute.value)
 
-none_excluded : (attributes : List Attribute) → verdict.excluded [] attributes ≡ false
-none_excluded [] = refl
-none_excluded (attribute ∷ attributes) =
-    ap (λ b. b || list_any (verdict.excludes []) attributes) (none_excludes attribute) ∙ none_excluded attributes
+none_excluded : (declared : List (List ℕ)) (attributes : List Attribute)
+    → verdict.excluded [] declared attributes ≡ false
+none_excluded declared [] = refl
+none_excluded declared (attribute ∷ attributes) =
+    ap (λ b. b || list_any (verdict.excludes [] declared) attributes) (none_excludes declared attribute)
+    ∙ none_excluded declared attributes
 
-excludes_read : (whole : Option Whole) (found : Option RulesRead)
-    → excludes whole (option_map (λ (read : RulesRead). read.rules) found)
+excludes_read : (declared : List (List ℕ)) (whole : Option Whole) (found : Option RulesRead)
+    → excludes (Some declared) whole (option_map (λ (read : RulesRead). read.rules) found)
     ≡ option_map_or (λ (here : Whole).
-    verdict.excluded (option_map_or (λ (read : RulesRead). read.rules) found []) here.0.attributes) whole false
-excludes_read None found = refl
-excludes_read (Some whole) None = sym (none_excluded whole.0.attributes)
-excludes_read (Some whole) (Some read) = refl
+    verdict.excluded (option_map_or (λ (read : RulesRead). read.rules) found []) declared here.0.attributes) whole false
+excludes_read declared None found = refl
+excludes_read declared (Some whole) None = sym (none_excluded declared whole.0.attributes)
+excludes_read declared (Some whole) (Some read) = refl
 
 rules_found : (read : List RulesRead) (place : Option ℕ)
     → option_and_then (λ (at : ℕ). slice_get (map (λ (one : RulesRead). one.rules) read) at) place
@@ -189,9 +192,9 @@ rules_found : (read : List RulesRead) (place : Option ℕ)
 rules_found read None = refl
 rules_found read (Some at) = slice_get-map (λ (one : RulesRead). one.rules) read at
 
-excludes_none : (whole : Option Whole) → excludes whole None ≡ false
-excludes_none None = refl
-excludes_none (Some whole) = refl
+excludes_none : (declared : List (List ℕ)) (whole : Option Whole) → excludes (Some declared) whole None ≡ false
+excludes_none declared None = refl
+excludes_none declared (Some whole) = refl
 
 or_false : (b : Bool) → b ≡ (b || false)
 or_false true = refl
@@ -201,18 +204,20 @@ module _ (world : World) (head : Head) where
   excludes_one : (read : List RulesRead) (nodes : List PlanNode) (tables : List (List Rule)) (whole : Option Whole)
       (one : Option Branch) (two : Option branches.Branch) → whole ≡ whole_of world head
       → tables ≡ map (λ (r : RulesRead). r.rules) read → AtBoth read nodes one two
-      → excludes whole (option_and_then (λ (place : ℕ). slice_get tables place)
+      → excludes (Some (declared_of world head)) whole (option_and_then (λ (place : ℕ). slice_get tables place)
       (option_and_then (λ (branch : Branch). place_of branch.filter) one))
       ≡ excluded_by world (option_to_list two) head
-  excludes_one read nodes tables whole None None here are both = excludes_none whole
+  excludes_one read nodes tables whole None None here are both = excludes_none (declared_of world head) whole
   excludes_one read nodes tables whole None (Some defined) here are both = absurd both
   excludes_one read nodes tables whole (Some branch) None here are both = absurd both
   excludes_one read nodes tables whole (Some branch) (Some defined) here are both =
-      ap (λ all. excludes whole (option_and_then (λ (place : ℕ). slice_get all place) (place_of branch.filter))) are
-      ∙ ap (excludes whole) (rules_found read (place_of branch.filter))
-      ∙ excludes_read whole (ditaval_at read (place_of branch.filter))
-      ∙ ap (λ rules. option_map_or (λ (w : Whole). verdict.excluded rules w.0.attributes) whole false) both.rules
-      ∙ ap (λ w. option_map_or (λ (w : Whole). verdict.excluded defined.filter.rules w.0.attributes) w false) here
+      let names = declared_of world head in
+      ap (λ all. excludes (Some names) whole
+      (option_and_then (λ (place : ℕ). slice_get all place) (place_of branch.filter))) are
+      ∙ ap (excludes (Some names) whole) (rules_found read (place_of branch.filter))
+      ∙ excludes_read names whole (ditaval_at read (place_of branch.filter))
+      ∙ ap (λ rules. option_map_or (λ (w : Whole). verdict.excluded rules names w.0.attributes) whole false) both.rules
+      ∙ ap (λ w. option_map_or (λ (w : Whole). verdict.excluded defined.filter.rules names w.0.attributes) w false) here
       ∙ or_false (is_excluded world defined.filter.rules head)
 
   excluded_both : (one two : List branches.Branch)
@@ -232,7 +237,11 @@ pub excludes_is : (world : World) (source : Source) (defined : List branches.Bra
     → IsSource world source defined → slice_get source.nodes.now at ≡ Some (node_of head above end)
     → excludes_at source at branch ≡ excluded_by world (option_to_list (slice_get defined branch)) head
 excludes_is world source defined above at end branch head is here =
-    excludes_one world head is.ditavals source.nodes.now source.tables.items (home.whole_at source.homes.now at)
+    ap (λ names. excludes names (home.whole_at source.homes.now at)
+    (table_at source.branches.now source.tables.items branch))
+    (ap (λ all. slice_get all at) is.declared ∙ slice_get-map (names_at world) source.nodes.now at
+    ∙ ap (option_map (names_at world)) here)
+    ∙ excludes_one world head is.ditavals source.nodes.now source.tables.items (home.whole_at source.homes.now at)
     (slice_get source.branches.now branch) (slice_get defined branch)
     (whole_here world source.nodes.now source.homes.now above at end head is.homes here) is.tables
     (read_at is.ditavals source.nodes.now source.branches.now defined branch is.read)

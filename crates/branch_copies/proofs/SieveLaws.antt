@@ -13,12 +13,14 @@ use Rattle.ditaval_rules.specs.Verdict.{excluded}
 use Rattle.map_spec.specs.Cascade.{whole_at}
 use Rattle.map_spec.specs.Included.{expanded}
 use Rattle.map_spec.specs.Judged as judged_spec
-use Rattle.map_spec.specs.Judged.{filtered, group_faults, group_faults_of, judged}
+use Rattle.map_spec.specs.Judged.{declared_of, filtered, group_faults, group_faults_of, judged}
 use Rattle.map_spec.specs.MapTree.{Grown, Head, MapTree, NoNodes, MapNode, count, node_of, nodes_below, plan_nodes}
 use Rattle.map_spec.specs.Written.{Element, Whole}
 use Rattle.plan_nodes.specs.Preorder.{HasOneRoot, without_end}
 use Rattle.reader_spec.specs.World.{World}
 use Rattle.branch_copies.specs.declared.sieve.Sieve.{Sieve}
+use Rattle.branch_copies.specs.declared.elements.Elements.{Elements}
+use Rattle.branch_copies.specs.Domains.{AreDeclared, names_at}
 use Rattle.branch_copies.specs.Sieve.{element_at, faults_of, is_excluded, empty, passed, all_passed}
 
 -- Lists
@@ -45,38 +47,40 @@ is_not_less m n h = grind (arith, nat_tests)
 
 -- The elements of nodes
 
-faults_through : (found : Option Whole)
-    → faults_of (option_map (λ (whole : Whole). whole.0) found)
-    ≡ option_map_or (λ (whole : Whole). group_faults whole.0) found []
-faults_through None = refl
-faults_through (Some whole) = refl
+faults_through : (declared : List (List ℕ)) (found : Option Whole)
+    → faults_of declared (option_map (λ (whole : Whole). whole.0) found)
+    ≡ option_map_or (λ (whole : Whole). group_faults declared whole.0) found []
+faults_through declared None = refl
+faults_through declared (Some whole) = refl
 
-excluded_through : (rules : List Rule) (found : Option Whole)
-    → is_excluded rules (option_map (λ (whole : Whole). whole.0) found)
-    ≡ option_map_or (λ (whole : Whole). excluded rules whole.0.attributes) found false
-excluded_through rules None = refl
-excluded_through rules (Some whole) = refl
+excluded_through : (rules : List Rule) (declared : List (List ℕ)) (found : Option Whole)
+    → is_excluded rules declared (option_map (λ (whole : Whole). whole.0) found)
+    ≡ option_map_or (λ (whole : Whole). excluded rules declared whole.0.attributes) found false
+excluded_through rules declared None = refl
+excluded_through rules declared (Some whole) = refl
 
 faults_at : (world : World) (head : Head) (parent end : ℕ)
-    → faults_of (element_at world (node_of head parent end)) ≡ group_faults_of world head
-faults_at world head parent end = faults_through (judged_spec.whole_of world head)
+    → faults_of (declared_of world head) (element_at world (node_of head parent end)) ≡ group_faults_of world head
+faults_at world head parent end = faults_through (declared_of world head) (judged_spec.whole_of world head)
 
 excluded_at : (world : World) (rules : List Rule) (head : Head) (parent end : ℕ)
-    → is_excluded rules (element_at world (node_of head parent end)) ≡ judged_spec.is_excluded world rules head
-excluded_at world rules head parent end = excluded_through rules (judged_spec.whole_of world head)
+    → is_excluded rules (declared_of world head) (element_at world (node_of head parent end))
+    ≡ judged_spec.is_excluded world rules head
+excluded_at world rules head parent end =
+    excluded_through rules (declared_of world head) (judged_spec.whole_of world head)
 
 -- Nodes, one after the other
 
 abbrev run : World → List Rule → List PlanNode → Sieve → Sieve
-run world rules nodes sieve = all_passed (element_at world) rules nodes sieve
+run world rules nodes sieve = all_passed world rules nodes sieve
 
 -- a node that is excluded, behind the root, is passed over with all below it
-pub pass_excluded : (rules : List Rule) (element : Option Element) (node : PlanNode) (old : Sieve) (places : List ℕ)
-    (faults : List Fault) (at count : ℕ) → at ≡ length old.places → old.next ≤ at → 0 < at
-    → is_excluded rules element ≡ true → count ≡ length old.kept → places ≡ old.places ++ count ∷ []
-    → faults ≡ old.faults ++ faults_of element
-    → record { places = places; kept = old.kept; faults = faults; next = node.end } ≡ passed rules element node old
-pass_excluded rules element node old places faults at count at_is past below out count_is more told =
+pub pass_excluded : (rules : List Rule) (declared : List (List ℕ)) (element : Option Element) (node : PlanNode)
+    (old : Sieve) (places : List ℕ) (faults : List Fault) (at count : ℕ) → at ≡ length old.places → old.next ≤ at → 0 < at
+    → is_excluded rules declared element ≡ true → count ≡ length old.kept → places ≡ old.places ++ count ∷ []
+    → faults ≡ old.faults ++ faults_of declared element
+    → record { places = places; kept = old.kept; faults = faults; next = node.end } ≡ passed rules declared element node old
+pass_excluded rules declared element node old places faults at count at_is past below out count_is more told =
     let not_inside : nat_lt (length old.places) old.next ≡ false =
     is_not_less (length old.places) old.next (subst (λ n. old.next ≤ n) at_is past) in
     let not_first : nat_lt 0 (length old.places) ≡ true =
@@ -85,21 +89,23 @@ pass_excluded rules element node old places faults at count at_is past below out
 
 -- the node at a place is the next
 pub pass_next : (world : World) (rules : List Rule) (nodes : List PlanNode) (at : ℕ) (node : PlanNode)
-    (element : Option Element) (before after : Sieve) → at < length nodes → node ≡ get_or nodes at node
-    → element ≡ element_at world node → after ≡ passed rules element node before
-    → all_passed (element_at world) rules (drop (at + 1) nodes) after
-    ≡ all_passed (element_at world) rules (drop at nodes) before
-pass_next world rules nodes at node element before after less is found then =
+    (declared : List (List ℕ)) (element : Option Element) (before after : Sieve) → at < length nodes
+    → node ≡ get_or nodes at node → declared ≡ names_at world node → element ≡ element_at world node
+    → after ≡ passed rules declared element node before
+    → all_passed world rules (drop (at + 1) nodes) after
+    ≡ all_passed world rules (drop at nodes) before
+pass_next world rules nodes at node declared element before after less is names found then =
     ap (λ (s : Sieve). run world rules (drop (at + 1) nodes) s) (then
-    ∙ (ap (λ (e : Option Element). passed rules e node before) found
-    ∙ ap (λ (n : PlanNode). passed rules (element_at world n) n before) is))
+    ∙ (ap (λ (d : List (List ℕ)). passed rules d element node before) names
+    ∙ ap (λ (e : Option Element). passed rules (names_at world node) e node before) found
+    ∙ ap (λ (n : PlanNode). passed rules (names_at world n) (element_at world n) n before) is))
     ∙ sym (at_drop_more (λ (all : List PlanNode). run world rules all before) nodes at node less)
 
 run_append : (world : World) (rules : List Rule) (first second : List PlanNode) (sieve : Sieve)
     → run world rules (first ++ second) sieve ≡ run world rules second (run world rules first sieve)
 run_append world rules [] second sieve = refl
 run_append world rules (node ∷ first) second sieve =
-    run_append world rules first second (passed rules (element_at world node) node sieve)
+    run_append world rules first second (passed rules (names_at world node) (element_at world node) node sieve)
 
 count_below : (tree : MapTree) (parent place : ℕ) → length (nodes_below parent place tree) ≡ count tree
 count_below NoNodes parent place = refl
@@ -161,7 +167,7 @@ none_left world rules parent place up sieve size some next found = record {
 -- its step, by whether it is excluded
 step_excluded : (world : World) (rules : List Rule) (head : Head) (parent end place : ℕ) (sieve : Sieve)
     → length sieve.places ≡ place → 0 < place → sieve.next ≤ place → judged_spec.is_excluded world rules head ≡ true
-    → passed rules (element_at world (node_of head parent end)) (node_of head parent end) sieve
+    → passed rules (declared_of world head) (element_at world (node_of head parent end)) (node_of head parent end) sieve
     ≡ record {
       places = sieve.places ++ length sieve.kept ∷ [];
       kept = sieve.kept;
@@ -176,7 +182,7 @@ step_excluded world rules head parent end place sieve size some next e =
 step_kept : (world : World) (rules : List Rule) (head : Head) (parent end place up : ℕ) (sieve : Sieve)
     → length sieve.places ≡ place → 0 < place → sieve.next ≤ place → judged_spec.is_excluded world rules head ≡ false
     → slice_get sieve.places parent ≡ Some up
-    → passed rules (element_at world (node_of head parent end)) (node_of head parent end) sieve
+    → passed rules (declared_of world head) (element_at world (node_of head parent end)) (node_of head parent end) sieve
     ≡ record {
       places = sieve.places ++ length sieve.kept ∷ [];
       kept = sieve.kept ++ node_of head up end ∷ [];
@@ -377,7 +383,7 @@ expanded_of nodes faults = record { nodes = nodes; faults = faults }
 
 -- nodes with these ends are those of the filtered tree
 root_made : (world : World) (rules : List Rule) (head : Head) (below : MapTree) (nodes made : List PlanNode) (sieve : Sieve)
-    → sieve ≡ all_passed (element_at world) rules nodes empty
+    → sieve ≡ all_passed world rules nodes empty
     → ((tree : MapTree) → HasOneRoot tree → map without_end sieve.kept ≡ map without_end (plan_nodes tree)
     → made ≡ plan_nodes tree)
     → nodes ≡ plan_nodes (MapNode head below NoNodes)
@@ -393,7 +399,7 @@ root_made world rules head below nodes made sieve left ends is =
     ap (λ (all : List PlanNode). expanded_of all sieve.faults) kept ∙ ap (expanded_of (plan_nodes grown.tree)) found
 
 pub filtered_from : (world : World) (rules : List Rule) (nodes made : List PlanNode) (sieve : Sieve)
-    → sieve ≡ all_passed (element_at world) rules nodes empty
+    → sieve ≡ all_passed world rules nodes empty
     → ((tree : MapTree) → HasOneRoot tree → map without_end sieve.kept ≡ map without_end (plan_nodes tree)
     → made ≡ plan_nodes tree)
     → (tree : MapTree) → nodes ≡ plan_nodes tree → HasOneRoot tree
@@ -410,15 +416,18 @@ filtered_from world rules nodes made sieve left ends (MapNode head below more) i
 
 -- the same as the code has it
 pub filtered_here : (world : World) (rules table : List Rule) (nodes first second made : List PlanNode)
-    (homes : List (Option Whole)) (sieve : Sieve) → table ≡ rules → first ≡ nodes → second ≡ nodes
-    → homes ≡ map (whole_at world) first
-    → (homes ≡ map (whole_at world) second → sieve ≡ all_passed (element_at world) table second empty)
+    (elements : Elements) (sieve : Sieve) → table ≡ rules → first ≡ nodes → second ≡ nodes
+    → elements.homes ≡ map (whole_at world) first → AreDeclared world first elements.declared
+    → (elements.homes ≡ map (whole_at world) second → AreDeclared world second elements.declared
+    → sieve ≡ all_passed world table second empty)
     → ((tree : MapTree) → HasOneRoot tree → map without_end sieve.kept ≡ map without_end (plan_nodes tree)
     → made ≡ plan_nodes tree)
     → (tree : MapTree) → nodes ≡ plan_nodes tree → HasOneRoot tree
     → expanded_of made sieve.faults ≡ expanded (filtered world rules tree)
-filtered_here world rules table nodes first second made homes sieve same one two all left ends =
-    let there : homes ≡ map (whole_at world) second = all ∙ ap (map (whole_at world)) (one ∙ sym two) in
-    filtered_from world rules nodes made sieve (left there
-    ∙ (ap (λ (own : List Rule). all_passed (element_at world) own second empty) same
-    ∙ ap (λ (each : List PlanNode). all_passed (element_at world) rules each empty) two)) ends
+filtered_here world rules table nodes first second made elements sieve same one two all names left ends =
+    let there : elements.homes ≡ map (whole_at world) second = all ∙ ap (map (whole_at world)) (one ∙ sym two) in
+    let declared : AreDeclared world second elements.declared =
+    subst (λ own. AreDeclared world own elements.declared) (one ∙ sym two) names in
+    filtered_from world rules nodes made sieve (left there declared
+    ∙ (ap (λ (own : List Rule). all_passed world own second empty) same
+    ∙ ap (λ (each : List PlanNode). all_passed world rules each empty) two)) ends

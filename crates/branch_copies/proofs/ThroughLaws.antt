@@ -6,7 +6,7 @@ use Rattle.dita_doc.specs.declared.content.Rule.{Rule}
 use Rattle.dita_doc.specs.declared.plan.PlanKind.TheVariants as kinds
 use Rattle.ditaval_rules.specs.Verdict.{excluded}
 use Rattle.map_spec.specs.Branches.{Branch, all_beside, all_marked, copy_below, copy_for, group_for, marked, names_in_copy}
-use Rattle.map_spec.specs.Judged.{has_element, is_excluded, kept}
+use Rattle.map_spec.specs.Judged.{declared_of, has_element, is_excluded, kept}
 use Rattle.map_spec.specs.MapTree.{Head, MapNode, MapTree, NoNodes, trees_beside}
 use Rattle.map_spec.specs.Written.{Whole, element_in}
 use Rattle.reader_spec.specs.World.{World}
@@ -146,7 +146,7 @@ through_copy world chain head below branch =
 not_excluded : (world : World) (rules : List Rule) (head : Head) → head.kind ≡ kinds.Group
     → is_excluded world rules head ≡ false
 not_excluded world rules head is =
-    ap (λ kind. option_map_or (λ (whole : Whole). excluded rules whole.0.attributes)
+    ap (λ kind. option_map_or (λ (whole : Whole). excluded rules (declared_of world head) whole.0.attributes)
     (if has_element kind then element_in world head.doc head.place else None) false) is
 
 group_stays : (world : World) (chain : List Branch) (head : Head) → head.kind ≡ kinds.Group

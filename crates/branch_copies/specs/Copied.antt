@@ -6,7 +6,9 @@ use Rattle.dita_doc.specs.declared.plan.Expanded.{Expanded}
 use Rattle.dita_doc.specs.declared.plan.PlanKind.TheVariants as kinds
 use Rattle.dita_doc.specs.declared.plan.PlanNode.{PlanNode}
 use Rattle.dita_doc.specs.declared.plan.PlanStop.{PlanStop}
+use Rattle.dita_doc.specs.declared.plan.PlanStop.TheVariants as stops
 use Rattle.dita_doc.specs.declared.stop.Stop.{Stop}
+use Rattle.dita_doc.specs.declared.stop.Stop.TheVariants.{Fault, NoMemory}
 use Rattle.map_spec.specs.Branches.{branched}
 use Rattle.map_spec.specs.Included.{expanded, node_limit}
 use Rattle.map_spec.specs.MapTree.{Head, MapTree, MapNode, NoNodes, plan_nodes}
@@ -17,3 +19,8 @@ abbrev pub AreCopied : World → List PlanNode → Result Expanded (Stop PlanSto
 AreCopied world nodes result = (head : Head) (below : MapTree) → head.kind ≡ kinds.Map
     → nodes ≡ plan_nodes (MapNode head below NoNodes)
     → Gives result (result_map_both expanded (λ stop. stop) (branched node_limit world (MapNode head below NoNodes)))
+
+-- the only fault, whatever was handed in
+abbrev pub IsTooMany : Stop PlanStop → Type 0
+IsTooMany (Fault stop) = stop ≡ stops.TooManyNodes
+IsTooMany NoMemory = Unit {0}

@@ -9,7 +9,8 @@ use Rattle.map_spec.specs.Elements.{is_a}
 use Rattle.map_spec.specs.Written.{Element, Whole, elements_below, written_in}
 use Rattle.plan_nodes.specs.Given.{AreTold}
 use Rattle.plan_nodes.specs.Home as home
-use Rattle.readers.specs.Documents.{Follows}
+use Rattle.readers.specs.Documents.{AskedBy, Follows, MayAsk}
+use Rattle.readers.specs.Founded.{Grows}
 use Rattle.readers.specs.Told.{Told, document}
 use Rattle.reader_spec.specs.World.{World}
 use Rattle.branch_copies.specs.BranchRead.{targets_of}
@@ -35,6 +36,20 @@ ditaval_targets _ = []
 pub record AreDitavalrefs (homes : List (Option Whole)) (nodes : List PlanNode) : Type 0 where
   pub each : (at : ℕ) (node : PlanNode) (whole : Whole) → slice_get nodes at ≡ Some node
       → is_ditavalref node.kind ≡ true → home.whole_at homes at ≡ Some whole → is_ref whole.0 ≡ true
+
+-- by a rule, the DITAVAL that each ditavalref among nodes names may be asked for, once their elements were told
+pub record MayAskRefs (rule : Follows) (roots : List (List ℕ)) (homes : List (Option Whole)) (nodes : List PlanNode)
+    (old : List Told) : Type 0 where
+  pub each : (told : List Told) (at : ℕ) (node : PlanNode) (whole : Whole) → Grows old told → AreTold told homes
+      → slice_get nodes at ≡ Some node → is_ditavalref node.kind ≡ true → home.whole_at homes at ≡ Some whole
+      → MayAsk rule roots told (targets_of whole.0)
+
+-- what a call does that asks for these documents, and for the DITAVALs that the ditavalrefs among nodes name, and for
+-- no others: by each rule, if these might be asked for, then so might all that was asked for
+pub record AsksDitavals (homes : List (Option Whole)) (nodes : List PlanNode) (names : List (List ℕ))
+    (old new : List Told) : Type 0 where
+  pub by : (rule : Follows) (roots : List (List ℕ)) → MayAsk rule roots old names
+      → MayAskRefs rule roots homes nodes old → AskedBy rule roots old → AskedBy rule roots new
 
 -- the elements of the nodes are those of a world, and were told
 pub record AreGiven (told : List Told) (nodes : List PlanNode) (homes : List (Option Whole)) : Type 0 where

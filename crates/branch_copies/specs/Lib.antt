@@ -4,6 +4,7 @@ pub mod Chained
 pub mod Copied
 pub mod Ditavalrefs
 pub mod Ditavals
+pub mod Domains
 pub mod Filtered
 pub mod Going
 pub mod Leaves

@@ -13,6 +13,7 @@ use Rattle.map_spec.specs.Cascade.{whole_at}
 use Rattle.map_spec.specs.Judged.{group_faults}
 use Rattle.map_spec.specs.Written.{Element, Whole}
 use Rattle.reader_spec.specs.World.{World}
+use Rattle.branch_copies.specs.Domains.{names_at}
 use Rattle.branch_copies.specs.declared.sieve.Sieve.{Sieve}
 
 -- the element of a node that stands in a document of this name
@@ -23,11 +24,13 @@ element_found name found = option_map (λ (node : Bor doc.Node). element_of name
 abbrev pub element_at : World → PlanNode → Option Element
 element_at world node = option_map (λ (whole : Whole). whole.0) (whole_at world node)
 
-abbrev pub faults_of : Option Element → List Fault
-faults_of element = option_map_or group_faults element []
+-- what is wrong with an element for which these names are declared, and whether it is excluded
+abbrev pub faults_of : List (List ℕ) → Option Element → List Fault
+faults_of declared element = option_map_or (group_faults declared) element []
 
-abbrev pub is_excluded : List Rule → Option Element → Bool
-is_excluded rules element = option_map_or (λ (written : Element). excluded rules written.attributes) element false
+abbrev pub is_excluded : List Rule → List (List ℕ) → Option Element → Bool
+is_excluded rules declared element =
+    option_map_or (λ (written : Element). excluded rules declared written.attributes) element false
 
 -- the node, whose parent stands at its new place
 abbrev pub moved : List ℕ → PlanNode → PlanNode
@@ -36,19 +39,19 @@ moved places node = record node { parent = unwrap_or (slice_get places node.pare
 abbrev pub empty : Sieve
 empty = record { places = []; kept = []; faults = []; next = 0 }
 
--- the next node, which stands for this element
-abbrev pub passed : List Rule → Option Element → PlanNode → Sieve → Sieve
-passed rules element node sieve =
+-- the next node, which stands for this element, for which these names are declared
+abbrev pub passed : List Rule → List (List ℕ) → Option Element → PlanNode → Sieve → Sieve
+passed rules declared element node sieve =
     let places : List ℕ = sieve.places ++ length sieve.kept ∷ [] in
-    let faults : List Fault = sieve.faults ++ faults_of element in
+    let faults : List Fault = sieve.faults ++ faults_of declared element in
     if nat_lt (length sieve.places) sieve.next
     then record { places = places; kept = sieve.kept; faults = sieve.faults; next = sieve.next }
-    else if nat_lt 0 (length sieve.places) && is_excluded rules element
+    else if nat_lt 0 (length sieve.places) && is_excluded rules declared element
     then record { places = places; kept = sieve.kept; faults = faults; next = node.end }
     else record { places = places; kept = sieve.kept ++ moved places node ∷ []; faults = faults; next = sieve.next }
 
 -- these nodes, one after the other
-abbrev pub all_passed : (PlanNode → Option Element) → List Rule → List PlanNode → Sieve → Sieve
-all_passed element_at rules [] sieve = sieve
-all_passed element_at rules (node ∷ nodes) sieve =
-    all_passed element_at rules nodes (passed rules (element_at node) node sieve)
+abbrev pub all_passed : World → List Rule → List PlanNode → Sieve → Sieve
+all_passed world rules [] sieve = sieve
+all_passed world rules (node ∷ nodes) sieve =
+    all_passed world rules nodes (passed rules (names_at world node) (element_at world node) node sieve)

@@ -1,5 +1,5 @@
--- What is copied (own): nodes with their elements and the names of their scopes, and their branches with the rules of
--- these, each as a world has it.
+-- What is copied (own): nodes with their elements, the names that are declared for these and the names of their scopes,
+-- and their branches with the rules of these, each as a world has it.
 use Rattle.std.specs.Prelude.{◌≡◌, ◌+◌, ◌≤◌, ◌&&◌, ℕ, Bool, false, not, List, Option, Some, None, length, map, slice_get}
 use Rattle.std.specs.Option.{option_and_then}
 use Rattle.dita_doc.specs.declared.content.Rule.{Rule}
@@ -14,6 +14,7 @@ use Rattle.map_spec.specs.Written.{Whole}
 use Rattle.plan_nodes.specs.Home as home
 use Rattle.reader_spec.specs.World.{World}
 use Rattle.branch_copies.specs.BranchRead.{place_of}
+use Rattle.branch_copies.specs.Domains.{names_at, shown}
 use Rattle.branch_copies.specs.Read.{AreRead, HaveBranches, branches_in}
 use Rattle.branch_copies.specs.Stands.{StandsAt, is_map_at}
 use Rattle.branch_copies.specs.declared.branch.Branch.{Branch}
@@ -25,6 +26,7 @@ use Rattle.branch_copies.specs.declared.node.Source.{Source}
 pub record IsSource (world : World) (source : Source) (defined : List branches.Branch) : Type 0 where
   pub ditavals : List RulesRead
   pub homes : source.homes.now ≡ map (whole_at world) source.nodes.now
+  pub declared : shown source.declared.items ≡ map (names_at world) source.nodes.now
   pub names : (parent at : ℕ) (head : Head) (below more : MapTree)
       → StandsAt source.nodes.now parent at (MapNode head below more)
       → slice_get source.names.now at ≡ Some (scope_names_of world head below head.kind)
@@ -37,15 +39,16 @@ table_at branches tables at =
     option_and_then (λ (place : ℕ). slice_get tables place)
     (option_and_then (λ (branch : Branch). place_of branch.filter) (slice_get branches at))
 
-abbrev pub excludes : Option Whole → Option (List Rule) → Bool
-excludes None rules = false
-excludes (Some whole) None = false
-excludes (Some whole) (Some rules) = excluded rules whole.0.attributes
+abbrev pub excludes : Option (List (List ℕ)) → Option Whole → Option (List Rule) → Bool
+excludes None whole rules = false
+excludes (Some declared) None rules = false
+excludes (Some declared) (Some whole) None = false
+excludes (Some declared) (Some whole) (Some rules) = excluded rules declared whole.0.attributes
 
 -- whether a branch excludes the element of the node at a place
 abbrev pub excludes_at : Source → ℕ → ℕ → Bool
-excludes_at source at branch =
-    excludes (home.whole_at source.homes.now at) (table_at source.branches.now source.tables.items branch)
+excludes_at source at branch = excludes (slice_get (shown source.declared.items) at)
+    (home.whole_at source.homes.now at) (table_at source.branches.now source.tables.items branch)
 
 abbrev pub excludes_top_at : Source → ℕ → ℕ → Bool
 excludes_top_at source at branch = not (is_map_at source.nodes.now at) && excludes_at source at branch

@@ -12,7 +12,6 @@ ghost use Rattle.map_spec.specs.Cascade as cascade_spec;
 ghost use Rattle.map_spec.specs.MapTree as map_tree_spec;
 ghost use Rattle.map_spec.specs.MapTree.{Head, MapTree};
 ghost use Rattle.reader_spec.specs.World.{World};
-ghost use Rattle.readers.specs.Documents.{AsksOnly};
 ghost use Rattle.readers.specs.Founded.{Grows, StaysFounded};
 ghost use Rattle.readers.specs.Told.{Agrees};
 
@@ -75,8 +74,8 @@ impl Branches {
         ensures stand { R.stand reader.new ≡ R.stand reader.old }
         ensures grows { Grows (R.told reader.old) (R.told reader.new) }
         ensures founded { StaysFounded [] (R.told reader.old) (R.told reader.new) }
-        ensures asks { ditavalrefs_spec.AreDitavalrefs homes.now nodes.now
-            → AsksOnly ditavalrefs_spec.ditaval_targets [] (R.told reader.old) (R.told reader.new) }
+        ensures asks { ditavalrefs_spec.AsksDitavals homes.now nodes.now [] (R.told reader.old)
+            (R.told reader.new) }
     {
         let end = end_of(nodes, at);
         let mut child = at.saturating_add(1);
@@ -110,8 +109,8 @@ impl Branches {
         ensures stand { R.stand reader.new ≡ R.stand reader.old }
         ensures grows { Grows (R.told reader.old) (R.told reader.new) }
         ensures founded { StaysFounded [] (R.told reader.old) (R.told reader.new) }
-        ensures asks { ditavalrefs_spec.AreDitavalrefs homes.now nodes.now
-            → AsksOnly ditavalrefs_spec.ditaval_targets [] (R.told reader.old) (R.told reader.new) }
+        ensures asks { ditavalrefs_spec.AsksDitavals homes.now nodes.now [] (R.told reader.old)
+            (R.told reader.new) }
     {
         if !is_ditavalref_at(nodes, child) {
             return Ok(());
@@ -150,8 +149,8 @@ impl Branches {
         ensures stand { R.stand reader.new ≡ R.stand reader.old }
         ensures grows { Grows (R.told reader.old) (R.told reader.new) }
         ensures founded { StaysFounded [] (R.told reader.old) (R.told reader.new) }
-        ensures asks { ditavalrefs_spec.AreDitavalrefs homes.now nodes.now
-            → AsksOnly ditavalrefs_spec.ditaval_targets [] (R.told reader.old) (R.told reader.new) }
+        ensures asks { ditavalrefs_spec.AsksDitavals homes.now nodes.now [] (R.told reader.old)
+            (R.told reader.new) }
     {
         if at < next {
             return Ok(next);
@@ -189,9 +188,9 @@ impl Branches {
         ensures stand { R.stand reader.new ≡ R.stand reader.old }
         ensures grows { Grows (R.told reader.old) (R.told reader.new) }
         ensures founded { StaysFounded [] (R.told reader.old) (R.told reader.new) }
-        ensures asks { ditavalrefs_spec.AreDitavalrefs homes.now nodes.now
-            → stands_spec.is_ditavalref_at nodes.now place ≡ true
-            → AsksOnly ditavalrefs_spec.ditaval_targets [] (R.told reader.old) (R.told reader.new) }
+        ensures asks { stands_spec.is_ditavalref_at nodes.now place ≡ true
+            → ditavalrefs_spec.AsksDitavals homes.now nodes.now [] (R.told reader.old)
+            (R.told reader.new) }
     {
         let Some(node) = nodes.get(place) else {
             return Ok(());
@@ -227,8 +226,8 @@ pub(crate) fn read_branches<R: Reader>(
     ensures stand { R.stand reader.new ≡ R.stand reader.old }
     ensures grows { Grows (R.told reader.old) (R.told reader.new) }
     ensures founded { StaysFounded [] (R.told reader.old) (R.told reader.new) }
-    ensures asks { ditavalrefs_spec.AreDitavalrefs homes.now nodes.now
-        → AsksOnly ditavalrefs_spec.ditaval_targets [] (R.told reader.old) (R.told reader.new) }
+    ensures asks { ditavalrefs_spec.AsksDitavals homes.now nodes.now [] (R.told reader.old)
+        (R.told reader.new) }
 {
     let mut read = Branches::new(alloc);
     let mut next: usize = 0;

@@ -1,9 +1,10 @@
 //! The copies of branches.
 
-ghost use Rattle.std.specs.Prelude.{◌≡◌, ℕ, List, IfOk, Some, map, slice_get};
+ghost use Rattle.std.specs.Prelude.{◌≡◌, ℕ, List, IfErr, IfOk, Some, map, slice_get};
 ghost use Rattle.std.specs.Result.{result_map_both};
 ghost use Rattle.branch_copies.specs.Copied as copied_spec;
 ghost use Rattle.branch_copies.specs.Ditavalrefs as ditavalrefs_spec;
+ghost use Rattle.branch_copies.specs.Domains as domains_spec;
 ghost use Rattle.branch_copies.specs.Read as read_spec;
 ghost use Rattle.branch_copies.specs.Stands as stands_spec;
 ghost use Rattle.dita_doc.specs.Gives.{Gives};
@@ -15,7 +16,6 @@ ghost use Rattle.map_spec.specs.MapTree as map_tree_spec;
 ghost use Rattle.map_spec.specs.MapTree.{Grown, Head, MapTree};
 ghost use Rattle.plan_nodes.specs.Given.{AreTold};
 ghost use Rattle.reader_spec.specs.World.{World};
-ghost use Rattle.readers.specs.Documents.{AsksOnly};
 ghost use Rattle.readers.specs.Founded as founded_spec;
 ghost use Rattle.readers.specs.Founded.{Grows, StaysFounded};
 ghost use Rattle.readers.specs.Told.{Agrees};
@@ -23,6 +23,8 @@ ghost use Rattle.readers.specs.Told.{Agrees};
 use crate::branches::{Branches, read_branches};
 use crate::copying::Copying;
 use crate::ditavals::Ditavals;
+use crate::domains::DeclaredNames;
+use crate::elements::Elements;
 use crate::names::scope_names;
 use crate::node::Source;
 use dita_doc::{Expanded, List, PlanNode, PlanStop, Stop, Text};
@@ -45,44 +47,48 @@ pub fn copy_branches<R: Reader>(
     ensures known { (world : World) → Agrees world (R.told reader.new)
         → copied_spec.AreCopied world nodes.now result }
     ensures value { copied_spec.AreCopied (R.stand reader.old).world nodes.now result }
+    ensures stop { IfErr result copied_spec.IsTooMany }
     ensures told { IfOk result (λ copies. AreTold (R.told reader.new)
         (map (cascade_spec.whole_at (R.stand reader.old).world) nodes.now)) }
     ensures stand { R.stand reader.new ≡ R.stand reader.old }
     ensures founded { StaysFounded (founded_spec.homes nodes.now) (R.told reader.old)
         (R.told reader.new) }
-    ensures asks { ditavalrefs_spec.AreDitavalrefs
+    ensures asks { ditavalrefs_spec.AsksDitavals
         (map (cascade_spec.whole_at (R.stand reader.old).world) nodes.now) nodes.now
-        → AsksOnly ditavalrefs_spec.ditaval_targets (founded_spec.homes nodes.now)
-        (R.told reader.old) (R.told reader.new) }
+        (founded_spec.homes nodes.now) (R.told reader.old) (R.told reader.new) }
     ensures grows { Grows (R.told reader.old) (R.told reader.new) }
 {
     let nodes = nodes.as_slice();
-    let homes = Homes::of(alloc, reader, nodes)?;
+    let elements = Elements::of(alloc, reader, nodes)?;
     let mut ditavals = Ditavals::new(alloc);
-    let read = read_branches(alloc, reader, &mut ditavals, nodes, &homes)?;
-    copy_read(alloc, nodes, &homes, &ditavals, read)
+    let read = read_branches(alloc, reader, &mut ditavals, nodes, &elements.homes)?;
+    copy_read(alloc, nodes, &elements, &ditavals, read)
 }
 
 // The copies of all nodes, by what was read of their branches, with the faults of these.
 fn copy_read(
     alloc: Global,
     nodes: &[PlanNode],
-    homes: &Homes,
+    elements: &Elements,
     ditavals: &Ditavals,
     read: Branches,
 ) -> Result<Expanded, Stop<PlanStop>>
-    ensures { (world : World) (head : Head) (below : MapTree) → head.kind ≡ kinds.Map
+    ensures copied { (world : World) (head : Head) (below : MapTree) → head.kind ≡ kinds.Map
         → nodes.now ≡ map_tree_spec.plan_nodes
         (map_tree_spec.MapNode head below map_tree_spec.NoNodes)
-        → homes.now ≡ map (cascade_spec.whole_at world) nodes.now
+        → elements.now.homes ≡ map (cascade_spec.whole_at world) nodes.now
+        → domains_spec.AreDeclared world nodes.now elements.now.declared
         → read_spec.AllRead world ditavals.now.read.items nodes.now
         (map_tree_spec.MapNode head below map_tree_spec.NoNodes) read
         → Gives result (result_map_both included_spec.expanded (λ stop. stop)
         (branches_spec.branched included_spec.node_limit world
         (map_tree_spec.MapNode head below map_tree_spec.NoNodes))) }
+    ensures stop { IfErr result copied_spec.IsTooMany }
 {
-    let names = scope_names(alloc, nodes, homes)?;
-    let copies = match copy_all(alloc, nodes, homes, ditavals, &names, &read) {
+    let names = scope_names(alloc, nodes, &elements.homes)?;
+    let homes = &elements.homes;
+    let declared = &elements.declared;
+    let copies = match copy_all(alloc, nodes, homes, declared, ditavals, &names, &read) {
         Ok(copies) => copies,
         Err(stop) => return Err(stop),
     };
@@ -98,15 +104,17 @@ fn copy_all<'a>(
     alloc: Global,
     nodes: &'a [PlanNode],
     homes: &'a Homes,
+    declared: &'a DeclaredNames,
     ditavals: &'a Ditavals,
     names: &'a [List<Text>],
     read: &'a Branches,
 ) -> Result<List<PlanNode>, Stop<PlanStop>>
-    ensures { (world : World) (head : Head) (below : MapTree)
+    ensures copied { (world : World) (head : Head) (below : MapTree)
         (defined : List branches_spec.Branch) → head.kind ≡ kinds.Map
         → nodes.now ≡ map_tree_spec.plan_nodes
         (map_tree_spec.MapNode head below map_tree_spec.NoNodes)
         → homes.now ≡ map (cascade_spec.whole_at world) nodes.now
+        → domains_spec.AreDeclared world nodes.now declared.now
         → ((parent at : ℕ) (h : Head) (b more : MapTree)
         → stands_spec.StandsAt nodes.now parent at (map_tree_spec.MapNode h b more)
         → slice_get names.now at ≡ Some (branches_spec.scope_names_of world h b h.kind))
@@ -116,10 +124,12 @@ fn copy_all<'a>(
         → Gives result (result_map_both (λ (grown : Grown). map_tree_spec.plan_nodes grown.tree)
         (λ stop. stop) (branches_spec.branched included_spec.node_limit world
         (map_tree_spec.MapNode head below map_tree_spec.NoNodes))) }
+    ensures stop { IfErr result copied_spec.IsTooMany }
 {
     let source = Source {
         nodes,
         homes,
+        declared: declared.each(alloc, nodes)?,
         names,
         branches: &read.branches,
         spans: &read.spans,

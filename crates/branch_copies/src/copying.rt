@@ -3,6 +3,7 @@
 ghost use Rattle.std.specs.Prelude.{◌≡◌, ◌+◌, ◌<◌, ◌≤◌, ◌++◌, List, [], ◌∷◌, true, length, map, IfErr, IfOk, OnOk};
 ghost use Rattle.std.specs.List.{list_any};
 ghost use Rattle.branch_copies.specs.Chained as chained_spec;
+ghost use Rattle.branch_copies.specs.Copied as copied_spec;
 ghost use Rattle.branch_copies.specs.Going as spec;
 ghost use Rattle.branch_copies.specs.Leaves as leaves_spec;
 ghost use Rattle.branch_copies.specs.Left as left_spec;
@@ -71,6 +72,7 @@ impl Copying {
             (all : List plan_node.PlanNode) → source_spec.IsSource world source.now defined
             → spec.Going world source.now defined self.old self.old.made.items all
             → spec.Goes world source.now defined result self.new all }
+        ensures stop { IfErr result copied_spec.IsTooMany }
     {
         while let Some(work) = self.left.pop() {
             match self.go_on(alloc, source, work) {
@@ -96,6 +98,7 @@ impl Copying {
             → spec.Going world source.now defined self.old
             (leaves_spec.put (leaves_spec.parent_of work) tree self.old.made.items) all
             → spec.Goes world source.now defined result self.new all }
+        ensures stop { IfErr result copied_spec.IsTooMany }
     {
         match work {
             Work::Walk(walk) => self.step(alloc, source, walk),
@@ -114,6 +117,7 @@ impl Copying {
             → spec.Going world source.now defined self.old
             (leaves_spec.put walk.parent tree self.old.made.items) all
             → spec.Goes world source.now defined result self.new all }
+        ensures stop { IfErr result copied_spec.IsTooMany }
     {
         let Some(seen) = source.see(walk) else {
             return Ok(());
@@ -159,6 +163,7 @@ impl Copying {
             → spec.Going world source.now defined self.old (leaves_spec.put walk.parent
             (spec.first_copied world defined self.old walk head below) self.old.made.items) all
             → spec.Goes world source.now defined result self.new all }
+        ensures stop { IfErr result copied_spec.IsTooMany }
     {
         if seen.span.count == 0 {
             return self.copy_whole(alloc, source, walk, seen);
@@ -190,6 +195,7 @@ impl Copying {
             → spec.Going world source.now defined self.old (leaves_spec.put walk.parent
             (spec.first_copied world defined self.old walk head below) self.old.made.items) all
             → spec.Goes world source.now defined result self.new all }
+        ensures stop { IfErr result copied_spec.IsTooMany }
     {
         let parent = match self.copy(alloc, source, walk, seen.original) {
             Ok(place) => place,
@@ -224,6 +230,7 @@ impl Copying {
             → spec.Going world source.now defined self.old (leaves_spec.put walk.parent
             (spec.first_copied world defined self.old walk head below) self.old.made.items) all
             → spec.Goes world source.now defined result self.new all }
+        ensures stop { IfErr result copied_spec.IsTooMany }
     {
         let parent = match self.copy(alloc, source, walk, seen.original) {
             Ok(place) => place,
@@ -273,6 +280,7 @@ impl Copying {
             original.entry.node.now original.entry.names.now walk.parent ∷ []) }
         ensures chains { self.new.chains ≡ self.old.chains }
         ensures left { self.new.left ≡ self.old.left }
+        ensures stop { IfErr result copied_spec.IsTooMany }
     {
         let chain = self.chains.get(walk.chain);
         let copy = source.copy(alloc, original, walk.parent, chain)?;
@@ -296,6 +304,7 @@ impl Copying {
             → spec.Going world source.now defined self.old
             (leaves_spec.put copies.parent tree self.old.made.items) all
             → spec.Goes world source.now defined result self.new all }
+        ensures stop { IfErr result copied_spec.IsTooMany }
     {
         if copies.count == 0 {
             return Ok(());
@@ -329,6 +338,7 @@ impl Copying {
             (spec.top_copied world defined self.old copies head below branch)
             self.old.made.items) all
             → spec.Goes world source.now defined result self.new all }
+        ensures stop { IfErr result copied_spec.IsTooMany }
     {
         let Copies {
             at,
@@ -394,6 +404,7 @@ fn put(made: &mut Vec<PlanNode>, node: PlanNode) -> Result<u32, Stop<PlanStop>>
     ensures place { IfOk result (λ place. place ≡ length made.old.items) }
     ensures count { OnOk result (length made.new.items ≡ length made.old.items + 1) }
     ensures made { OnOk result (made.new.items ≡ made.old.items ++ node ∷ []) }
+    ensures stop { IfErr result copied_spec.IsTooMany }
 {
     let count = made.len();
     if count >= NODE_LIMIT {

@@ -1,6 +1,7 @@
 //! The nodes of a map that rules leave.
 
 ghost use Rattle.std.specs.Prelude.{◌≡◌, map, IfOk};
+ghost use Rattle.branch_copies.specs.Domains as domains_spec;
 ghost use Rattle.branch_copies.specs.Filtered as filtered_spec;
 ghost use Rattle.branch_copies.specs.Sieve as sieve_spec;
 ghost use Rattle.map_spec.specs.Cascade as cascade_spec;
@@ -14,15 +15,17 @@ ghost use Rattle.readers.specs.Founded.{Grows, StaysFounded};
 ghost use Rattle.readers.specs.Told.{Agrees};
 ghost use Rattle.reader_spec.specs.World.{World};
 
+use crate::elements::Elements;
 use crate::sieve::Sieve;
 use dita_doc::{Expanded, List, NoMemory, PlanNode, Rule};
 use ditaval_rules::RuleTable;
-use plan_nodes::{Homes, set_ends};
+use plan_nodes::set_ends;
 use readers::Reader;
 use std::alloc::Global;
 
 /// The nodes of a map without those that the rules exclude, each with all below it. The root is
-/// never excluded. The faults are those of the attributes of all nodes that were judged.
+/// never excluded. The faults are those of the attributes of all nodes that were judged. An
+/// attribute counts too that the node's document declares to be conditional.
 pub fn filter_nodes<R: Reader>(
     alloc: Global,
     reader: &mut R,
@@ -40,9 +43,9 @@ pub fn filter_nodes<R: Reader>(
         (R.told reader.old) (R.told reader.new) }
     ensures grows { Grows (R.told reader.old) (R.told reader.new) }
 {
-    let homes = Homes::of(alloc, reader, nodes.as_slice())?;
+    let elements = Elements::of(alloc, reader, nodes.as_slice())?;
     let table = RuleTable::new(alloc, rules)?;
-    let Sieve { kept, faults, .. } = sieved(alloc, &homes, nodes.as_slice(), &table)?;
+    let Sieve { kept, faults, .. } = sieved(alloc, &elements, nodes.as_slice(), &table)?;
     let nodes = with_ends(kept)?;
     Ok(Expanded { nodes, faults })
 }
@@ -50,17 +53,19 @@ pub fn filter_nodes<R: Reader>(
 // What all nodes leave.
 fn sieved(
     alloc: Global,
-    homes: &Homes,
+    elements: &Elements,
     nodes: &[PlanNode],
     table: &RuleTable<'_>,
 ) -> Result<Sieve, NoMemory>
-    ensures { (world : World) → homes.now ≡ map (cascade_spec.whole_at world) nodes.now
-        → IfOk result (λ sieve. sieve ≡ sieve_spec.all_passed (sieve_spec.element_at world)
-        table.now nodes.now sieve_spec.empty) }
+    ensures { (world : World) → elements.now.homes ≡ map (cascade_spec.whole_at world) nodes.now
+        → domains_spec.AreDeclared world nodes.now elements.now.declared
+        → IfOk result (λ sieve. sieve
+        ≡ sieve_spec.all_passed world table.now nodes.now sieve_spec.empty) }
 {
     let mut sieve = Sieve::new(alloc);
     for (at, node) in nodes.iter().enumerate() {
-        sieve.pass(alloc, table, node, homes.element(at))?;
+        let declared = elements.declared.names(at, node);
+        sieve.pass(alloc, table, node, declared, elements.homes.element(at))?;
     }
     Ok(sieve)
 }

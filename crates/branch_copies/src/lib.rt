@@ -10,6 +10,8 @@ mod chains;
 mod copies;
 mod copying;
 mod ditavals;
+mod domains;
+mod elements;
 mod filter;
 mod groups;
 mod names;

@@ -23,12 +23,14 @@ use ditaval_rules::RuleTable;
 use plan_nodes::{Homes, copy_affixes, copy_attributes, copy_names, copy_texts};
 use std::alloc::Global;
 
-/// The nodes that are copied, with their elements, the names of their scopes, and their branches
-/// with the rules of these.
+/// The nodes that are copied, with their elements, the names that are declared for these, the names
+/// of their scopes, and their branches with the rules of these.
 #[derive(Drop)]
 pub(crate) struct Source<'a> {
     pub nodes: &'a [PlanNode],
     pub homes: &'a Homes,
+    // The names declared for each element.
+    pub declared: Vec<&'a List<Text>>,
     pub names: &'a [List<Text>],
     pub branches: &'a [Branch],
     pub spans: &'a [Span],
@@ -124,8 +126,11 @@ impl<'a> Source<'a> {
     fn is_excluded_by(&self, at: usize, branch: usize) -> bool
         ensures { result ≡ source_spec.excludes_at self.now at branch }
     {
+        let Some(declared) = self.declared.get(at) else {
+            return false;
+        };
         match (self.homes.element(at), self.table_of(branch)) {
-            (Some(element), Some(table)) => table.verdict(&element.attributes),
+            (Some(element), Some(table)) => table.verdict(declared, &element.attributes),
             _ => false,
         }
     }

@@ -4,7 +4,7 @@ ghost use Rattle.std.specs.Prelude.{◌≡◌, ◌++◌, ◌&&◌, ℕ, List, na
 ghost use Rattle.branch_copies.specs.Sieve as sieve_spec;
 
 use crate::groups::append_group_faults;
-use dita_doc::{Fault, List, Name, NoMemory, Node, PlanNode};
+use dita_doc::{Fault, List, Name, NoMemory, Node, PlanNode, Text};
 use ditaval_rules::RuleTable;
 use plan_nodes::{copy_node, place_of};
 use std::alloc::Global;
@@ -32,15 +32,16 @@ impl Sieve {
         }
     }
 
-    // Passes the next node, which stands for this element.
+    // Passes the next node, which stands for this element, for which these names are declared.
     pub(crate) fn pass(
         &mut self,
         alloc: Global,
         table: &RuleTable<'_>,
         node: &PlanNode,
+        declared: &List<Text>,
         element: Option<&Node>,
     ) -> Result<(), NoMemory>
-        ensures { OnOk result (self.new ≡ sieve_spec.passed table.now
+        ensures { OnOk result (self.new ≡ sieve_spec.passed table.now declared.now
             (sieve_spec.element_found node.now.doc element.entry) node.now self.old) }
     {
         let at = self.places.len();
@@ -48,8 +49,8 @@ impl Sieve {
         if at < self.next {
             return Ok(());
         }
-        append_faults_of(alloc, &mut self.faults, &node.doc, element)?;
-        if is_left_out(table, at, element) {
+        append_faults_of(alloc, &mut self.faults, declared, &node.doc, element)?;
+        if is_left_out(table, at, declared, element) {
             self.next = node.end as usize;
             return Ok(());
         }
@@ -62,32 +63,39 @@ impl Sieve {
 fn append_faults_of(
     alloc: Global,
     faults: &mut List<Fault>,
+    declared: &List<Text>,
     name: &Name,
     element: Option<&Node>,
 ) -> Result<(), NoMemory>
     ensures { OnOk result (faults.new ≡ faults.old
-        ++ sieve_spec.faults_of (sieve_spec.element_found name.now element.entry)) }
+        ++ sieve_spec.faults_of declared.now (sieve_spec.element_found name.now element.entry)) }
 {
     match element {
-        Some(element) => append_group_faults(alloc, faults, name, element),
+        Some(element) => append_group_faults(alloc, faults, declared, name, element),
         None => Ok(()),
     }
 }
 
 // Whether the node at a place is left out: the root never is.
-fn is_left_out(table: &RuleTable<'_>, at: usize, element: Option<&Node>) -> bool
+fn is_left_out(
+    table: &RuleTable<'_>,
+    at: usize,
+    declared: &List<Text>,
+    element: Option<&Node>,
+) -> bool
     ensures { (name : List ℕ) → result ≡ (nat_lt 0 at
-        && sieve_spec.is_excluded table.now (sieve_spec.element_found name element.entry)) }
+        && sieve_spec.is_excluded table.now declared.now
+        (sieve_spec.element_found name element.entry)) }
 {
-    at > 0 && is_excluded(table, element)
+    at > 0 && is_excluded(table, declared, element)
 }
 
-fn is_excluded(table: &RuleTable<'_>, element: Option<&Node>) -> bool
-    ensures { (name : List ℕ) → result
-        ≡ sieve_spec.is_excluded table.now (sieve_spec.element_found name element.entry) }
+fn is_excluded(table: &RuleTable<'_>, declared: &List<Text>, element: Option<&Node>) -> bool
+    ensures { (name : List ℕ) → result ≡ sieve_spec.is_excluded table.now declared.now
+        (sieve_spec.element_found name element.entry) }
 {
     match element {
-        Some(element) => table.verdict(&element.attributes),
+        Some(element) => table.verdict(declared, &element.attributes),
         None => false,
     }
 }

@@ -1,8 +1,10 @@
 //! Rules of a DITAVAL, and what they exclude.
 
 use crate::given::{document, name};
-use dita_doc::{Action, Fault, FaultCode, List, Rule, Stop};
-use ditaval_rules::{NotDitaval, RuleTable, RulesRead, read_rules, verdict};
+use dita_doc::{Action, Doc, Fault, FaultCode, List, Rule, Stop, Text};
+use ditaval_rules::{
+    Declarations, NotDitaval, RuleTable, RulesRead, declared, names_declared, read_rules, verdict,
+};
 use std::alloc::{AllocError, Global};
 use std::test::Fail;
 
@@ -22,12 +24,25 @@ fn rules(alloc: Global, lines: &str) -> Result<List<Rule>, AllocError> {
 fn goes(alloc: Global, rules: &List<Rule>, lines: &str) -> Result<(bool, bool), AllocError> {
     let lines = format!(in alloc; "(p\n{lines}\n)p\n")?;
     let doc = document(alloc, lines.as_str())?;
+    let names = declared_first(alloc, &doc)?;
     let table = RuleTable::new(alloc, rules).map_err(|_| AllocError)?;
     let nodes = doc.nodes.as_slice();
     Ok((
-        nodes.iter().any(|node| verdict(rules, &node.attributes)),
-        nodes.iter().any(|node| table.verdict(&node.attributes)),
+        nodes
+            .iter()
+            .any(|node| verdict(rules, &names, &node.attributes)),
+        nodes
+            .iter()
+            .any(|node| table.verdict(&names, &node.attributes)),
     ))
+}
+
+// The names that are declared for the first element.
+fn declared_first(alloc: Global, doc: &Doc) -> Result<List<Text>, AllocError> {
+    if doc.nodes.is_empty() {
+        return Err(AllocError);
+    }
+    declared(alloc, doc, 0).map_err(|_| AllocError)
 }
 
 #[test]
@@ -40,6 +55,50 @@ fn an_element_goes_if_each_token_of_an_attribute_is_excluded(rt: HostRuntime) ->
     assert!(rt; goes(alloc, &rules, "Aaudience x y")? == (false, false));
     assert!(rt; goes(alloc, &rules, "Aplatform linux\nAaudience  x ")? == (true, true));
     assert!(rt; goes(alloc, &rules, "Aaudience x(x)\nAid x\nAprops ")? == (false, false));
+    Ok(())
+}
+
+#[test]
+fn a_declared_attribute_excludes(rt: HostRuntime) -> Result<(), Fail> {
+    let alloc = rt.alloc();
+    let rules = rules(
+        alloc,
+        "(val\n(prop\nAatt jobrole\nAval x\nAaction exclude\n)prop\n)val\n",
+    )?;
+    assert!(rt; goes(alloc, &rules, "Adomains a(props jobrole)\nAjobrole x")? == (true, true));
+    assert!(rt; goes(alloc, &rules, "Adomains a(props job)\nAjobrole x")? == (false, false));
+    Ok(())
+}
+
+fn is_name(names: &List<Text>, name: &str) -> bool {
+    match names.as_slice() {
+        [only] => only.as_str() == name,
+        _ => false,
+    }
+}
+
+#[test]
+fn the_nearest_value_declares(rt: HostRuntime) -> Result<(), Fail> {
+    let alloc = rt.alloc();
+    let doc = document(
+        alloc,
+        "(a\nAdomains a(props x)\n(b\n(c\nAdomains a(props y)\n)c\n)b\n(d\n)d\n)a\n",
+    )?;
+    let made = Declarations::of(alloc, &doc).map_err(|_| AllocError)?;
+    assert!(rt; is_name(made.at(1), "x") && is_name(made.at(2), "y") && is_name(made.at(3), "x"));
+    assert!(rt; is_name(made.around(2), "x") && made.around(0).is_empty());
+    Ok(())
+}
+
+#[test]
+fn a_value_declares_names(rt: HostRuntime) -> Result<(), Fail> {
+    let alloc = rt.alloc();
+    let names = names_declared(
+        alloc,
+        "a(props props a(props x) a(props audience) a(props y",
+    )
+    .map_err(|_| AllocError)?;
+    assert!(rt; is_name(&names, "x"));
     Ok(())
 }
 

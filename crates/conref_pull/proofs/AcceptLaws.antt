@@ -19,7 +19,7 @@ use Rattle.map_spec.specs.Elements.{attribute, fault_at, is_special}
 use Rattle.map_spec.specs.Written as written
 use Rattle.map_spec.specs.Written.{Element, Written, End, size}
 use Rattle.conref_spec.specs.Content as content
-use Rattle.conref_spec.specs.Content.{depth_limit, is_place, path_limit, range_by, refused_by}
+use Rattle.conref_spec.specs.Content.{declared_around, depth_limit, is_place, path_limit, range_by, refused_by}
 use Rattle.conref_pull.specs.Accepting.{IsRangeEnd, IsUpTo, is_too_deep, link_of, refusal_by}
 use Rattle.conref_pull.specs.Found.{IsFound}
 use Rattle.conref_pull.specs.Linked.{IsLink, IsStep}
@@ -190,8 +190,9 @@ module _ (documents : Documents) (meant : content.Found) (found : Found) (is : I
   module _ (target : Node) (here : slice_get (arc_value found.doc).nodes found.place ≡ Some target)
       (path : List content.Place) (element : Element) (some : Written) (to : ℕ)
       (ends : range_by meant.standing (attribute (codes "conrefend") element) ≡ Some some)
-      (up_to : IsUpTo target.end meant.standing.behind some to) where
-    pub link_found : IsLink (link_of found target.end to) (target_taken path element meant)
+      (up_to : IsUpTo target.end meant.standing.behind some to) (declared : List (List ℕ))
+      (names : declared ≡ declared_around [] meant.nodes meant.standing.place) where
+    pub link_found : IsLink (link_of found declared target.end to) (target_taken path element meant)
     link_found = record {
       name = is.stands.name;
       attributes = is.stands.attributes;
@@ -203,6 +204,7 @@ module _ (documents : Documents) (meant : content.Found) (found : Found) (is : I
           (tree.Element is.stands.name is.stands.attributes is.stands.origin is.stands.line is.stands.inside
           is.stands.rest)) (sym is.place) is.stands.part;
       whole = is.stands.whole;
+      declared = names;
       from = end_there documents meant found is target here
           ∙ ap (λ n. n + 1 + size_of is.stands.inside) (sym is.place);
       forward = up_to.forward;
@@ -213,6 +215,13 @@ module _ (documents : Documents) (meant : content.Found) (found : Found) (is : I
       where
         size_is : size meant.standing.behind ≡ size_of is.stands.rest
         size_is = ap size is.stands.behind ∙ size_named (arc_value found.doc).origins is.stands.rest
+
+-- the names that are declared around it, in a document that is the same
+pub around_as : (meant : content.Found) {nodes : Written} {place : ℕ} {names : List (List ℕ)} → nodes ≡ meant.nodes
+    → place ≡ meant.standing.place → names ≡ declared_around [] nodes place
+    → names ≡ declared_around [] meant.nodes meant.standing.place
+around_as meant {place = place} same at is = is ∙ ap (λ (all : Written). declared_around [] all place) same
+    ∙ ap (declared_around [] meant.nodes) at
 
 -- Steps
 

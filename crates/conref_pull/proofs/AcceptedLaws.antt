@@ -13,7 +13,7 @@ use Rattle.doc_maker.specs.Made.{building}
 use Rattle.map_spec.specs.Elements.{attribute, fault_at, is_special}
 use Rattle.map_spec.specs.Written.{Element}
 use Rattle.conref_spec.specs.Content as content
-use Rattle.conref_spec.specs.Content.{is_place, range_by, refused_by}
+use Rattle.conref_spec.specs.Content.{declared_around, is_place, range_by, refused_by}
 use Rattle.conref_pull.specs.Accepting.{GoesOn, IsRangeEnd, IsUpTo, is_too_deep, link_of, place_of, refusal_by}
 use Rattle.conref_pull.specs.Found.{IsFound}
 use Rattle.conref_pull.specs.Linked.{IsLink, IsStep}
@@ -95,24 +95,25 @@ module _ (documents : Documents) (meant : content.Found) (found : Found) (is : I
             (deep_same links old.deepest (depth (building old.maker)) at path count deep.is) code why) state
 
         -- it is taken
-        pub accept_taken : (target : Node) (link : Link)
+        pub accept_taken : (target : Node) (link : Link) (declared : List (List ℕ))
+            → declared ≡ declared_around [] meant.nodes meant.standing.place
             → slice_get (arc_value found.doc).nodes found.place ≡ Some target → target.end ≡ from → refusal ≡ None
-            → link ≡ link_of found from to → GoesOn old.path.items new.path.items found links
+            → link ≡ link_of found declared from to → GoesOn old.path.items new.path.items found links
             → new ≡ record old { path = new.path } → IsStep documents step old new places (Some link)
-        accept_taken target link here from_is none linked further state =
+        accept_taken target link declared names here from_is none linked further state =
             let there = range_there from meant.standing.behind _ to ends in
             step_taken documents path element meant old new places tables
             (refused_by found.value.now at path element meant) link
             (refused_none found.value.now at path element meant special there.0 there.1 _ _ on_same
             (deep_same links old.deepest (depth (building old.maker)) at path count deep.is) none) state
-            (subst (λ (l : Link). IsLink l (target_taken path element meant)) (sym (linked_at target from_is link linked))
+            (subst (λ (l : Link). IsLink l (target_taken path element meant)) (sym (linked_at target from_is link declared linked))
             (link_found documents meant found is target here path element there.0 to there.1
-            (subst (λ n. IsUpTo n meant.standing.behind there.0 to) (sym from_is) there.2)))
+            (subst (λ n. IsUpTo n meant.standing.behind there.0 to) (sym from_is) there.2) declared names))
             (further ∙ path_is)
           where
-            linked_at : (target : Node) → target.end ≡ from → (link : Link) → link ≡ link_of found from to
-                → link ≡ link_of found target.end to
-            linked_at target from_is link linked = linked ∙ ap (λ n. link_of found n to) (sym from_is)
+            linked_at : (target : Node) → target.end ≡ from → (link : Link) (declared : List (List ℕ))
+                → link ≡ link_of found declared from to → link ≡ link_of found declared target.end to
+            linked_at target from_is link declared linked = linked ∙ ap (λ n. link_of found declared n to) (sym from_is)
 
             path_is : path ++ place_of found ∷ [] ≡ (target_taken path element meant).path
             path_is = ap (λ (d : List ℕ). (let p : content.Place = record { doc = d; at = found.place } in path ++ p ∷ [])) is.name

@@ -13,7 +13,7 @@ use Rattle.doc_maker.specs.Building as building
 use Rattle.doc_maker.proofs.BuildingLaws.{behind_end}
 use Rattle.map_spec.specs.Judged.{group_faults}
 use Rattle.map_spec.specs.Written.{Element, Written}
-use Rattle.conref_spec.specs.Content.{Made, Setting, count_limit, element_made, goes, made_with, merged_element, nothing_made, topic_within, without_id}
+use Rattle.conref_spec.specs.Content.{Around, Made, Setting, around_within, count_limit, declared_there, element_made, goes, made_with, merged_element, nothing_made, without_id}
 use Rattle.conref_pull.specs.Count.{OneMore}
 use Rattle.conref_pull.specs.Judging.{with_attributes}
 use Rattle.conref_pull.specs.Merging.{IsMerged}
@@ -136,31 +136,38 @@ around_not stops.NoMemory documents links is_range element content faults a c d 
 -- An element with what it takes
 
 -- what was taken is judged once more
-pub judged_as : (element target : Element) (merged : Merged) → IsMerged merged (merged_element element target)
-    → group_faults (with_attributes merged.attributes element) ≡ group_faults (merged_element element target)
-judged_as element target merged is =
-    ap (λ (all : List Attribute). group_faults (with_attributes all element)) is.attributes
+pub judged_as : (declared : List (List ℕ)) (element target : Element) (merged : Merged)
+    → IsMerged merged (merged_element element target)
+    → group_faults declared (with_attributes merged.attributes element)
+    ≡ group_faults declared (merged_element element target)
+judged_as declared element target merged is =
+    ap (λ (all : List Attribute). group_faults declared (with_attributes all element)) is.attributes
 
-pub goes_as : (setting : Setting) (rules : List (List Rule)) (element : Element) (attributes : List Attribute)
-    → setting.rules ≡ rules → attributes ≡ element.attributes
-    → some_exclude rules attributes ≡ goes setting element
-goes_as setting rules element attributes same are =
-    ap (λ (all : List (List Rule)). some_exclude all attributes) (sym same)
-    ∙ ap (λ (all : List Attribute). some_exclude setting.rules all) are
+pub goes_as : (setting : Setting) (rules : List (List Rule)) (declared : List (List ℕ)) (element : Element)
+    (attributes : List Attribute) → setting.rules ≡ rules → attributes ≡ element.attributes
+    → some_exclude rules declared attributes ≡ goes setting declared element
+goes_as setting rules declared element attributes same are =
+    ap (λ (all : List (List Rule)). some_exclude all declared attributes) (sym same)
+    ∙ ap (λ (all : List Attribute). some_exclude setting.rules declared all) are
 
-pub merged_gone : (here : Here) (is_range : Bool) (topic : List ℕ) (merged : Element) (inside : Written)
-    → goes here.setting merged ≡ true
-    → made_with (group_faults merged) (record nothing_made { count = 1 })
-    ≡ merged_made here is_range topic merged inside
-merged_gone here is_range topic merged inside gone = ap (λ (test : Bool). made_with (group_faults merged) (if test
-    then record nothing_made { count = 1 } else kept_made here is_range topic merged inside)) (sym gone)
+pub merged_gone : (here : Here) (is_range : Bool) (around : Around) (there : List (List ℕ)) (merged : Element)
+    (inside : Written) → goes here.setting around.declared merged ≡ true
+    → made_with (group_faults around.declared merged) (record nothing_made { count = 1 })
+    ≡ merged_made here is_range around there merged inside
+merged_gone here is_range around there merged inside gone =
+    ap (λ (test : Bool). made_with (group_faults around.declared merged) (if test
+    then record nothing_made { count = 1 } else kept_made here is_range (declared_there there around) merged inside))
+    (sym gone)
 
-pub merged_left : (here : Here) (is_range : Bool) (topic : List ℕ) (merged : Element) (inside : Written)
-    → goes here.setting merged ≡ false
-    → made_with (group_faults merged) (kept_made here is_range topic merged inside)
-    ≡ merged_made here is_range topic merged inside
-merged_left here is_range topic merged inside left = ap (λ (test : Bool). made_with (group_faults merged) (if test
-    then record nothing_made { count = 1 } else kept_made here is_range topic merged inside)) (sym left)
+pub merged_left : (here : Here) (is_range : Bool) (around : Around) (there : List (List ℕ)) (merged : Element)
+    (inside : Written) → goes here.setting around.declared merged ≡ false
+    → made_with (group_faults around.declared merged)
+    (kept_made here is_range (declared_there there around) merged inside)
+    ≡ merged_made here is_range around there merged inside
+merged_left here is_range around there merged inside left =
+    ap (λ (test : Bool). made_with (group_faults around.declared merged) (if test
+    then record nothing_made { count = 1 } else kept_made here is_range (declared_there there around) merged inside))
+    (sym left)
 
 -- it goes also then: it counts, and its faults are appended
 pub put_none : (documents : Documents) (links : ℕ) (faults : List Fault) (a c : Resolver) (places : PlaceTables)
@@ -196,62 +203,62 @@ opened_named is_range element name attributes href_doc named are home =
 
 -- An element that was judged again with what it takes
 
-module _ (here : Here) (links : ℕ) (is_range : Bool) (topic : List ℕ) (element target : Element) (inside : Written)
-    (merged : Merged) (a b c : Resolver) (places : PlaceTables) (counted : OneMore a b)
+module _ (here : Here) (links : ℕ) (is_range : Bool) (around : Around) (there : List (List ℕ))
+    (element target : Element) (inside : Written) (merged : Merged) (a b c : Resolver) (places : PlaceTables) (counted : OneMore a b)
     (is : IsMerged merged (merged_element element target))
-    (judged : c ≡ record b { faults = b.faults ++ group_faults (with_attributes merged.attributes element) })
+    (judged : c ≡ record b { faults = b.faults ++ group_faults around.declared (with_attributes merged.attributes element) })
     (rules : here.setting.rules ≡ b.rules) where
   abbrev whole : Element
   whole = merged_element element target
 
-  pub merged_count : Counts (group_faults (merged_element element target)) a c
-  merged_count = counts_judged (group_faults whole) a b c counted
+  pub merged_count : Counts (group_faults around.declared (merged_element element target)) a c
+  merged_count = counts_judged (group_faults around.declared whole) a b c counted
       (judged ∙ ap (λ (fs : List Fault). (let r : Resolver = record b { faults = b.faults ++ fs } in r))
-      (judged_as element target merged is))
+      (judged_as around.declared element target merged is))
 
-  goes_is : (test : Bool) → test ≡ some_exclude b.rules merged.attributes → goes here.setting whole ≡ test
-  goes_is test by = sym (goes_as here.setting b.rules whole merged.attributes rules is.attributes) ∙ sym by
+  goes_is : (test : Bool) → test ≡ some_exclude b.rules around.declared merged.attributes → goes here.setting around.declared whole ≡ test
+  goes_is test by = sym (goes_as here.setting b.rules around.declared whole merged.attributes rules is.attributes) ∙ sym by
 
-  pub merged_goes : true ≡ some_exclude b.rules merged.attributes → links ≤ length a.path.items
+  pub merged_goes : true ≡ some_exclude b.rules around.declared merged.attributes → links ≤ length a.path.items
       → AreTables here.setting.pushed places
-      → IsWalked here.setting.pushed links (merged_made here is_range topic (merged_element element target) inside) a c
+      → IsWalked here.setting.pushed links (merged_made here is_range around there (merged_element element target) inside) a c
       places
   merged_goes gone within tables =
       subst (λ (m : Made). IsWalked here.setting.pushed links m a c places)
-      (merged_gone here is_range topic whole inside (goes_is true gone))
-      (put_none here.setting.pushed links (group_faults whole) a c places merged_count
-      (counts_room (group_faults whole) a b c counted merged_count) within tables)
+      (merged_gone here is_range around there whole inside (goes_is true gone))
+      (put_none here.setting.pushed links (group_faults around.declared whole) a c places merged_count
+      (counts_room (group_faults around.declared whole) a b c counted merged_count) within tables)
 
   abbrev content : Made
-  content = among_made (inside_of here) false (topic_within is_range whole topic) inside
+  content = among_made (inside_of here) false (around_within is_range whole (declared_there there around)) inside
 
   pub merged_stays : (given : Element) (d e f : Resolver) (after : PlaceTables)
-      → false ≡ some_exclude b.rules merged.attributes → d ≡ record c { maker = d.maker }
+      → false ≡ some_exclude b.rules around.declared merged.attributes → d ≡ record c { maker = d.maker }
       → built d ≡ opened (built c) given → given ≡ without_id is_range (merged_element element target)
       → IsWalked here.setting.pushed links (among_made (inside_of here) false
-      (topic_within is_range (merged_element element target) topic) inside) d e after
+      (around_within is_range (merged_element element target) (declared_there there around)) inside) d e after
       → f ≡ record e { maker = f.maker } → built f ≡ closed (built e)
-      → IsWalked here.setting.pushed links (merged_made here is_range topic (merged_element element target) inside) a f
+      → IsWalked here.setting.pushed links (merged_made here is_range around there (merged_element element target) inside) a f
       after
   merged_stays given d e f after left state into same walked end close =
       subst (λ (m : Made). IsWalked here.setting.pushed links m a f after)
-      (merged_left here is_range topic whole inside (goes_is false left))
-      (put_around here.setting.pushed links is_range whole content (group_faults whole) a d e f after
-      (opens_by (group_faults whole) (without_id is_range whole) given a c d merged_count state into same) walked
+      (merged_left here is_range around there whole inside (goes_is false left))
+      (put_around here.setting.pushed links is_range whole content (group_faults around.declared whole) a d e f after
+      (opens_by (group_faults around.declared whole) (without_id is_range whole) given a c d merged_count state into same) walked
       (closes_by e f end close))
 
   pub merged_not : (stop : Stop TooMany) (given : Element) (d e : Resolver) (after : PlaceTables)
-      → false ≡ some_exclude b.rules merged.attributes → d ≡ record c { maker = d.maker }
+      → false ≡ some_exclude b.rules around.declared merged.attributes → d ≡ record c { maker = d.maker }
       → built d ≡ opened (built c) given → given ≡ without_id is_range (merged_element element target)
       → Walks (Err stop) here.setting.pushed links (among_made (inside_of here) false
-      (topic_within is_range (merged_element element target) topic) inside) d e after
+      (around_within is_range (merged_element element target) (declared_there there around)) inside) d e after
       → Walks (Err stop) here.setting.pushed links
-      (merged_made here is_range topic (merged_element element target) inside) a e after
+      (merged_made here is_range around there (merged_element element target) inside) a e after
   merged_not stop given d e after left state into same walked =
       walks_as (Err stop) here.setting.pushed links _ _ a e after
-      (merged_left here is_range topic whole inside (goes_is false left))
-      (around_not stop here.setting.pushed links is_range whole content (group_faults whole) a d e after
-      (opens_by (group_faults whole) (without_id is_range whole) given a c d merged_count state into same) walked)
+      (merged_left here is_range around there whole inside (goes_is false left))
+      (around_not stop here.setting.pushed links is_range whole content (group_faults around.declared whole) a d e after
+      (opens_by (group_faults around.declared whole) (without_id is_range whole) given a c d merged_count state into same) walked)
 
 -- the page is ready for what an element holds that was opened
 pub ready_opened : (world : World) (stand : Stand) (links : ℕ) (here : Here) (faults : List Fault)

@@ -12,7 +12,8 @@ use Rattle.doc_maker.specs.Building.{Building, behind, depth, nothing, whole}
 use Rattle.doc_maker.specs.Made.{resolved_tree}
 use Rattle.doc_maker.proofs.BuildingLaws.{whole_of_behind}
 use Rattle.map_spec.specs.Written.{Written, End}
-use Rattle.conref_spec.specs.Content.{Made, Setting, count_limit, depth_limit, nothing_made, page_root, resolved_in, resolved_page, within}
+use Rattle.conref_spec.specs.Content as content
+use Rattle.conref_spec.specs.Content.{Around, Made, Setting, count_limit, depth_limit, nothing_made, page_root, resolved_in, resolved_page, within}
 use Rattle.reader_spec.specs.World.{World}
 use Rattle.readers.specs.Setting.{Stand}
 use Rattle.conref_pull.specs.Around.{alone_at, around_at, nothing_around}
@@ -99,17 +100,17 @@ ready_begins world stand setting around resolver places begins is deepest tables
     }
 
 -- the whole document of a page
-pub all_made : (setting : Setting) (topic : List ℕ) (depth : ℕ) (nodes : Written)
-    → among_made (here_begins setting depth) false topic nodes ≡ resolved_in setting topic depth nodes
-all_made setting topic depth nodes = sym (resolved_more 32 setting false topic depth [] nodes)
+pub all_made : (setting : Setting) (around : Around) (depth : ℕ) (nodes : Written)
+    → among_made (here_begins setting depth) false around nodes ≡ resolved_in setting around depth nodes
+all_made setting around depth nodes = sym (resolved_more 32 setting false around depth [] nodes)
 
 -- without a document there is none
 pub none_made : (setting : Setting) (fault : List Fault) → setting.pushed setting.page ≡ None
     → nothing_made ≡ resolved_page count_limit fault setting
 none_made setting fault none =
     within_room fault nothing_made (omega arith)
-    ∙ ap (within count_limit fault) (sym (end_resolved 33 setting false [] 1 []))
-    ∙ ap (λ (found : Option Written). within count_limit fault (resolved_in setting [] 1 (unwrap_or found End))) (sym none)
+    ∙ ap (within count_limit fault) (sym (end_resolved 33 setting false content.nothing_around 1 []))
+    ∙ ap (λ (found : Option Written). within count_limit fault (resolved_in setting content.nothing_around 1 (unwrap_or found End))) (sym none)
 
 -- the setting in which a page begins
 pub setting_begins : (world : World) (stand later : Stand) (context : Context) (resolver : Resolver)
@@ -131,11 +132,11 @@ tables_kept (Err stops.NoMemory) documents links made old new places memory walk
 
 pub no_node_made : (setting : Setting) (fault : List Fault) (place : ℕ) → setting.pushed setting.page ≡ None
     → nothing_made ≡ within count_limit fault (resolved_in setting
-    (around_at nothing_around (page_root setting) place).topic
+    (around_at nothing_around (page_root setting) place).around
     ((around_at nothing_around (page_root setting) place).depth + 1) (alone_at (page_root setting) place))
 no_node_made setting fault place none =
     within_room fault nothing_made (omega arith)
-    ∙ ap (within count_limit fault) (sym (end_resolved 33 setting false [] 1 []))
+    ∙ ap (within count_limit fault) (sym (end_resolved 33 setting false content.nothing_around 1 []))
     ∙ ap (λ (found : Option Written). within count_limit fault (resolved_in setting
-    (around_at nothing_around (unwrap_or found End) place).topic
+    (around_at nothing_around (unwrap_or found End) place).around
     ((around_at nothing_around (unwrap_or found End) place).depth + 1) (alone_at (unwrap_or found End) place))) (sym none)

@@ -6,18 +6,19 @@ use Rattle.std.proofs.lemmas.List.{take-take}
 use Rattle.dita_doc.specs.declared.fault.Fault.{Fault}
 use Rattle.dita_doc.specs.declared.stop.Stop.{Stop}
 use Rattle.doc_maker.specs.Building.{depth}
+use Rattle.ditaval_rules.specs.Domains.{declared_by}
 use Rattle.map_spec.specs.Elements.{has_types}
 use Rattle.map_spec.specs.Judged.{group_faults}
 use Rattle.map_spec.specs.Written.{Element, Whole, Written}
 use Rattle.conref_spec.specs.Content as content
-use Rattle.conref_spec.specs.Content.{Followed, Made, Place, Setting, count_limit, followed, goes, has_reference, made_beside, made_with, merged_element, nothing_made, path_limit, sought_by, topic_for}
+use Rattle.conref_spec.specs.Content.{Around, Followed, Made, Place, Setting, around_for, count_limit, followed, goes, has_reference, made_beside, made_with, merged_element, nothing_made, path_limit, sought_by}
 use Rattle.reader_spec.specs.World.{World}
 use Rattle.readers.specs.Setting.{Stand}
 use Rattle.conref_pull.specs.Linked.{AreLinks, IsFollowed}
 use Rattle.conref_pull.specs.Putting.{built}
 use Rattle.conref_pull.specs.Setting.{IsDepth, IsSamePage, documents_in, path_within, place_shown, setting_of}
 use Rattle.conref_pull.specs.Sought.{if_reference, sought_found}
-use Rattle.conref_pull.specs.Step.{Taken, followed_to_all, merged_onto}
+use Rattle.conref_pull.specs.Step.{Taken, declared_inside, followed_to_all, merged_onto}
 use Rattle.conref_pull.specs.Tables.{AreTables, Documents}
 use Rattle.conref_pull.specs.Walking.{Here, IsReady, IsWalked, Walks, kept_made, merged_made, ranges_put, whole_made}
 use Rattle.conref_pull.specs.declared.chain.Link.{Link}
@@ -105,33 +106,33 @@ first_at path end one nearer (link ∷ items) linked = linked.1
 
 -- without a reference, the element is put as it is
 pub plain_walks : (result : Result (Unit {0}) (Stop TooMany)) (here : Here) (links : ℕ) (is_range : Bool)
-    (topic : List ℕ) (element : Element) (inside : Written) (sought : Option Sought) (a b c : Resolver)
-    (after : PlaceTables) → b ≡ record a { faults = a.faults ++ group_faults element }
-    → goes here.setting element ≡ false → sought_found sought ≡ if_reference (sought_by element)
+    (around : Around) (element : Element) (inside : Written) (sought : Option Sought) (a b c : Resolver)
+    (after : PlaceTables) → b ≡ record a { faults = a.faults ++ group_faults (declared_by around.declared element.attributes) element }
+    → goes here.setting (declared_by around.declared element.attributes) element ≡ false → sought_found sought ≡ if_reference (sought_by element)
     → is_some sought ≡ false
     → Walks result here.setting.pushed links
-    (kept_made here is_range (topic_for is_range element topic) element inside) b c after
-    → Walks result here.setting.pushed links (whole_made here is_range topic element inside) a c after
-plain_walks result here links is_range topic element inside sought a b c after judged left by none walked =
+    (kept_made here is_range (around_for is_range element around) element inside) b c after
+    → Walks result here.setting.pushed links (whole_made here is_range around element inside) a c after
+plain_walks result here links is_range around element inside sought a b c after judged left by none walked =
     walks_as result here.setting.pushed links _ _ a c after
-    (whole_kept here is_range topic element inside [] left
-    (none_followed here.setting (topic_for is_range element topic) here.depth here.path element inside
+    (whole_kept here is_range around element inside [] left
+    (none_followed here.setting (around_for is_range element around).topic here.depth here.path element inside
     (no_reference sought (sought_by element) by none)))
-    (walks_with result here.setting.pushed links (group_faults element)
-    (kept_made here is_range (topic_for is_range element topic) element inside) a b c after
-    (judged_tells links (group_faults element) a b judged) walked)
+    (walks_with result here.setting.pushed links (group_faults (declared_by around.declared element.attributes) element)
+    (kept_made here is_range (around_for is_range element around) element inside) a b c after
+    (judged_tells links (group_faults (declared_by around.declared element.attributes) element) a b judged) walked)
 
 -- it goes
-pub gone_walked : (here : Here) (links : ℕ) (is_range : Bool) (topic : List ℕ) (element : Element) (inside : Written)
-    (a b : Resolver) (places : PlaceTables) → b ≡ record a { faults = a.faults ++ group_faults element }
-    → goes here.setting element ≡ true → path_within b links ≡ here.path → here.path ≡ path_within a links
+pub gone_walked : (here : Here) (links : ℕ) (is_range : Bool) (around : Around) (element : Element) (inside : Written)
+    (a b : Resolver) (places : PlaceTables) → b ≡ record a { faults = a.faults ++ group_faults (declared_by around.declared element.attributes) element }
+    → goes here.setting (declared_by around.declared element.attributes) element ≡ true → path_within b links ≡ here.path → here.path ≡ path_within a links
     → links ≤ length b.path.items → b.count ≤ count_limit → AreTables here.setting.pushed places
-    → IsWalked here.setting.pushed links (whole_made here is_range topic element inside) a b places
-gone_walked here links is_range topic element inside a b places judged gone after before within room tables =
+    → IsWalked here.setting.pushed links (whole_made here is_range around element inside) a b places
+gone_walked here links is_range around element inside a b places judged gone after before within room tables =
     subst (λ (m : Made). IsWalked here.setting.pushed links m a b places)
-    (whole_gone here is_range topic element inside gone)
-    (walks_with (Ok tt) here.setting.pushed links (group_faults element) nothing_made a b b places
-    (judged_tells links (group_faults element) a b judged)
+    (whole_gone here is_range around element inside gone)
+    (walks_with (Ok tt) here.setting.pushed links (group_faults (declared_by around.declared element.attributes) element) nothing_made a b b places
+    (judged_tells links (group_faults (declared_by around.declared element.attributes) element) a b judged)
     (record { put = put_nothing b b refl room; path = refl; within = within; tables = tables }))
 
 -- where nodes are resolved within more targets
@@ -148,15 +149,15 @@ shown_inside one other same = let is : one ≡ other = cc in ap (λ (w : Whole).
 pub not_none : (one : Whole) → ◌≡◌ {A = Option Whole} None (Some one) → ⊥
 not_none one same = cc
 
-module _ (here : Here) (links end : ℕ) (is_range : Bool) (topic : List ℕ) (element : Element) (inside : Written)
+module _ (here : Here) (links end : ℕ) (is_range : Bool) (around : Around) (element : Element) (inside : Written)
     (items : List Link) (a0 a b : Resolver) (places : PlaceTables)
-    (judged : a ≡ record a0 { faults = a0.faults ++ group_faults element }) (left : goes here.setting element ≡ false)
+    (judged : a ≡ record a0 { faults = a0.faults ++ group_faults (declared_by around.declared element.attributes) element }) (left : goes here.setting (declared_by around.declared element.attributes) element ≡ false)
     (path : here.path ≡ path_within a links)
     (follows : IsFollowed here.setting.pushed element inside
-    (followed here.setting (topic_for is_range element topic) here.depth here.path element inside) [] items links end a b
+    (followed here.setting (around_for is_range element around).topic here.depth here.path element inside) [] items links end a b
     places) where
-  abbrev shown : List ℕ
-  shown = topic_for is_range element topic
+  abbrev shown : Around
+  shown = around_for is_range element around
 
   abbrev documents : Documents
   documents = here.setting.pushed
@@ -164,16 +165,16 @@ module _ (here : Here) (links end : ℕ) (is_range : Bool) (topic : List ℕ) (e
   -- it was followed without a target, and the element is put as it is
   kept_by : (result : Result (Unit {0}) (Stop TooMany)) (c : Resolver) (after : PlaceTables) (taken : List Taken)
       → end ≡ links + length taken → end ≤ links
-      → followed here.setting shown here.depth here.path element inside
+      → followed here.setting shown.topic here.depth here.path element inside
       ≡ followed_to_all element inside here.path follows.faults taken
       → Walks result documents links (kept_made here is_range shown element inside) b c after
-      → Walks result documents links (whole_made here is_range topic element inside) a0 c after
+      → Walks result documents links (whole_made here is_range around element inside) a0 c after
   kept_by result c after [] count none is walked =
       walks_as result documents links _ _ a0 c after
-      (whole_kept here is_range topic element inside follows.faults left is)
-      (walks_with result documents links (group_faults element)
+      (whole_kept here is_range around element inside follows.faults left is)
+      (walks_with result documents links (group_faults (declared_by around.declared element.attributes) element)
       (made_with follows.faults (kept_made here is_range shown element inside)) a0 a c after
-      (judged_tells links (group_faults element) a0 a judged)
+      (judged_tells links (group_faults (declared_by around.declared element.attributes) element) a0 a judged)
       (walks_with result documents links follows.faults (kept_made here is_range shown element inside) a b c after
       (record {
         nodes = ap built follows.state;
@@ -183,13 +184,13 @@ module _ (here : Here) (links end : ℕ) (is_range : Bool) (topic : List ℕ) (e
       }) walked))
   kept_by result c after (one ∷ all) count none is walked = absurd (omega arith)
 
-  path_is : followed here.setting shown here.depth here.path element inside
+  path_is : followed here.setting shown.topic here.depth here.path element inside
       ≡ followed_to_all element inside here.path follows.faults follows.taken
   path_is = follows.is ∙ ap (λ (p : List Place). followed_to_all element inside p follows.faults follows.taken) (sym path)
 
   pub kept_walks : (result : Result (Unit {0}) (Stop TooMany)) (c : Resolver) (after : PlaceTables) → end ≤ links
       → Walks result documents links (kept_made here is_range shown element inside) b c after
-      → Walks result documents links (whole_made here is_range topic element inside) a0 c after
+      → Walks result documents links (whole_made here is_range around element inside) a0 c after
   kept_walks result c after none walked = kept_by result c after follows.taken follows.count none path_is walked
 
   -- targets were taken
@@ -201,7 +202,7 @@ module _ (here : Here) (links end : ℕ) (is_range : Bool) (topic : List ℕ) (e
     pub linked : AreLinks (path_within b end) end (farthest ∷ nearer) items
     pub count : end ≡ links + length (farthest ∷ nearer)
     pub is :
-        followed here.setting (topic_for is_range element topic) here.depth here.path element inside ≡
+        followed here.setting (around_for is_range element around).topic here.depth here.path element inside ≡
         followed_to_all element inside here.path follows.faults (farthest ∷ nearer)
     pub types : has_types element ≡ true
 
@@ -210,7 +211,7 @@ module _ (here : Here) (links end : ℕ) (is_range : Bool) (topic : List ℕ) (e
   one_less (suc n) some = (n, refl)
 
   took_by : (taken : List Taken) → AreLinks (path_within b end) end taken items → end ≡ links + length taken
-      → followed here.setting shown here.depth here.path element inside
+      → followed here.setting shown.topic here.depth here.path element inside
       ≡ followed_to_all element inside here.path follows.faults taken
       → links < end → 0 < here.steps → Took
   took_by [] linked count is some steps = absurd (omega arith)
@@ -222,7 +223,7 @@ module _ (here : Here) (links end : ℕ) (is_range : Bool) (topic : List ℕ) (e
     linked = linked;
     count = count;
     is = is;
-    types = took_types here.setting shown here.depth here.path element inside (ap (λ (f : Followed). f.has_taken) is);
+    types = took_types here.setting shown.topic here.depth here.path element inside (ap (λ (f : Followed). f.has_taken) is);
   }
 
   pub took : links < end → end ≤ 32 → path_limit ≤ here.steps + links → Took
@@ -259,7 +260,7 @@ module _ (here : Here) (links end : ℕ) (is_range : Bool) (topic : List ℕ) (e
       (sym (ap (λ (r : Resolver). r.count) follows.state)) ready.room) follows.tables
 
   abbrev pub merged_there : Took → Made
-  merged_there t = merged_made (walk_there b end here t.steps) is_range shown
+  merged_there t = merged_made (walk_there b end here t.steps) is_range shown (declared_inside t.farthest)
       (merged_element element (merged_onto t.farthest.element t.nearer)) t.farthest.inside
 
   farthest_at : (t : Took) → t.farthest.path ≡ path_within b end
@@ -267,18 +268,18 @@ module _ (here : Here) (links end : ℕ) (is_range : Bool) (topic : List ℕ) (e
       ∙ take-take end end (map place_shown b.path.items) (omega arith)
 
   took_all : (result : Result (Unit {0}) (Stop TooMany)) (d : Resolver) (after : PlaceTables) (t : Took)
-      → Walks result documents links (made_beside (merged_there t) (ranges_put here topic (t.farthest ∷ t.nearer))) b d
+      → Walks result documents links (made_beside (merged_there t) (ranges_put here around (t.farthest ∷ t.nearer))) b d
       after
-      → Walks result documents links (whole_made here is_range topic element inside) a0 d after
+      → Walks result documents links (whole_made here is_range around element inside) a0 d after
   took_all result d after t walked =
       walks_as result documents links _ _ a0 d after
-      (whole_took here is_range topic element inside follows.faults t.farthest t.nearer (path_within b end) t.steps left
+      (whole_took here is_range around element inside follows.faults t.farthest t.nearer (path_within b end) t.steps left
       (farthest_at t) t.more t.is)
-      (walks_with result documents links (group_faults element) (made_with follows.faults
-      (made_beside (merged_there t) (ranges_put here topic (t.farthest ∷ t.nearer)))) a0 a d after
-      (judged_tells links (group_faults element) a0 a judged)
+      (walks_with result documents links (group_faults (declared_by around.declared element.attributes) element) (made_with follows.faults
+      (made_beside (merged_there t) (ranges_put here around (t.farthest ∷ t.nearer)))) a0 a d after
+      (judged_tells links (group_faults (declared_by around.declared element.attributes) element) a0 a judged)
       (walks_with result documents links follows.faults
-      (made_beside (merged_there t) (ranges_put here topic (t.farthest ∷ t.nearer))) a b d after
+      (made_beside (merged_there t) (ranges_put here around (t.farthest ∷ t.nearer))) a b d after
       (record {
         nodes = ap built follows.state;
         count = ap (λ (r : Resolver). r.count) follows.state;
@@ -289,16 +290,16 @@ module _ (here : Here) (links end : ℕ) (is_range : Bool) (topic : List ℕ) (e
   -- the element with what it takes is put, and then the ranges
   pub took_walks : (result : Result (Unit {0}) (Stop TooMany)) (c d : Resolver) (between after : PlaceTables) (t : Took)
       → IsWalked documents end (merged_there t) b c between
-      → Walks result documents links (ranges_put here topic (t.farthest ∷ t.nearer)) c d after
-      → Walks result documents links (whole_made here is_range topic element inside) a0 d after
+      → Walks result documents links (ranges_put here around (t.farthest ∷ t.nearer)) c d after
+      → Walks result documents links (whole_made here is_range around element inside) a0 d after
   took_walks result c d between after t walked behind = took_all result d after t
-      (walks_then result documents links (merged_there t) (ranges_put here topic (t.farthest ∷ t.nearer)) b c d between
+      (walks_then result documents links (merged_there t) (ranges_put here around (t.farthest ∷ t.nearer)) b c d between
       after (walked_within documents links end (merged_there t) b c between (within_end links end (t.farthest ∷ t.nearer) t.count) walked) behind)
 
   -- the element is too much
   pub took_not : (stop : Stop TooMany) (c : Resolver) (after : PlaceTables) (t : Took)
       → Walks (Err stop) documents end (merged_there t) b c after
-      → Walks (Err stop) documents links (whole_made here is_range topic element inside) a0 c after
+      → Walks (Err stop) documents links (whole_made here is_range around element inside) a0 c after
   took_not stop c after t walked = took_all (Err stop) c after t
-      (walks_not stop documents links (merged_there t) (ranges_put here topic (t.farthest ∷ t.nearer)) b c c after
+      (walks_not stop documents links (merged_there t) (ranges_put here around (t.farthest ∷ t.nearer)) b c c after
       (walks_within (Err stop) documents links end (merged_there t) b c after (within_end links end (t.farthest ∷ t.nearer) t.count) walked))

@@ -4,81 +4,85 @@ use Rattle.std.proofs.Common.{refl, sym, ap, ◌∙◌}
 use Rattle.dita_doc.specs.declared.fault.Fault.{Fault}
 use Rattle.map_spec.specs.Judged.{group_faults}
 use Rattle.map_spec.specs.Written.{Element, Written, End, Chars, Node}
-use Rattle.conref_spec.specs.Content.{Followed, Made, Place, Resolve, Setting, element_made, found_by, followed, followed_from, goes, has_reference, made_beside, made_with, merged_element, nothing_made, resolved_among, resolved_from, sought_by, topic_for, topic_within}
-use Rattle.conref_pull.specs.Step.{Step, Taken, after_step, followed_to_all, merged_onto, step_of, step_to}
+use Rattle.conref_spec.specs.Content.{Around, Followed, Made, Place, Resolve, Setting, around_for, around_within, declared_there, element_made, followed, followed_from, found_by, goes, has_reference, made_beside, made_with, merged_element, nothing_made, resolved_among, resolved_from, sought_by}
+use Rattle.conref_pull.specs.Step.{Step, Taken, after_step, declared_inside, followed_to_all, merged_onto, step_of, step_to}
 use Rattle.conref_pull.specs.Walking.{Here, among_made, inside_of, kept_made, merged_made, ranges_put, whole_made}
 use Rattle.conref_pull.proofs.PutLaws.{beside_nothing}
 use Rattle.conref_pull.proofs.ResolvedLaws.{by, element_gone, element_left, nothing_taken, something_taken}
 use Rattle.conref_pull.proofs.StepLaws.{follows}
 
 -- one step more
-pub resolved_more : (steps : ℕ) (setting : Setting) (is_range : Bool) (topic : List ℕ) (depth : ℕ) (path : List Place)
-    (nodes : Written) → resolved_from (suc steps) setting is_range topic depth path nodes
-    ≡ resolved_among (resolved_from steps setting) setting is_range topic depth path nodes
+pub resolved_more : (steps : ℕ) (setting : Setting) (is_range : Bool) (around : Around) (depth : ℕ) (path : List Place)
+    (nodes : Written) → resolved_from (suc steps) setting is_range around depth path nodes
+    ≡ resolved_among (resolved_from steps setting) setting is_range around depth path nodes
 unfolding resolved_from
-resolved_more steps setting is_range topic depth path nodes = refl
+resolved_more steps setting is_range around depth path nodes = refl
 
-module _ (here : Here) (is_range : Bool) (topic : List ℕ) (element : Element) (inside : Written) where
+module _ (here : Here) (is_range : Bool) (around : Around) (element : Element) (inside : Written) where
   abbrev resolve : Resolve
   resolve = resolved_from here.steps here.setting
 
-  abbrev shown : List ℕ
-  shown = topic_for is_range element topic
+  abbrev shown : Around
+  shown = around_for is_range element around
 
-  abbrev own : List ℕ → Made
+  abbrev own : Around → Made
   own there = among_made (inside_of here) false there inside
 
   abbrev found : Followed
-  found = followed here.setting shown here.depth here.path element inside
+  found = followed here.setting shown.topic here.depth here.path element inside
 
   -- it goes
-  pub whole_gone : goes here.setting element ≡ true
-      → made_with (group_faults element) nothing_made ≡ whole_made here is_range topic element inside
+  pub whole_gone : goes here.setting shown.declared element ≡ true
+      → made_with (group_faults shown.declared element) nothing_made ≡ whole_made here is_range around element inside
   whole_gone gone =
-      sym (element_gone resolve here.setting is_range topic here.depth here.path element inside own gone)
+      sym (element_gone resolve here.setting is_range around here.depth here.path element inside own gone)
 
   -- it takes nothing
-  pub whole_kept : (faults : List Fault) → goes here.setting element ≡ false
+  pub whole_kept : (faults : List Fault) → goes here.setting shown.declared element ≡ false
       → found ≡ followed_to_all element inside here.path faults []
-      → made_with (group_faults element) (made_with faults (kept_made here is_range shown element inside))
-      ≡ whole_made here is_range topic element inside
+      → made_with (group_faults shown.declared element) (made_with faults (kept_made here is_range shown element inside))
+      ≡ whole_made here is_range around element inside
   whole_kept faults left is = sym
-      (element_left resolve here.setting is_range topic here.depth here.path element inside own left
-      ∙ ap (λ (f : Followed). made_with (group_faults element)
-      (by resolve here.setting is_range topic here.depth here.path element inside own f)) is
-      ∙ ap (made_with (group_faults element))
-      (nothing_taken resolve here.setting is_range topic here.depth here.path element inside own faults))
+      (element_left resolve here.setting is_range around here.depth here.path element inside own left
+      ∙ ap (λ (f : Followed). made_with (group_faults shown.declared element)
+      (by resolve here.setting is_range around here.depth here.path element inside own f)) is
+      ∙ ap (made_with (group_faults shown.declared element))
+      (nothing_taken resolve here.setting is_range around here.depth here.path element inside own faults))
 
   -- the content of the farthest target, within one target more
-  there_made : (path : List Place) (steps : ℕ) (merged : Element) (held : Written) → here.steps ≡ suc steps
+  there_made : (path : List Place) (steps : ℕ) (there : List (List ℕ)) (merged : Element) (held : Written)
+      → here.steps ≡ suc steps
       → element_made is_range merged
-      (resolve false (topic_within is_range merged shown) (here.depth + 1) path held)
-      ≡ kept_made (record here { path = path; steps = steps }) is_range shown merged held
-  there_made path steps merged held more = ap (element_made is_range merged)
-      (ap (λ n. resolved_from n here.setting false (topic_within is_range merged shown) (here.depth + 1) path held) more
-      ∙ resolved_more steps here.setting false (topic_within is_range merged shown) (here.depth + 1) path held)
+      (resolve false (declared_there there (around_within is_range merged shown)) (here.depth + 1) path held)
+      ≡ kept_made (record here { path = path; steps = steps }) is_range (declared_there there shown) merged held
+  there_made path steps there merged held more =
+      let holds : Around = declared_there there (around_within is_range merged shown) in
+      ap (element_made is_range merged)
+      (ap (λ n. resolved_from n here.setting false holds (here.depth + 1) path held) more
+      ∙ resolved_more steps here.setting false holds (here.depth + 1) path held)
 
   -- it takes what these targets give
   pub whole_took : (faults : List Fault) (farthest : Taken) (nearer : List Taken) (path : List Place) (steps : ℕ)
-      → goes here.setting element ≡ false → farthest.path ≡ path → here.steps ≡ suc steps
+      → goes here.setting shown.declared element ≡ false → farthest.path ≡ path → here.steps ≡ suc steps
       → found ≡ followed_to_all element inside here.path faults (farthest ∷ nearer)
-      → made_with (group_faults element) (made_with faults (made_beside
-      (merged_made (record here { path = path; steps = steps }) is_range shown
+      → made_with (group_faults shown.declared element) (made_with faults (made_beside
+      (merged_made (record here { path = path; steps = steps }) is_range shown (declared_inside farthest)
       (merged_element element (merged_onto farthest.element nearer)) farthest.inside)
-      (ranges_put here topic (farthest ∷ nearer)))) ≡ whole_made here is_range topic element inside
+      (ranges_put here around (farthest ∷ nearer)))) ≡ whole_made here is_range around element inside
   whole_took faults farthest nearer path steps left at more is =
       let merged = merged_element element (merged_onto farthest.element nearer) in
-      let behind = ranges_put here topic (farthest ∷ nearer) in
-      sym (element_left resolve here.setting is_range topic here.depth here.path element inside own left
-      ∙ ap (λ (f : Followed). made_with (group_faults element)
-      (by resolve here.setting is_range topic here.depth here.path element inside own f)) is
-      ∙ ap (made_with (group_faults element))
-      (something_taken resolve here.setting is_range topic here.depth here.path element inside own faults farthest nearer
-      ∙ ap (λ (m : Made). made_with faults (made_beside (made_with (group_faults merged)
-      (if goes here.setting merged then record nothing_made { count = 1 } else m)) behind))
-      (there_made farthest.path steps merged farthest.inside more
-      ∙ ap (λ (p : List Place). kept_made (record here { path = p; steps = steps }) is_range shown merged farthest.inside)
-      at)))
+      let there = declared_inside farthest in
+      let behind = ranges_put here around (farthest ∷ nearer) in
+      sym (element_left resolve here.setting is_range around here.depth here.path element inside own left
+      ∙ ap (λ (f : Followed). made_with (group_faults shown.declared element)
+      (by resolve here.setting is_range around here.depth here.path element inside own f)) is
+      ∙ ap (made_with (group_faults shown.declared element))
+      (something_taken resolve here.setting is_range around here.depth here.path element inside own faults farthest nearer
+      ∙ ap (λ (m : Made). made_with faults (made_beside (made_with (group_faults shown.declared merged)
+      (if goes here.setting shown.declared merged then record nothing_made { count = 1 } else m)) behind))
+      (there_made farthest.path steps there merged farthest.inside more
+      ∙ ap (λ (p : List Place). kept_made (record here { path = p; steps = steps }) is_range
+      (declared_there there shown) merged farthest.inside) at)))
 
 -- it has no reference
 
@@ -100,11 +104,11 @@ none_followed setting topic depth path element inside none =
     (followed_from 32 setting topic depth) none
 
 -- one node alone
-pub alone_text : (here : Here) (is_range : Bool) (topic text doc : List ℕ) (made : Made)
+pub alone_text : (here : Here) (is_range : Bool) (around : Around) (text doc : List ℕ) (made : Made)
     → made ≡ record { nodes = Chars text doc End; count = 1; faults = [] }
-    → made ≡ among_made here is_range topic (Chars text doc End)
-alone_text here is_range topic text doc made is = is ∙ sym (beside_nothing (record { nodes = Chars text doc End; count = 1; faults = [] }))
+    → made ≡ among_made here is_range around (Chars text doc End)
+alone_text here is_range around text doc made is = is ∙ sym (beside_nothing (record { nodes = Chars text doc End; count = 1; faults = [] }))
 
-pub alone_element : (here : Here) (is_range : Bool) (topic : List ℕ) (element : Element) (inside : Written)
-    → whole_made here is_range topic element inside ≡ among_made here is_range topic (Node element inside End)
-alone_element here is_range topic element inside = sym (beside_nothing (whole_made here is_range topic element inside))
+pub alone_element : (here : Here) (is_range : Bool) (around : Around) (element : Element) (inside : Written)
+    → whole_made here is_range around element inside ≡ among_made here is_range around (Node element inside End)
+alone_element here is_range around element inside = sym (beside_nothing (whole_made here is_range around element inside))

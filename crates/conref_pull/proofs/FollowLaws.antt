@@ -180,7 +180,7 @@ module _ (setting : Setting) (topic : List ℕ) (at links : ℕ) (element : Elem
         all_is = follows steps setting topic at (path_within old links) element inside
             ∙ ap (after_step (followed_from steps setting topic at) (path_within old links) element inside step_faults)
             gone.is
-            ∙ ap (taken element gone.one.range gone.one.path step_faults) more_is
+            ∙ ap (taken element gone.one.around gone.one.element gone.one.range gone.one.path step_faults) more_is
             ∙ one_more element inside (path_within old links) step_faults rest.faults gone.one rest.taken
 
         last_path : gone.one.path ≡ take (end - length rest.taken) (path_within new end)

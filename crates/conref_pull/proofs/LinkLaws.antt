@@ -1,16 +1,18 @@
 -- The target of a link.
-use Rattle.std.specs.Prelude.{◌≡◌, ℕ, true, List, [], ◌∷◌, Option, Some, length}
+use Rattle.std.specs.Prelude.{◌≡◌, ℕ, true, List, [], ◌∷◌, Option, Some, None, Result, Ok, Err, IfOk, length, unwrap_or}
 use Rattle.std.specs.Arc.{arc_value}
 use Rattle.std.proofs.Common.{refl, sym, ap, subst, ◌∙◌, arith}
 use Rattle.dita_doc.specs.Tree.{Content, Element, tree_of}
 use Rattle.dita_doc.specs.declared.doc.Doc.{Doc}
+use Rattle.ditaval_rules.specs.Domains.{declared_by}
+use Rattle.map_spec.specs.Written as written
 use Rattle.conref_spec.specs.Content.{Place}
 use Rattle.readers.specs.Told.{Told}
 use Rattle.conref_pull.specs.Asking.{AreGivenTo}
 use Rattle.conref_pull.specs.Linked.{AreLinks, IsLink}
-use Rattle.conref_pull.specs.Origin.{begins_element, first_whole, whole_shown}
+use Rattle.conref_pull.specs.Origin.{begins_element, first_whole, whole_of, whole_shown}
 use Rattle.conref_pull.specs.Parts.{IsPart}
-use Rattle.conref_pull.specs.Step.{Taken}
+use Rattle.conref_pull.specs.Step.{Taken, declared_inside}
 use Rattle.conref_pull.specs.declared.chain.Link.{Link}
 use Rattle.conref_pull.specs.declared.origin.Whole.{Whole}
 
@@ -25,6 +27,24 @@ link_whole tree link one found same is whole =
     let there : IsPart (tree_of tree.nodes) link.place part =
     subst (λ (d : Doc). IsPart (tree_of d.nodes) link.place part) (sym same) is.part in
     whole part there refl ∙ ap (λ (d : Doc). first_whole d.origins part) same ∙ is.whole
+
+-- the names that are declared for what it holds: its own, or else those around it
+pub link_inside : (link : Link) (one : Taken) (target : Whole) (own : Option (List (List ℕ)))
+    → whole_shown (Some target) ≡ Some (one.element, one.inside) → IsLink link one
+    → declared_by link.declared target.node.now.attributes ≡ unwrap_or own link.declared
+    → unwrap_or own link.declared ≡ declared_inside one
+link_inside link one target own same is names =
+    let pair : whole_of target ≡ (one.element, one.inside) = cc in
+    sym names ∙ ap (λ (around : List (List ℕ)). declared_by around target.node.now.attributes) is.declared
+    ∙ ap (λ (w : written.Whole). declared_by one.around w.0.attributes) pair
+
+pub if_ok_as : {E : Type 0} {names same : List (List ℕ)} (result : Result (List (List ℕ)) E) → names ≡ same
+    → IfOk result (λ copies. copies ≡ names) → IfOk result (λ copies. copies ≡ same)
+if_ok_as (Ok copies) is made = made ∙ is
+if_ok_as (Err stop) is made = tt
+
+pub no_target : (one : Taken) → whole_shown None ≡ Some (one.element, one.inside) → ⊥
+no_target one same = cc
 
 -- where targets were taken there are links
 pub no_links : (path : List Place) (end : ℕ) (one : Taken) (nearer : List Taken) (items : List Link)

@@ -8,7 +8,7 @@ use Rattle.doc_maker.specs.Made.{building}
 use Rattle.doc_maker.specs.declared.maker.DocMaker.{DocMaker}
 use Rattle.map_spec.specs.Judged.{group_faults}
 use Rattle.map_spec.specs.Written.{Element, Whole, Written}
-use Rattle.conref_spec.specs.Content.{Made, Setting, merged_element, topic_within, without_id}
+use Rattle.conref_spec.specs.Content.{Around, Made, Setting, around_within, declared_there, merged_element, without_id}
 use Rattle.reader_spec.specs.World.{World}
 use Rattle.readers.specs.Setting.{Stand}
 use Rattle.conref_pull.specs.Count.{OneMore}
@@ -31,13 +31,13 @@ at_maker a maker = record a { maker = maker }
 
 -- As it is
 
-module _ {world : World} {stand : Stand} {links : ℕ} {here : Here} {held name : List ℕ} {attributes : List Attribute}
-    {a b : Resolver} {places : PlaceTables} (is_range : Bool) (topic : List ℕ) (element : Element) (inside : Written)
+module _ {world : World} {stand : Stand} {links : ℕ} {here : Here} {held : Around} {name : List ℕ} {attributes : List Attribute}
+    {a b : Resolver} {places : PlaceTables} (is_range : Bool) (around : Around) (element : Element) (inside : Written)
     (opener : DocMaker) (counted : OneMore a b) (named : name ≡ element.name)
     (are : attributes ≡ (without_id is_range element).attributes)
     (into : building opener ≡ opened (built b) (element_put_as name attributes element.doc element.line
     element.href_doc))
-    (holds : held ≡ topic_within is_range element topic) (ready : IsReady world stand links here a places) where
+    (holds : held ≡ around_within is_range element around) (ready : IsReady world stand links here a places) where
   abbrev c : Resolver
   c = at_maker b opener
 
@@ -56,7 +56,7 @@ module _ {world : World} {stand : Stand} {links : ℕ} {here : Here} {held name 
       (counts_room [] a b b counted counts) refl into
 
   abbrev content : Made
-  content = among_made (inside_of here) false (topic_within is_range element topic) inside
+  content = among_made (inside_of here) false (around_within is_range element around) inside
 
   held_is : (result : Result (Unit {0}) (Stop TooMany)) (d : Resolver) (after : PlaceTables)
       → (IsReady world stand links (inside_of here) c places
@@ -65,13 +65,13 @@ module _ {world : World} {stand : Stand} {links : ℕ} {here : Here} {held name 
       → Walks result here.setting.pushed links content c d after
   held_is result d after walked = walks_as result here.setting.pushed links
       (among_made (inside_of here) false held inside) content c d after
-      (ap (λ (t : List ℕ). among_made (inside_of here) false t inside) holds) (walked now)
+      (ap (λ (t : Around). among_made (inside_of here) false t inside) holds) (walked now)
 
   pub kept_put : {d : Resolver} {after : PlaceTables} (closer : DocMaker)
       → (IsReady world stand links (inside_of here) (at_maker b opener) places
       → IsWalked here.setting.pushed links (among_made (inside_of here) false held inside) (at_maker b opener) d after)
       → building closer ≡ closed (built d)
-      → IsWalked here.setting.pushed links (kept_made here is_range topic element inside) a (at_maker d closer) after
+      → IsWalked here.setting.pushed links (kept_made here is_range around element inside) a (at_maker d closer) after
   kept_put {d} {after} closer walked close = put_around here.setting.pushed links is_range element content [] a c d
       (at_maker d closer) after opens (held_is (Ok tt) d after walked) (closes_by d (at_maker d closer) refl close)
 
@@ -80,37 +80,37 @@ module _ {world : World} {stand : Stand} {links : ℕ} {here : Here} {held name 
       → (IsReady world stand links (inside_of here) (at_maker b opener) places
       → Walks (Err stop) here.setting.pushed links (among_made (inside_of here) false held inside)
       (at_maker b opener) d after)
-      → Walks result here.setting.pushed links (kept_made here is_range topic element inside) a d after
+      → Walks result here.setting.pushed links (kept_made here is_range around element inside) a d after
   kept_not result stop d after is walked =
-      walks_err result stop here.setting.pushed links (kept_made here is_range topic element inside) a d after is
+      walks_err result stop here.setting.pushed links (kept_made here is_range around element inside) a d after is
       (around_not stop here.setting.pushed links is_range element content [] a c d after opens
       (held_is (Err stop) d after walked))
 
 -- With what it takes
 
 module _ {world : World} {stand : Stand} {links : ℕ} {here : Here} {merged : Merged} {a b c : Resolver}
-    {places : PlaceTables} (is_range : Bool) (topic : List ℕ) (element target : Element) (inside : Written)
-    (counted : OneMore a b) (is : IsMerged merged (merged_element element target))
-    (judged : c ≡ record b { faults = b.faults ++ group_faults (with_attributes merged.attributes element) })
+    {places : PlaceTables} (is_range : Bool) (around : Around) (there : List (List ℕ)) (element target : Element)
+    (inside : Written) (counted : OneMore a b) (is : IsMerged merged (merged_element element target))
+    (judged : c ≡ record b { faults = b.faults ++ group_faults around.declared (with_attributes merged.attributes element) })
     (ready : IsReady world stand links here a places) where
   rules : here.setting.rules ≡ b.rules
   rules = ap (λ (s : Setting). s.rules) ready.setting ∙ sym (ap (λ (r : Resolver). r.rules) counted.state)
 
-  pub taken_goes : true ≡ some_exclude b.rules merged.attributes
-      → IsWalked here.setting.pushed links (merged_made here is_range topic (merged_element element target) inside) a c
+  pub taken_goes : true ≡ some_exclude b.rules around.declared merged.attributes
+      → IsWalked here.setting.pushed links (merged_made here is_range around there (merged_element element target) inside) a c
       places
-  taken_goes gone = merged_goes here links is_range topic element target inside merged a b c places counted is judged
+  taken_goes gone = merged_goes here links is_range around there element target inside merged a b c places counted is judged
       rules gone ready.within ready.tables
 
-module _ {world : World} {stand : Stand} {links : ℕ} {here : Here} {held name : List ℕ} {merged own : Merged}
-    {a b c : Resolver} {places : PlaceTables} (is_range : Bool) (topic : List ℕ) (element target : Element)
+module _ {world : World} {stand : Stand} {links : ℕ} {here : Here} {held : Around} {name : List ℕ} {merged own : Merged}
+    {a b c : Resolver} {places : PlaceTables} (is_range : Bool) (around : Around) (there : List (List ℕ)) (element target : Element)
     (inside : Written) (opener : DocMaker) (counted : OneMore a b) (is : IsMerged merged
     (merged_element element target))
-    (judged : c ≡ record b { faults = b.faults ++ group_faults (with_attributes merged.attributes element) })
-    (left : false ≡ some_exclude b.rules merged.attributes) (named : name ≡ element.name)
+    (judged : c ≡ record b { faults = b.faults ++ group_faults around.declared (with_attributes merged.attributes element) })
+    (left : false ≡ some_exclude b.rules around.declared merged.attributes) (named : name ≡ element.name)
     (written : (whole : Element) → IsMerged merged whole → IsMerged own (without_id is_range whole))
     (into : building opener ≡ opened (built c) (element_put_as name own.attributes element.doc element.line
-    own.href_doc)) (holds : held ≡ topic_within is_range (merged_element element target) topic)
+    own.href_doc)) (holds : held ≡ around_within is_range (merged_element element target) (declared_there there around))
     (ready : IsReady world stand links here a places) where
   abbrev whole : Element
   whole = merged_element element target
@@ -122,19 +122,19 @@ module _ {world : World} {stand : Stand} {links : ℕ} {here : Here} {held name 
   put_as = element_put_as name own.attributes element.doc element.line own.href_doc
 
   rules_are : here.setting.rules ≡ b.rules
-  rules_are = rules is_range topic element target inside counted is judged ready
+  rules_are = rules is_range around there element target inside counted is judged ready
 
   put_is : put_as ≡ without_id is_range whole
   put_is = opened_named is_range whole name own.attributes own.href_doc named (written whole is).attributes
       (written whole is).href_doc
 
-  counts_all : Counts (group_faults whole) a c
-  counts_all = merged_count here links is_range topic element target inside merged a b c places counted is judged
+  counts_all : Counts (group_faults around.declared whole) a c
+  counts_all = merged_count here links is_range around there element target inside merged a b c places counted is judged
       rules_are
 
   ready_held : IsReady world stand links (inside_of here) d places
-  ready_held = ready_opened world stand links here (group_faults whole) put_as a c d places ready
-      (page_judged _ a b c counted judged) counts_all (counts_room (group_faults whole) a b c counted counts_all) refl
+  ready_held = ready_opened world stand links here (group_faults around.declared whole) put_as a c d places ready
+      (page_judged _ a b c counted judged) counts_all (counts_room (group_faults around.declared whole) a b c counted counts_all) refl
       into
 
   content_taken : (result : Result (Unit {0}) (Stop TooMany)) (kept : Written) (e : Resolver) (after : PlaceTables)
@@ -142,22 +142,22 @@ module _ {world : World} {stand : Stand} {links : ℕ} {here : Here} {held name 
       → Walks result here.setting.pushed links (among_made (inside_of here) false held kept)
       (at_maker c opener) e after)
       → Walks result here.setting.pushed links
-      (among_made (inside_of here) false (topic_within is_range whole topic) inside) d e after
+      (among_made (inside_of here) false (around_within is_range whole (declared_there there around)) inside) d e after
   content_taken result kept e after same walked = walks_as result here.setting.pushed links
       (among_made (inside_of here) false held kept)
-      (among_made (inside_of here) false (topic_within is_range whole topic) inside) d e after
-      (ap (λ (t : List ℕ). among_made (inside_of here) false t kept) holds
-      ∙ ap (among_made (inside_of here) false (topic_within is_range whole topic)) same) (walked ready_held)
+      (among_made (inside_of here) false (around_within is_range whole (declared_there there around)) inside) d e after
+      (ap (λ (t : Around). among_made (inside_of here) false t kept) holds
+      ∙ ap (among_made (inside_of here) false (around_within is_range whole (declared_there there around))) same) (walked ready_held)
 
   pub taken_put : {first last : Element} {kept : Written} {e : Resolver} {after : PlaceTables} (closer : DocMaker)
       → ◌≡◌ {A = Option Whole} (Some (first, kept)) (Some (last, inside))
       → (IsReady world stand links (inside_of here) (at_maker c opener) places
       → IsWalked here.setting.pushed links (among_made (inside_of here) false held kept) (at_maker c opener) e after)
       → building closer ≡ closed (built e)
-      → IsWalked here.setting.pushed links (merged_made here is_range topic (merged_element element target) inside) a
+      → IsWalked here.setting.pushed links (merged_made here is_range around there (merged_element element target) inside) a
       (at_maker e closer) after
   taken_put {first} {last} {kept} {e} {after} closer same walked close =
-      merged_stays here links is_range topic element target inside merged a b c places counted is judged rules_are
+      merged_stays here links is_range around there element target inside merged a b c places counted is judged rules_are
       put_as d e (at_maker e closer) after left refl into put_is (content_taken (Ok tt) kept e after
       (shown_inside (first, kept) (last, inside) same) walked) refl close
 
@@ -167,10 +167,10 @@ module _ {world : World} {stand : Stand} {links : ℕ} {here : Here} {held name 
       → (IsReady world stand links (inside_of here) (at_maker c opener) places
       → Walks (Err stop) here.setting.pushed links (among_made (inside_of here) false held kept)
       (at_maker c opener) e after)
-      → Walks result here.setting.pushed links (merged_made here is_range topic
+      → Walks result here.setting.pushed links (merged_made here is_range around there
       (merged_element element target) inside) a e after
   taken_not {first} {last} {kept} result stop e after ended same walked =
-      walks_err result stop here.setting.pushed links (merged_made here is_range topic whole inside) a e after ended
-      (merged_not here links is_range topic element target inside merged a b c places counted is judged rules_are stop
+      walks_err result stop here.setting.pushed links (merged_made here is_range around there whole inside) a e after ended
+      (merged_not here links is_range around there element target inside merged a b c places counted is judged rules_are stop
       put_as d e after left refl into put_is (content_taken (Err stop) kept e after
       (shown_inside (first, kept) (last, inside) same) walked))

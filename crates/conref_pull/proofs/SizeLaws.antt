@@ -23,7 +23,7 @@ behind links = around links + 68719476735
 
 -- an element and what it holds are less than that, and so are siblings
 pub element_smaller : (siblings : Siblings) (links : ℕ) → around links + 8 * size_of
-    (content siblings) + 4 < behind links
+    (content siblings) + 5 < behind links
 element_smaller siblings links = let bound = size_bound siblings in omega arith
 
 pub siblings_smaller : (siblings : Siblings) (links : ℕ) → around links + 8 * size_of

@@ -10,7 +10,7 @@ use Rattle.dita_doc.specs.declared.doc.Node.{Node}
 use Rattle.dita_doc.specs.declared.stop.Stop.{Stop}
 use Rattle.map_spec.specs.Written as written
 use Rattle.map_spec.specs.Written.{Written, size}
-use Rattle.conref_spec.specs.Content.{Made, Place, count_limit, made_beside, nothing_made, resolved_from}
+use Rattle.conref_spec.specs.Content.{Around, Made, Place, count_limit, declared_there, made_beside, nothing_made, resolved_from}
 use Rattle.reader_spec.specs.World.{World}
 use Rattle.readers.specs.Named.{name_at, named}
 use Rattle.readers.specs.Setting.{Stand}
@@ -32,9 +32,9 @@ use Rattle.conref_pull.proofs.WalkLaws.{SoFar, path_shorter, so_far_as, so_far_b
 
 -- The siblings that are left of a range stand at a place
 
-module _ (doc : Doc) (here : Here) (links : ℕ) (is_range : Bool) (topic : List ℕ) (to : ℕ) where
+module _ (doc : Doc) (here : Here) (links : ℕ) (is_range : Bool) (around : Around) (to : ℕ) where
   abbrev made_of : Content → ℕ → Made
-  made_of rest place = among_made here is_range topic (among_first (to - place) (named doc.origins rest))
+  made_of rest place = among_made here is_range around (among_first (to - place) (named doc.origins rest))
 
   pub record Left (all : Made) (old new : Resolver) (places : PlaceTables) (place counter : ℕ) : Type 0 where
     pub rest : Content
@@ -43,7 +43,7 @@ module _ (doc : Doc) (here : Here) (links : ℕ) (is_range : Bool) (topic : List
     pub far : counter ≤ place
     pub so_far :
         SoFar here.setting.pushed links
-        (among_made here is_range topic (among_first (to - place) (named doc.origins rest))) all old new places
+        (among_made here is_range around (among_first (to - place) (named doc.origins rest))) all old new places
 
   none_by : (rest : Content) (place : ℕ) → to ≤ place → made_of rest place ≡ nothing_made
   none_by End place none = refl
@@ -84,7 +84,7 @@ module _ (doc : Doc) (here : Here) (links : ℕ) (is_range : Bool) (topic : List
 
   -- what the first of them makes
   abbrev pub first_made : Content → Made
-  first_made rest = among_made here is_range topic (first_alone (named doc.origins rest))
+  first_made rest = among_made here is_range around (first_alone (named doc.origins rest))
 
   -- those behind it
   record Next (rest : Content) (place end : ℕ) : Type 0 where
@@ -93,9 +93,9 @@ module _ (doc : Doc) (here : Here) (links : ℕ) (is_range : Bool) (topic : List
     fits : to ≤ end + size_of others
     forward : place < end
     split :
-        among_made here is_range topic (among_first (to - place) (named doc.origins rest)) ≡
-        made_beside (among_made here is_range topic (first_alone (named doc.origins rest)))
-        (among_made here is_range topic (among_first (to - end) (named doc.origins others)))
+        among_made here is_range around (among_first (to - place) (named doc.origins rest)) ≡
+        made_beside (among_made here is_range around (first_alone (named doc.origins rest)))
+        (among_made here is_range around (among_first (to - end) (named doc.origins others)))
 
   some_left : (place : ℕ) → place < to → (to - place == 0) ≡ false
   some_left place within = grind (arith, nat_tests)
@@ -115,10 +115,10 @@ module _ (doc : Doc) (here : Here) (links : ℕ) (is_range : Bool) (topic : List
         there = past_text there;
         fits = omega arith;
         forward = omega arith;
-        split = ap (λ (test : Bool). among_made here is_range topic (if test then written.End
+        split = ap (λ (test : Bool). among_made here is_range around (if test then written.End
             else written.Chars text (name_at doc.origins origin) (among_first (to - place - 1) (named doc.origins rest))))
             (some_left place within)
-            ∙ ap (λ n. made_beside one (among_made here is_range topic (among_first n (named doc.origins rest)))) less
+            ∙ ap (λ n. made_beside one (among_made here is_range around (among_first n (named doc.origins rest)))) less
             ∙ ap (λ (m : Made). made_beside m (made_of rest (place + 1))) (sym (beside_nothing one));
       })
   next_by place node (Element name attributes origin line inside rest) there fits within is =
@@ -131,17 +131,17 @@ module _ (doc : Doc) (here : Here) (links : ℕ) (is_range : Bool) (topic : List
       let held = named doc.origins inside in
       let less : to - place - (1 + size held) ≡ to - (place + 1 + size_of inside) =
       ap (λ n. to - place - (1 + n)) (size_named doc.origins inside) ∙ omega arith in
-      let one : Made = whole_made here is_range topic element held in
+      let one : Made = whole_made here is_range around element held in
       subst (Next (Element name attributes origin line inside rest) place) end
       (record {
         others = rest;
         there = past there;
         fits = omega arith;
         forward = omega arith;
-        split = ap (λ (test : Bool). among_made here is_range topic (if test then written.End
+        split = ap (λ (test : Bool). among_made here is_range around (if test then written.End
             else written.Node element held (among_first (to - place - (1 + size held)) (named doc.origins rest))))
             (some_left place within)
-            ∙ ap (λ n. made_beside one (among_made here is_range topic (among_first n (named doc.origins rest)))) less
+            ∙ ap (λ n. made_beside one (among_made here is_range around (among_first n (named doc.origins rest)))) less
             ∙ ap (λ (m : Made). made_beside m (made_of rest (place + 1 + size_of inside))) (sym (beside_nothing one));
       })
 
@@ -175,28 +175,28 @@ module _ (doc : Doc) (here : Here) (links : ℕ) (is_range : Bool) (topic : List
       walked
 
 -- a range begins behind its target
-pub range_begins : (doc : Doc) (link : Link) (one : Taken) (here : Here) (links : ℕ) (is_range : Bool) (topic : List ℕ)
+pub range_begins : (doc : Doc) (link : Link) (one : Taken) (here : Here) (links : ℕ) (is_range : Bool) (around : Around)
     (old : Resolver) (places : PlaceTables) → doc ≡ arc_value link.doc → IsLink link one → old.count ≤ count_limit
     → links ≤ length old.path.items → AreTables here.setting.pushed places
-    → Left doc here links is_range topic link.to (among_made here is_range topic one.range) old old places link.from
+    → Left doc here links is_range around link.to (among_made here is_range around one.range) old old places link.from
     link.from
-range_begins doc link one here links is_range topic old places same is room within tables =
-    subst (λ (d : Doc). Left d here links is_range topic link.to (among_made here is_range topic one.range) old old places
+range_begins doc link one here links is_range around old places same is room within tables =
+    subst (λ (d : Doc). Left d here links is_range around link.to (among_made here is_range around one.range) old old places
     link.from link.from) (sym same)
     (record {
       rest = is.rest;
       there = subst (λ n. IsPart (tree_of (arc_value link.doc).nodes) n is.rest) (sym is.from) (past is.part);
       fits = is.fits;
       far = omega arith;
-      so_far = so_far_as here.setting.pushed links (among_made here is_range topic one.range)
-          (among_made here is_range topic (among_first (link.to - link.from) (named (arc_value link.doc).origins is.rest)))
-          (among_made here is_range topic one.range) old old places (ap (among_made here is_range topic) is.range)
-          (so_far_begin here.setting.pushed links (among_made here is_range topic one.range) old places room within tables);
+      so_far = so_far_as here.setting.pushed links (among_made here is_range around one.range)
+          (among_made here is_range around (among_first (link.to - link.from) (named (arc_value link.doc).origins is.rest)))
+          (among_made here is_range around one.range) old old places (ap (among_made here is_range around) is.range)
+          (so_far_begin here.setting.pushed links (among_made here is_range around one.range) old places room within tables);
     })
 
 -- The ranges behind the targets, the farthest first
 
-module _ (here : Here) (links : ℕ) (topic : List ℕ) (path : List Place) where
+module _ (here : Here) (links : ℕ) (around : Around) (path : List Place) where
   -- those of these targets are left, within so many
   pub record Behind (items : List Link) (all : Made) (old new : Resolver) (places : PlaceTables) (count index : ℕ) : Type 0
     where
@@ -206,11 +206,11 @@ module _ (here : Here) (links : ℕ) (topic : List ℕ) (path : List Place) wher
       pub kept : path_within new count ≡ take count path
       pub within : count ≤ length new.path.items
       pub limit : count ≤ 32
-      pub so_far : SoFar here.setting.pushed links (ranges_put here topic taken) all old new places
+      pub so_far : SoFar here.setting.pushed links (ranges_put here around taken) all old new places
 
   -- none is left
   none_of : (taken : List Taken) (count : ℕ) → count ≡ links + length taken → count ≤ links
-      → ranges_put here topic taken ≡ nothing_made
+      → ranges_put here around taken ≡ nothing_made
   none_of [] count is none = refl
   none_of (one ∷ taken) count is none = absurd (omega arith)
 
@@ -218,11 +218,11 @@ module _ (here : Here) (links : ℕ) (topic : List ℕ) (path : List Place) wher
       → Behind items all old new places count index → count ≤ links
       → IsWalked here.setting.pushed links all old new places
   behind_none items all old new places count index left none = so_far_end here.setting.pushed links all old new places
-      (so_far_as here.setting.pushed links (ranges_put here topic left.taken) nothing_made all old new places
+      (so_far_as here.setting.pushed links (ranges_put here around left.taken) nothing_made all old new places
       (none_of left.taken count left.count_is none) left.so_far)
 
   no_links : (taken : List Taken) (count : ℕ) (items : List Link) → AreLinks path count taken items → items ≡ []
-      → ranges_put here topic taken ≡ nothing_made
+      → ranges_put here around taken ≡ nothing_made
   no_links [] count items linked none = refl
   no_links (one ∷ taken) count [] linked none = absurd linked
   no_links (one ∷ taken) count (link ∷ items) linked none = cc
@@ -231,7 +231,7 @@ module _ (here : Here) (links : ℕ) (topic : List ℕ) (path : List Place) wher
       → Behind items all old new places count index → drop index items ≡ []
       → IsWalked here.setting.pushed links all old new places
   behind_all items all old new places count index left none = so_far_end here.setting.pushed links all old new places
-      (so_far_as here.setting.pushed links (ranges_put here topic left.taken) nothing_made all old new places
+      (so_far_as here.setting.pushed links (ranges_put here around left.taken) nothing_made all old new places
       (no_links left.taken count (drop index items) left.linked none) left.so_far)
 
   -- the next of them
@@ -261,25 +261,26 @@ module _ (here : Here) (links : ℕ) (topic : List ℕ) (path : List Place) wher
 
   first_range : (steps count : ℕ) (one : Taken) (others taken : List Taken) → here.steps ≡ suc steps
       → one.path ≡ take count path → taken ≡ one ∷ others
-      → ranges_put here topic taken
-      ≡ made_beside (among_made (there steps count) true topic one.range) (ranges_put here topic others)
+      → ranges_put here around taken
+      ≡ made_beside (among_made (there steps count) true (declared_there one.around around) one.range) (ranges_put here around others)
   first_range steps count one others taken more at is =
-      ap (ranges_put here topic) is ∙ ranges_first here.steps here.setting topic here.depth one others
-      ∙ ap (λ (m : Made). made_beside m (ranges_put here topic others))
-      (ap (λ n. resolved_from n here.setting true topic here.depth one.path one.range) more
-      ∙ resolved_more steps here.setting true topic here.depth one.path one.range
-      ∙ ap (λ (p : List Place). among_made (record here { path = p; steps = steps }) true topic one.range) at)
+      ap (ranges_put here around) is ∙ ranges_first here.steps here.setting around here.depth one others
+      ∙ ap (λ (m : Made). made_beside m (ranges_put here around others))
+      (ap (λ n. resolved_from n here.setting true (declared_there one.around around) here.depth one.path one.range) more
+      ∙ resolved_more steps here.setting true (declared_there one.around around) here.depth one.path one.range
+      ∙ ap (λ (p : List Place). among_made (record here { path = p; steps = steps }) true
+      (declared_there one.around around) one.range) at)
 
   pub behind_step : (items : List Link) (all : Made) (old mid new : Resolver) (places after : PlaceTables)
       (count index steps : ℕ) (link : Link) (left : Behind items all old mid places count index)
       (near : Nearest link count left.taken (drop (index + 1) items)) → here.steps ≡ suc steps → links < count
-      → IsWalked here.setting.pushed count (among_made (there steps count) true topic near.one.range) mid new after
+      → IsWalked here.setting.pushed count (among_made (there steps count) true (declared_there near.one.around around) near.one.range) mid new after
       → Behind items all old new after (count - 1) (index + 1)
   behind_step items all old mid new places after count index steps link left near more some walked =
       let size : length left.taken ≡ suc (length near.others) = ap length near.all in
       let is = left.count_is in
-      let less : IsWalked here.setting.pushed links (among_made (there steps count) true topic near.one.range) mid new after =
-      walked_within here.setting.pushed links count (among_made (there steps count) true topic near.one.range) mid new after
+      let less : IsWalked here.setting.pushed links (among_made (there steps count) true (declared_there near.one.around around) near.one.range) mid new after =
+      walked_within here.setting.pushed links count (among_made (there steps count) true (declared_there near.one.around around) near.one.range) mid new after
       (omega arith) walked in
       record {
         taken = near.others;
@@ -290,10 +291,10 @@ module _ (here : Here) (links : ℕ) (topic : List ℕ) (path : List Place) wher
             ∙ ap (take (count - 1)) left.kept ∙ take-take (count - 1) count path (omega arith);
         within = (let far = walked.within in omega (arith, far));
         limit = (let limit = left.limit in omega (arith, limit));
-        so_far = so_far_more here.setting.pushed links (among_made (there steps count) true topic near.one.range)
-            (ranges_put here topic near.others) all old mid new places after
-            (so_far_as here.setting.pushed links (ranges_put here topic left.taken)
-            (made_beside (among_made (there steps count) true topic near.one.range) (ranges_put here topic near.others)) all
+        so_far = so_far_more here.setting.pushed links (among_made (there steps count) true (declared_there near.one.around around) near.one.range)
+            (ranges_put here around near.others) all old mid new places after
+            (so_far_as here.setting.pushed links (ranges_put here around left.taken)
+            (made_beside (among_made (there steps count) true (declared_there near.one.around around) near.one.range) (ranges_put here around near.others)) all
             old mid places (first_range steps count near.one near.others left.taken more near.at near.all) left.so_far)
             less;
       }
@@ -302,16 +303,16 @@ module _ (here : Here) (links : ℕ) (topic : List ℕ) (path : List Place) wher
       (places after : PlaceTables) (count index steps : ℕ) (link : Link)
       (left : Behind items all old mid places count index)
       (near : Nearest link count left.taken (drop (index + 1) items)) → here.steps ≡ suc steps → links < count
-      → Walks (Err stop) here.setting.pushed count (among_made (there steps count) true topic near.one.range) mid new after
+      → Walks (Err stop) here.setting.pushed count (among_made (there steps count) true (declared_there near.one.around around) near.one.range) mid new after
       → Walks (Err stop) here.setting.pushed links all old new after
   behind_stop stop items all old mid new places after count index steps link left near more some walked =
-      so_far_stop stop here.setting.pushed links (among_made (there steps count) true topic near.one.range)
-      (ranges_put here topic near.others) all old mid new places after
-      (so_far_as here.setting.pushed links (ranges_put here topic left.taken)
-      (made_beside (among_made (there steps count) true topic near.one.range) (ranges_put here topic near.others)) all
+      so_far_stop stop here.setting.pushed links (among_made (there steps count) true (declared_there near.one.around around) near.one.range)
+      (ranges_put here around near.others) all old mid new places after
+      (so_far_as here.setting.pushed links (ranges_put here around left.taken)
+      (made_beside (among_made (there steps count) true (declared_there near.one.around around) near.one.range) (ranges_put here around near.others)) all
       old mid places (first_range steps count near.one near.others left.taken more near.at near.all) left.so_far)
       (walks_within (Err stop) here.setting.pushed links count
-      (among_made (there steps count) true topic near.one.range) mid new after (omega arith) walked)
+      (among_made (there steps count) true (declared_there near.one.around around) near.one.range) mid new after (omega arith) walked)
 
   -- the page is ready for the range behind one of them
   pub behind_ready : (world : World) (stand : Stand) (items : List Link) (all : Made) (old mid : Resolver)
@@ -334,19 +335,19 @@ pub steps_left : (steps links count : ℕ) → 32 ≤ steps + links → links < 
 steps_left zero links count enough some limit = absurd (omega arith)
 steps_left (suc less) links count enough some limit = (less, refl)
 
-pub behind_begins : (here : Here) (links end : ℕ) (topic : List ℕ) (path : List Place) (items : List Link)
+pub behind_begins : (here : Here) (links end : ℕ) (around : Around) (path : List Place) (items : List Link)
     (taken : List Taken) (old : Resolver) (places : PlaceTables) → AreLinks path end taken items
     → end ≡ links + length taken → path ≡ path_within old end → end ≤ length old.path.items → end ≤ 32
     → old.count ≤ count_limit → AreTables here.setting.pushed places
-    → Behind here links topic path items (ranges_put here topic taken) old old places end 0
-behind_begins here links end topic path items taken old places linked count is within limit room tables = record {
+    → Behind here links around path items (ranges_put here around taken) old old places end 0
+behind_begins here links end around path items taken old places linked count is within limit room tables = record {
   taken = taken;
   linked = linked;
   count_is = count;
   kept = sym (take-take end end (map place_shown old.path.items) (omega arith)) ∙ ap (take end) (sym is);
   within = within;
   limit = limit;
-  so_far = so_far_begin here.setting.pushed links (ranges_put here topic taken) old places room (omega arith) tables;
+  so_far = so_far_begin here.setting.pushed links (ranges_put here around taken) old places room (omega arith) tables;
 }
 
 -- the next of some links

@@ -14,9 +14,9 @@ use Rattle.doc_elements.specs.Walk.{element_of}
 use Rattle.map_spec.specs.Written as written
 use Rattle.map_spec.specs.Written.{Written, size}
 use Rattle.readers.specs.Named.{name_at, named, named_tree}
-use Rattle.conref_pull.specs.Around.{Around, alone_at, around_at, entered, entered_all, nothing_around, within_element}
+use Rattle.conref_pull.specs.Around.{Stands, alone_at, around_at, entered, entered_all, nothing_around, within_element}
 use Rattle.conref_pull.specs.Parts.{IsPart, has_first, past, past_text, whole, within}
-use Rattle.conref_spec.specs.Content.{nothing_made}
+use Rattle.conref_spec.specs.Content.{Around, nothing_made}
 use Rattle.conref_pull.specs.Tables.{Documents}
 use Rattle.conref_pull.specs.Walking.{Here, Walks, among_made, first_alone}
 use Rattle.conref_pull.specs.declared.resolver.Resolver.{Resolver}
@@ -42,34 +42,34 @@ take_past (suc k) n (x ∷ xs) ys is = ap (λ (zs : List Node). x ∷ zs) (take_
 
 -- Nodes that end in front of the place
 
-abbrev by_test : ℕ → List Node → Node → Around → Bool → Around
-by_test place nodes node around test =
-    entered_all place nodes (if test then within_element (element_of [] node) around else around)
+abbrev by_test : ℕ → List Node → Node → Stands → Bool → Stands
+by_test place nodes node stands test =
+    entered_all place nodes (if test then within_element (element_of [] node) stands else stands)
 
-skip : (place from : ℕ) (content : Content) (more : List Node) (around : Around) → from + size_of content ≤ place
-    → entered_all place (nodes_of content from ++ more) around ≡ entered_all place more around
-skip place from End more around far = refl
-skip place from (Chars text origin line rest) more around far =
+skip : (place from : ℕ) (content : Content) (more : List Node) (stands : Stands) → from + size_of content ≤ place
+    → entered_all place (nodes_of content from ++ more) stands ≡ entered_all place more stands
+skip place from End more stands far = refl
+skip place from (Chars text origin line rest) more stands far =
     let ended : nat_lt place (from + 1) ≡ false = grind (arith, nat_tests) in
-    ap (by_test place (nodes_of rest (from + 1) ++ more) (chars_node text origin line (from + 1)) around) ended
-    ∙ skip place (from + 1) rest more around (omega arith)
-skip place from (Element name attributes origin line inside rest) more around far =
+    ap (by_test place (nodes_of rest (from + 1) ++ more) (chars_node text origin line (from + 1)) stands) ended
+    ∙ skip place (from + 1) rest more stands (omega arith)
+skip place from (Element name attributes origin line inside rest) more stands far =
     let ended : nat_lt place (from + 1 + size_of inside) ≡ false = grind (arith, nat_tests) in
     let held = nodes_of inside (from + 1) in
     let others = nodes_of rest (from + 1 + size_of inside) in
     ap (by_test place ((held ++ others) ++ more) (element_node name attributes origin line (from + 1 + size_of inside))
-    around) ended
-    ∙ ap (λ (ns : List Node). entered_all place ns around) (append_assoc held others more)
-    ∙ skip place (from + 1) inside (others ++ more) around (omega arith)
-    ∙ skip place (from + 1 + size_of inside) rest more around (omega arith)
+    stands) ended
+    ∙ ap (λ (ns : List Node). entered_all place ns stands) (append_assoc held others more)
+    ∙ skip place (from + 1) inside (others ++ more) stands (omega arith)
+    ∙ skip place (from + 1 + size_of inside) rest more stands (omega arith)
 
--- The element that stands first is in front of the place, or around it
+-- The element that stands first is in front of the place, or stands it
 
-abbrev by_place : Around → Around → Around → Bool → Bool → Around
-by_place around behind inside here past_it = if here then around else if past_it then behind else inside
+abbrev by_place : Stands → Stands → Stands → Bool → Bool → Stands
+by_place stands behind inside here past_it = if here then stands else if past_it then behind else inside
 
 module _ (place from n : ℕ) (name : List ℕ) (attributes : List Attribute) (origin line : ℕ) (inside rest : Content)
-    (around : Around) (names : List (List ℕ)) (at : place ≡ from + suc n) where
+    (stands : Stands) (names : List (List ℕ)) (at : place ≡ from + suc n) where
   abbrev first : Node
   first = element_node name attributes origin line (from + 1 + size_of inside)
 
@@ -82,19 +82,19 @@ module _ (place from n : ℕ) (name : List ℕ) (attributes : List Attribute) (o
   abbrev others : List Node
   others = nodes_of rest (from + 1 + size_of inside)
 
-  abbrev later : Around
-  later = around_at around (named names rest) (suc n - (1 + size (named names inside)))
+  abbrev later : Stands
+  later = around_at stands (named names rest) (suc n - (1 + size (named names inside)))
 
-  abbrev there : Around
-  there = around_at (within_element (element_of [] first) around) (named names inside) (suc n - 1)
+  abbrev there : Stands
+  there = around_at (within_element (element_of [] first) stands) (named names inside) (suc n - 1)
 
   not_here : (suc n == 0) ≡ false
   not_here = grind (arith, nat_tests)
 
   element_behind : size_of inside < suc n
-      → entered_all place (take (suc n - (1 + size_of inside)) others) around
-      ≡ around_at around (named names rest) (suc n - (1 + size_of inside))
-      → entered_all place (take (suc n) (nodes_of all from)) around ≡ around_at around (named names all) (suc n)
+      → entered_all place (take (suc n - (1 + size_of inside)) others) stands
+      ≡ around_at stands (named names rest) (suc n - (1 + size_of inside))
+      → entered_all place (take (suc n) (nodes_of all from)) stands ≡ around_at stands (named names all) (suc n)
   element_behind far known =
       let ended : nat_lt place (from + 1 + size_of inside) ≡ false = grind (arith, nat_tests) in
       let size_is = size_named names inside in
@@ -102,18 +102,18 @@ module _ (place from n : ℕ) (name : List ℕ) (attributes : List Attribute) (o
       ap (λ k. nat_lt k (suc n)) size_is ∙ (let t : nat_lt (size_of inside) (suc n) ≡ true = grind (arith, nat_tests) in t) in
       let count : n ≡ length held + (suc n - (1 + size_of inside)) =
       (let many = length_nodes inside (from + 1) in omega (arith, many)) in
-      ap (by_test place (take n (held ++ others)) first around) ended
-      ∙ ap (λ (ns : List Node). entered_all place ns around) (take_past n (suc n - (1 + size_of inside)) held others count)
-      ∙ skip place (from + 1) inside (take (suc n - (1 + size_of inside)) others) around (omega arith)
+      ap (by_test place (take n (held ++ others)) first stands) ended
+      ∙ ap (λ (ns : List Node). entered_all place ns stands) (take_past n (suc n - (1 + size_of inside)) held others count)
+      ∙ skip place (from + 1) inside (take (suc n - (1 + size_of inside)) others) stands (omega arith)
       ∙ known
-      ∙ ap (λ k. around_at around (named names rest) (suc n - (1 + k))) (sym size_is)
-      ∙ ap (by_place around later there false) (sym past_it)
-      ∙ ap (λ (b : Bool). by_place around later there b (nat_lt (size (named names inside)) (suc n))) (sym not_here)
+      ∙ ap (λ k. around_at stands (named names rest) (suc n - (1 + k))) (sym size_is)
+      ∙ ap (by_place stands later there false) (sym past_it)
+      ∙ ap (λ (b : Bool). by_place stands later there b (nat_lt (size (named names inside)) (suc n))) (sym not_here)
 
   element_inside : suc n ≤ size_of inside
-      → entered_all place (take n held) (within_element (element_of [] first) around)
-      ≡ around_at (within_element (element_of [] first) around) (named names inside) n
-      → entered_all place (take (suc n) (nodes_of all from)) around ≡ around_at around (named names all) (suc n)
+      → entered_all place (take n held) (within_element (element_of [] first) stands)
+      ≡ around_at (within_element (element_of [] first) stands) (named names inside) n
+      → entered_all place (take (suc n) (nodes_of all from)) stands ≡ around_at stands (named names all) (suc n)
   element_inside near known =
       let ends : nat_lt place (from + 1 + size_of inside) ≡ true = grind (arith, nat_tests) in
       let size_is = size_named names inside in
@@ -121,44 +121,44 @@ module _ (place from n : ℕ) (name : List ℕ) (attributes : List Attribute) (o
       ap (λ k. nat_lt k (suc n)) size_is ∙ (let t : nat_lt (size_of inside) (suc n) ≡ false = grind (arith, nat_tests) in t) in
       let less : n ≡ suc n - 1 = omega arith in
       let many = length_nodes inside (from + 1) in
-      ap (by_test place (take n (held ++ others)) first around) ends
-      ∙ ap (λ (ns : List Node). entered_all place ns (within_element (element_of [] first) around))
+      ap (by_test place (take n (held ++ others)) first stands) ends
+      ∙ ap (λ (ns : List Node). entered_all place ns (within_element (element_of [] first) stands))
       (take_front n held others (omega (arith, many)))
       ∙ known
-      ∙ ap (around_at (within_element (element_of [] first) around) (named names inside)) less
-      ∙ ap (by_place around later there false) (sym not_past)
-      ∙ ap (λ (b : Bool). by_place around later there b (nat_lt (size (named names inside)) (suc n))) (sym not_here)
+      ∙ ap (around_at (within_element (element_of [] first) stands) (named names inside)) less
+      ∙ ap (by_place stands later there false) (sym not_past)
+      ∙ ap (λ (b : Bool). by_place stands later there b (nat_lt (size (named names inside)) (suc n))) (sym not_here)
 
   element_by : (test : Bool) → nat_lt (size_of inside) (suc n) ≡ test
-      → (size_of inside < suc n → entered_all place (take (suc n - (1 + size_of inside)) others) around
-      ≡ around_at around (named names rest) (suc n - (1 + size_of inside)))
-      → entered_all place (take n held) (within_element (element_of [] first) around)
-      ≡ around_at (within_element (element_of [] first) around) (named names inside) n
-      → entered_all place (take (suc n) (nodes_of all from)) around ≡ around_at around (named names all) (suc n)
+      → (size_of inside < suc n → entered_all place (take (suc n - (1 + size_of inside)) others) stands
+      ≡ around_at stands (named names rest) (suc n - (1 + size_of inside)))
+      → entered_all place (take n held) (within_element (element_of [] first) stands)
+      ≡ around_at (within_element (element_of [] first) stands) (named names inside) n
+      → entered_all place (take (suc n) (nodes_of all from)) stands ≡ around_at stands (named names all) (suc n)
   element_by true is behind known =
       let far : size_of inside < suc n = ltb-true (size_of inside) (suc n) is in element_behind far (behind far)
   element_by false is behind known = element_inside (grind (arith, nat_tests)) known
 
-walk : (place from n : ℕ) (content : Content) (around : Around) (names : List (List ℕ)) → place ≡ from + n
-    → entered_all place (take n (nodes_of content from)) around ≡ around_at around (named names content) n
-walk place from n End around names at = ap (λ (ns : List Node). entered_all place ns around) (take_none n)
-walk place from zero (Chars text origin line rest) around names at = refl
-walk place from (suc n) (Chars text origin line rest) around names at =
+walk : (place from n : ℕ) (content : Content) (stands : Stands) (names : List (List ℕ)) → place ≡ from + n
+    → entered_all place (take n (nodes_of content from)) stands ≡ around_at stands (named names content) n
+walk place from n End stands names at = ap (λ (ns : List Node). entered_all place ns stands) (take_none n)
+walk place from zero (Chars text origin line rest) stands names at = refl
+walk place from (suc n) (Chars text origin line rest) stands names at =
     let ended : nat_lt place (from + 1) ≡ false = grind (arith, nat_tests) in
     let not_here : (suc n == 0) ≡ false = grind (arith, nat_tests) in
     let less : n ≡ suc n - 1 = omega arith in
-    ap (by_test place (take n (nodes_of rest (from + 1))) (chars_node text origin line (from + 1)) around) ended
-    ∙ walk place (from + 1) n rest around names (omega arith)
-    ∙ ap (around_at around (named names rest)) less
-    ∙ ap (λ (test : Bool). if test then around else around_at around (named names rest) (suc n - 1)) (sym not_here)
-walk place from zero (Element name attributes origin line inside rest) around names at = refl
-walk place from (suc n) (Element name attributes origin line inside rest) around names at =
-    element_by place from n name attributes origin line inside rest around names at
+    ap (by_test place (take n (nodes_of rest (from + 1))) (chars_node text origin line (from + 1)) stands) ended
+    ∙ walk place (from + 1) n rest stands names (omega arith)
+    ∙ ap (around_at stands (named names rest)) less
+    ∙ ap (λ (test : Bool). if test then stands else around_at stands (named names rest) (suc n - 1)) (sym not_here)
+walk place from zero (Element name attributes origin line inside rest) stands names at = refl
+walk place from (suc n) (Element name attributes origin line inside rest) stands names at =
+    element_by place from n name attributes origin line inside rest stands names at
     (nat_lt (size_of inside) (suc n)) refl
-    (λ (far : size_of inside < suc n). walk place (from + 1 + size_of inside) (suc n - (1 + size_of inside)) rest around
+    (λ (far : size_of inside < suc n). walk place (from + 1 + size_of inside) (suc n - (1 + size_of inside)) rest stands
     names (omega arith))
     (walk place (from + 1) n inside
-    (within_element (element_of [] (element_node name attributes origin line (from + 1 + size_of inside))) around) names
+    (within_element (element_of [] (element_node name attributes origin line (from + 1 + size_of inside))) stands) names
     (omega arith))
 
 pub take_least : (nodes : List Node) (n k : ℕ) → k ≡ min (length nodes) n → take k nodes ≡ take n nodes
@@ -172,19 +172,19 @@ standing_there doc place =
     ∙ walk place 0 place (tree_of doc.nodes) nothing_around doc.origins (omega arith)
 
 -- one node more in front of the place
-pub entered_more : (place : ℕ) (nodes : List Node) (index : ℕ) (node : Node) (around next : Around)
-    → index < length nodes → node ≡ get_or nodes index node → next ≡ entered place node around
-    → entered_all place (drop index nodes) around ≡ entered_all place (drop (index + 1) nodes) next
-entered_more place nodes index node around next inside is same =
-    at_drop_more (λ (ns : List Node). entered_all place ns around) nodes index node inside
-    ∙ ap (λ (first : Node). entered_all place (drop (index + 1) nodes) (entered place first around)) (sym is)
+pub entered_more : (place : ℕ) (nodes : List Node) (index : ℕ) (node : Node) (stands next : Stands)
+    → index < length nodes → node ≡ get_or nodes index node → next ≡ entered place node stands
+    → entered_all place (drop index nodes) stands ≡ entered_all place (drop (index + 1) nodes) next
+entered_more place nodes index node stands next inside is same =
+    at_drop_more (λ (ns : List Node). entered_all place ns stands) nodes index node inside
+    ∙ ap (λ (first : Node). entered_all place (drop (index + 1) nodes) (entered place first stands)) (sym is)
     ∙ ap (entered_all place (drop (index + 1) nodes)) (sym same)
 
-pub entered_depth : (place : ℕ) (node : Node) (around : Around) → (entered place node around).depth ≤ around.depth + 1
-entered_depth place node around = by_case (nat_lt place node.end)
+pub entered_depth : (place : ℕ) (node : Node) (stands : Stands) → (entered place node stands).depth ≤ stands.depth + 1
+entered_depth place node stands = by_case (nat_lt place node.end)
   where
     by_case : (test : Bool)
-        → (if test then within_element (element_of [] node) around else around).depth ≤ around.depth + 1
+        → (if test then within_element (element_of [] node) stands else stands).depth ≤ stands.depth + 1
     by_case true = omega arith
     by_case false = omega arith
 
@@ -330,21 +330,21 @@ no_node doc place far =
 
 -- what is said of it by the siblings that begin there
 module _ (doc : Doc) (place : ℕ) (result : Result (Unit {0}) (Stop TooMany)) (here : Here) (is_range : Bool)
-    (topic : List ℕ) (documents : Documents) (links : ℕ) (a b : Resolver) (places : PlaceTables)
+    (around : Around) (documents : Documents) (links : ℕ) (a b : Resolver) (places : PlaceTables)
     (by_part : (part : Content) → IsPart (tree_of doc.nodes) place part → has_first part ≡ true
-    → Walks result documents links (among_made here is_range topic (first_alone (named doc.origins part))) a b places)
+    → Walks result documents links (among_made here is_range around (first_alone (named doc.origins part))) a b places)
     (by_none : slice_get doc.nodes place ≡ None → Walks result documents links nothing_made a b places) where
   by_room : (test : Bool) → nat_lt place (size_of (tree_of doc.nodes)) ≡ test
-      → Walks result documents links (among_made here is_range topic (alone_at (named_tree doc) place)) a b places
+      → Walks result documents links (among_made here is_range around (alone_at (named_tree doc) place)) a b places
   by_room true is =
       let found = located doc place (ltb-true place (size_of (tree_of doc.nodes)) is) in
-      subst (λ (nodes : Written). Walks result documents links (among_made here is_range topic nodes) a b places) found.is
+      subst (λ (nodes : Written). Walks result documents links (among_made here is_range around nodes) a b places) found.is
       (by_part found.part found.there found.some)
   by_room false is =
       let far : size_of (tree_of doc.nodes) ≤ place = grind (arith, nat_tests) in
-      subst (λ (nodes : Written). Walks result documents links (among_made here is_range topic nodes) a b places)
+      subst (λ (nodes : Written). Walks result documents links (among_made here is_range around nodes) a b places)
       (none_beyond doc place far) (by_none (no_node doc place far))
 
-  pub node_walks : Walks result documents links (among_made here is_range topic (alone_at (named_tree doc) place)) a b
+  pub node_walks : Walks result documents links (among_made here is_range around (alone_at (named_tree doc) place)) a b
       places
   node_walks = by_room (nat_lt place (size_of (tree_of doc.nodes))) refl

@@ -7,7 +7,7 @@ use Rattle.dita_doc.specs.declared.fault.Fault.{Fault}
 use Rattle.map_spec.specs.Written.{Element, Written}
 use Rattle.conref_spec.specs.Content.{Followed, Found, Place, Range, Setting, Sought, followed_from, followed_to, found_by, has_reference, key_faults, merged_element, refused_by, sought_by, taken, taken_or, unchanged, value_used}
 use Rattle.conref_pull.specs.Linked.{AreLinks, IsLink}
-use Rattle.conref_pull.specs.Step.{Step, Taken, after_step, followed_to_all, merged_onto, range_of_one, step_of, step_to, step_with}
+use Rattle.conref_pull.specs.Step.{Step, Taken, after_step, declared_inside, followed_to_all, merged_onto, range_of_one, step_of, step_to, step_with}
 use Rattle.conref_pull.specs.declared.chain.Link.{Link}
 
 -- One step
@@ -65,12 +65,13 @@ ranges_one_more all one = flat_map-append range_of_one all (one ∷ [])
 -- one step more, in front of those that were done from its target
 pub one_more : (element : Element) (inside : Written) (path : List Place) (before faults : List Fault) (one : Taken)
     (all : List Taken)
-    → taken element one.range one.path before (followed_to_all one.element one.inside one.path faults all)
+    → taken element one.around one.element one.range one.path before (followed_to_all one.element one.inside one.path faults all)
     ≡ followed_to_all element inside path (before ++ faults) (all ++ one ∷ [])
 one_more element inside path before faults one [] =
     ap (λ (ranges : List Range). (let f : Followed = record {
       element = merged_element element one.element;
       content = one.inside;
+      declared = declared_inside one;
       path = one.path;
       ranges = ranges;
       has_taken = true;
@@ -80,6 +81,7 @@ one_more element inside path before faults one (first ∷ all) =
     let f = λ (label : Element) (ranges : List Range). (let made : Followed = record {
       element = merged_element element label;
       content = first.inside;
+      declared = declared_inside first;
       path = first.path;
       ranges = ranges;
       has_taken = true;

@@ -20,12 +20,18 @@ use Rattle.readers.specs.Setting.{Stand}
 use Rattle.conref_pull.specs.Putting.{built}
 use Rattle.conref_pull.specs.Setting.{IsDepth, IsSamePage, path_within, place_shown, setting_of}
 use Rattle.conref_pull.specs.Tables.{AreTables, Documents}
-use Rattle.conref_pull.specs.Walking.{Here, IsReady, IsWalked, StandsDeep, Walks, inside_of}
+use Rattle.conref_pull.specs.Walking.{Here, IsReady, IsWalked, StandsDeep, Walks, inside_of, seen_by}
 use Rattle.conref_pull.specs.declared.place.Place as kept
 use Rattle.conref_pull.specs.declared.resolver.Resolver.{Resolver}
 use Rattle.conref_pull.specs.declared.resolver.TooMany.{TooMany}
 use Rattle.conref_pull.specs.declared.tables.PlaceTables.{PlaceTables}
 use Rattle.conref_pull.proofs.PutLaws.{nothing_beside, beside_nothing, put_nothing, put_then}
+
+-- what is around nodes, seen otherwise
+pub seen_as : {topic shown : List ℕ} {declared names : List (List ℕ)} → topic ≡ shown → declared ≡ names
+    → seen_by topic declared ≡ seen_by shown names
+seen_as {shown = shown} {declared = declared} same are =
+    ap (λ (t : List ℕ). seen_by t declared) same ∙ ap (seen_by shown) are
 
 -- The page is ready for the next call
 

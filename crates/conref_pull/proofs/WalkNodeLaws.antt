@@ -7,7 +7,7 @@ use Rattle.dita_doc.specs.declared.doc.Doc.{Doc}
 use Rattle.dita_doc.specs.declared.doc.Node.{Node}
 use Rattle.dita_doc.specs.declared.siblings.Siblings.{Siblings}
 use Rattle.dita_doc.specs.declared.stop.Stop.{Stop}
-use Rattle.conref_spec.specs.Content.{Made, nothing_made, text_made}
+use Rattle.conref_spec.specs.Content.{Around, Made, nothing_made, text_made}
 use Rattle.reader_spec.specs.World.{World}
 use Rattle.readers.specs.Named.{name_at, named, reused_in}
 use Rattle.readers.specs.Setting.{Stand}
@@ -40,11 +40,11 @@ siblings_ready {links = links} {here = here} {a = a} {places = places} all ready
 
 -- none is left
 pub siblings_end : {links : ℕ} {all : Made} {a b : Resolver} {places : PlaceTables} (here : Here) (is_range : Bool)
-    (topic : List ℕ) (left : Siblings) → content left ≡ End
-    → SoFar here.setting.pushed links (among_made here is_range topic (named_content left)) all a b places
+    (around : Around) (left : Siblings) → content left ≡ End
+    → SoFar here.setting.pushed links (among_made here is_range around (named_content left)) all a b places
     → IsWalked here.setting.pushed links all a b places
-siblings_end {links} {all} {a} {b} {places} here is_range topic left is before =
-    none_next here links is_range topic (named_content left) all a b places before
+siblings_end {links} {all} {a} {b} {places} here is_range around left is before =
+    none_next here links is_range around (named_content left) all a b places before
     (ap (named (document left).origins) is)
 
 -- a text that was put, in a document that is the same
@@ -69,11 +69,11 @@ module _ (left rest : Siblings) (node : Node)
     )
 
     pub sibling_text : {links : ℕ} {all : Made} {a b c : Resolver} {places : PlaceTables} (here : Here) (is_range : Bool)
-        (topic : List ℕ) → IsPut (text_made node.text (name_at (document left).origins node.origin)) b c → c.path ≡ b.path
-        → SoFar here.setting.pushed links (among_made here is_range topic (named_content left)) all a b places
-        → SoFar here.setting.pushed links (among_made here is_range topic (named_content rest)) all a c places
-    sibling_text {links} {all} {a} {b} {c} {places} here is_range topic put path before =
-        text_next here links is_range topic (named_content left) all a b places before node.text
+        (around : Around) → IsPut (text_made node.text (name_at (document left).origins node.origin)) b c → c.path ≡ b.path
+        → SoFar here.setting.pushed links (among_made here is_range around (named_content left)) all a b places
+        → SoFar here.setting.pushed links (among_made here is_range around (named_content rest)) all a c places
+    sibling_text {links} {all} {a} {b} {c} {places} here is_range around put path before =
+        text_next here links is_range around (named_content left) all a b places before node.text
         (name_at (document left).origins node.origin) (named_content rest) c
         (text_is left rest node.text node.origin node.line is behind) put path
 
@@ -81,37 +81,37 @@ module _ (left rest : Siblings) (node : Node)
 
 -- an element
 pub place_walks : {doc : Doc} {place : ℕ} {part : Content} {node : Node} {inside : Siblings} (here : Here) (links : ℕ)
-    (is_range : Bool) (topic : List ℕ) (result : Result (Unit {0}) (Stop TooMany)) (a b : Resolver)
+    (is_range : Bool) (around : Around) (result : Result (Unit {0}) (Stop TooMany)) (a b : Resolver)
     (after : PlaceTables)
     → IsElementAt doc place node inside → IsPart (tree_of doc.nodes) place part → has_first part ≡ true
     → (slice_get (document inside).nodes place ≡ Some node → Walks result here.setting.pushed links
-    (whole_made here is_range topic (element_around inside node) (named_content inside)) a b after)
-    → Walks result here.setting.pushed links (among_made here is_range topic (first_alone (named doc.origins part))) a b
+    (whole_made here is_range around (element_around inside node) (named_content inside)) a b after)
+    → Walks result here.setting.pushed links (among_made here is_range around (first_alone (named doc.origins part))) a b
     after
-place_walks {doc} {place} {part} {node} {inside} here links is_range topic result a b after is there first walked =
+place_walks {doc} {place} {part} {node} {inside} here links is_range around result a b after is there first walked =
     walks_as result here.setting.pushed links
-    (whole_made here is_range topic (element_around inside node) (named_content inside))
-    (among_made here is_range topic (first_alone (named doc.origins part))) a b after
-    (alone_element here is_range topic (element_around inside node) (named_content inside)
-    ∙ ap (among_made here is_range topic) (node_element doc place part node inside there first is))
+    (whole_made here is_range around (element_around inside node) (named_content inside))
+    (among_made here is_range around (first_alone (named doc.origins part))) a b after
+    (alone_element here is_range around (element_around inside node) (named_content inside)
+    ∙ ap (among_made here is_range around) (node_element doc place part node inside there first is))
     (walked (ap (λ (d : Doc). slice_get d.nodes place) is.within ∙ is.here))
 
 -- a text
 pub place_puts : {world : World} {stand : Stand} {links : ℕ} {here : Here} {a : Resolver} {places : PlaceTables}
-    {place : ℕ} {part : Content} {node : Node} (doc : Doc) (is_range : Bool) (topic : List ℕ)
+    {place : ℕ} {part : Content} {node : Node} (doc : Doc) (is_range : Bool) (around : Around)
     (result : Result (Unit {0}) (Stop TooMany)) (b : Resolver) → IsReady world stand links here a places
     → IsPart (tree_of doc.nodes) place part → has_first part ≡ true → element_at (tree_of doc.nodes) place ≡ None
     → slice_get doc.nodes place ≡ Some node
     → Puts result (text_made node.text (name_at doc.origins node.origin)) a b → OnOk result (b.path ≡ a.path)
-    → Walks result here.setting.pushed links (among_made here is_range topic (first_alone (named doc.origins part))) a b
+    → Walks result here.setting.pushed links (among_made here is_range around (first_alone (named doc.origins part))) a b
     places
 place_puts {links = links} {here = here} {a = a} {places = places} {place = place} {part = part} {node = node}
-    doc is_range topic result b ready there first none is put path =
+    doc is_range around result b ready there first none is put path =
     let text = text_made node.text (name_at doc.origins node.origin) in
     walks_as result here.setting.pushed links text
-    (among_made here is_range topic (first_alone (named doc.origins part))) a b places
-    (alone_text here is_range topic node.text (name_at doc.origins node.origin) text refl
-    ∙ ap (among_made here is_range topic) (node_text doc place part node there first none is))
+    (among_made here is_range around (first_alone (named doc.origins part))) a b places
+    (alone_text here is_range around node.text (name_at doc.origins node.origin) text refl
+    ∙ ap (among_made here is_range around) (node_text doc place part node there first none is))
     (puts_walks result here.setting.pushed links text a b places put path ready.within ready.tables)
 
 -- nothing

@@ -26,8 +26,9 @@ refusal_by on_path too_deep =
 abbrev pub is_too_deep : ℕ → ℕ → ℕ → Bool
 is_too_deep links deepest opened = nat_le path_limit links || nat_le deepest opened
 
-abbrev pub link_of : Found → ℕ → ℕ → Link
-link_of found from to = record { doc = found.doc; place = found.place; from = from; to = to }
+abbrev pub link_of : Found → List (List ℕ) → ℕ → ℕ → Link
+link_of found declared from to =
+    record { doc = found.doc; place = found.place; declared = declared; from = from; to = to }
 
 -- a path goes on with the target, behind its first so many
 abbrev pub GoesOn : List kept.Place → List kept.Place → Found → ℕ → Type 0

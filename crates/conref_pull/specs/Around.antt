@@ -1,27 +1,33 @@
--- Where a node of a document stands (own): the id of the nearest topic around it, and how many elements are around it.
+-- Where a node of a document stands (own): what is around it, and how many elements are around it.
 use Rattle.std.specs.Prelude.{◌+◌, ◌-◌, ◌==◌, ℕ, List, [], ◌∷◌, nat_lt, if◌then◌else◌}
 use Rattle.dita_doc.specs.declared.doc.Node as doc
+use Rattle.ditaval_rules.specs.Domains.{declared_by}
 use Rattle.doc_elements.specs.Walk.{element_of}
 use Rattle.map_spec.specs.Titles.{id_of}
 use Rattle.map_spec.specs.Written.{Element, Written, End, Chars, Node, size}
 use Rattle.map_spec.specs.Places.{is_topic}
+use Rattle.conref_spec.specs.Content as content
+use Rattle.conref_spec.specs.Content.{Around}
 use Rattle.conref_pull.specs.declared.standing.Standing.{Standing}
 
-pub record Around : Type 0 where
-  pub topic : List ℕ
+pub record Stands : Type 0 where
+  pub around : Around
   pub depth : ℕ
 
-abbrev pub nothing_around : Around
-nothing_around = record { topic = []; depth = 0 }
+abbrev pub nothing_around : Stands
+nothing_around = record { around = content.nothing_around; depth = 0 }
 
-abbrev pub within_element : Element → Around → Around
-within_element element around = record {
-  topic = if is_topic element then id_of element else around.topic;
-  depth = around.depth + 1;
+abbrev pub within_element : Element → Stands → Stands
+within_element element stands = record {
+  around = record {
+    topic = if is_topic element then id_of element else stands.around.topic;
+    declared = declared_by stands.around.declared element.attributes;
+  };
+  depth = stands.depth + 1;
 }
 
--- what is around the node at a place, counted from the first of these nodes
-abbrev pub around_at : Around → Written → ℕ → Around
+-- where the node at a place stands, counted from the first of these nodes
+abbrev pub around_at : Stands → Written → ℕ → Stands
 around_at around End place = around
 around_at around (Chars text doc rest) place = if place == 0 then around else around_at around rest (place - 1)
 around_at around (Node element inside rest) place =
@@ -39,12 +45,13 @@ alone_at (Node element inside rest) place =
 
 -- The same by the nodes in front of the place: those that end behind it are around it
 
-abbrev pub entered : ℕ → doc.Node → Around → Around
+abbrev pub entered : ℕ → doc.Node → Stands → Stands
 entered place node around = if nat_lt place node.end then within_element (element_of [] node) around else around
 
-abbrev pub entered_all : ℕ → List doc.Node → Around → Around
+abbrev pub entered_all : ℕ → List doc.Node → Stands → Stands
 entered_all place [] around = around
 entered_all place (node ∷ nodes) around = entered_all place nodes (entered place node around)
 
-abbrev pub standing_shown : Standing → Around
-standing_shown standing = record { topic = standing.topic.now; depth = standing.depth }
+abbrev pub standing_shown : Standing → Stands
+standing_shown standing =
+    record { around = record { topic = standing.topic.now; declared = standing.declared }; depth = standing.depth }

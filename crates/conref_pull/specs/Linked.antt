@@ -17,7 +17,8 @@ use Rattle.conref_pull.specs.declared.chain.Link.{Link}
 use Rattle.conref_pull.specs.declared.resolver.Resolver.{Resolver}
 use Rattle.conref_pull.specs.declared.tables.PlaceTables.{PlaceTables}
 
--- this target was taken: the element stands at the place of the link, and its range from one place to the other
+-- this target was taken: the element stands at the place of the link, these names are declared around it, and its range goes
+-- from one place to the other
 pub record IsLink (link : Link) (one : Taken) : Type 0 where
   pub name : List ℕ
   pub attributes : List Attribute
@@ -29,6 +30,7 @@ pub record IsLink (link : Link) (one : Taken) : Type 0 where
   pub whole :
       first_whole (arc_value link.doc).origins (tree.Element name attributes origin line inside rest) ≡
       Some (one.element, one.inside)
+  pub declared : link.declared ≡ one.around
   pub from : link.from ≡ link.place + 1 + size_of inside
   pub forward : link.from ≤ link.to
   pub fits : link.to ≤ link.from + size_of rest

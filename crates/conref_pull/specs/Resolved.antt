@@ -73,6 +73,6 @@ page_made world setting val page = resolved_page count_limit (too_many_faults wo
 abbrev pub node_made : World → made.Setting → Option (List ℕ) → PageId → ℕ → Made
 node_made world setting val page place =
     let there = setting_of world setting page (page_rules world (ditavals val page.filters)) in
-    let around = around_at nothing_around (page_root there) place in
+    let stands = around_at nothing_around (page_root there) place in
     within count_limit (too_many_faults world page.doc)
-    (resolved_in there around.topic (around.depth + 1) (alone_at (page_root there) place))
+    (resolved_in there stands.around (stands.depth + 1) (alone_at (page_root there) place))

@@ -59,6 +59,6 @@ all_kept lists names = flat_map (rules_kept lists) names
 abbrev pub page_rules : World → List (List ℕ) → List (List Rule)
 page_rules world names = flat_map (λ name. option_to_list (rules_under world name)) names
 
--- some of these rules exclude an element of these attributes
-abbrev pub some_exclude : List (List Rule) → List Attribute → Bool
-some_exclude all attributes = list_any (λ rules. excluded rules attributes) all
+-- some of these rules exclude an element of these attributes, for which these names are declared
+abbrev pub some_exclude : List (List Rule) → List (List ℕ) → List Attribute → Bool
+some_exclude all declared attributes = list_any (λ rules. excluded rules declared attributes) all

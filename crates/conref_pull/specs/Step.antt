@@ -2,13 +2,16 @@
 use Rattle.std.specs.Prelude.{ℕ, true, List, [], ◌∷◌, ◌++◌, Option, Some, None, codes, unwrap_or, if◌then◌else◌}
 use Rattle.std.specs.List.{flat_map}
 use Rattle.dita_doc.specs.declared.fault.Fault.{Fault}
+use Rattle.ditaval_rules.specs.Domains.{declared_by}
 use Rattle.map_spec.specs.Elements.{attribute}
 use Rattle.map_spec.specs.Written.{Element, Written, End}
-use Rattle.conref_spec.specs.Content.{Followed, Found, Place, Range, Setting, Sought, found_by, has_reference, key_faults, merged_element, missing_fault, range_behind, range_by, refused_by, sought_by, taken, unchanged, value_used}
+use Rattle.conref_spec.specs.Content.{Followed, Found, Place, Range, Setting, Sought, declared_around, found_by, has_reference, key_faults, merged_element, missing_fault, range_behind, range_by, refused_by, sought_by, taken, unchanged, value_used}
 
--- a target that was taken: the element, what it holds, the range behind it, and the targets that it is resolved within
+-- a target that was taken: the element, the names of conditional attributes that are declared around it, what it holds, the
+-- range behind it, and the targets that it is resolved within
 pub record Taken : Type 0 where
   pub element : Element
+  pub around : List (List ℕ)
   pub inside : Written
   pub range : Written
   pub path : List Place
@@ -20,6 +23,7 @@ pub record Step : Type 0 where
 abbrev pub target_taken : List Place → Element → Found → Taken
 target_taken path element target = record {
   element = target.standing.whole.0;
+  around = declared_around [] target.nodes target.standing.place;
   inside = target.standing.whole.1;
   range = unwrap_or (range_by target.standing (attribute (codes "conrefend") element)) End;
   path = path ++ record { doc = target.doc; at = target.standing.place } ∷ [];
@@ -51,7 +55,7 @@ abbrev pub after_step : (List Place → Element → Written → Followed) → Li
     → Option Taken → Followed
 after_step follow path element inside before None = unchanged element inside path before
 after_step follow path element inside before (Some one) =
-    taken element one.range one.path before (follow one.path one.element one.inside)
+    taken element one.around one.element one.range one.path before (follow one.path one.element one.inside)
 
 -- Several steps: the targets that were taken, the farthest first
 
@@ -61,13 +65,18 @@ merged_onto element [] = element
 merged_onto element (one ∷ nearer) = merged_onto (merged_element one.element element) nearer
 
 abbrev pub range_of_one : Taken → List Range
-range_of_one one = range_behind one.range one.path
+range_of_one one = range_behind one.range one.around one.path
+
+-- the names that are declared for what it holds
+abbrev pub declared_inside : Taken → List (List ℕ)
+declared_inside one = declared_by one.around one.element.attributes
 
 abbrev pub followed_to_all : Element → Written → List Place → List Fault → List Taken → Followed
 followed_to_all element inside path faults [] = unchanged element inside path faults
 followed_to_all element inside path faults (farthest ∷ nearer) = record {
   element = merged_element element (merged_onto farthest.element nearer);
   content = farthest.inside;
+  declared = declared_inside farthest;
   path = farthest.path;
   ranges = flat_map range_of_one (farthest ∷ nearer);
   has_taken = true;

@@ -6,13 +6,14 @@ use Rattle.dita_doc.specs.declared.stop.Stop.TheVariants as stops
 use Rattle.doc_maker.specs.Building.{depth}
 use Rattle.map_spec.specs.Judged.{group_faults}
 use Rattle.map_spec.specs.Written.{Element, Written, End, Chars, Node}
-use Rattle.conref_spec.specs.Content.{Made, Place, Setting, count_limit, depth_limit, element_made, element_resolved, goes, made_with, nothing_made, path_limit, ranges_made, resolved_among, resolved_from, topic_within}
+use Rattle.conref_spec.specs.Content.{Around, Made, Place, Setting, around_within, count_limit, declared_there, depth_limit, element_made, element_resolved, goes, made_with, nothing_made, path_limit, ranges_made, resolved_among, resolved_from}
 use Rattle.reader_spec.specs.World.{World}
 use Rattle.readers.specs.Setting.{Stand}
 use Rattle.conref_pull.specs.Putting.{IsPut, built}
 use Rattle.conref_pull.specs.Setting.{path_within, setting_of}
 use Rattle.conref_pull.specs.Step.{Taken, range_of_one}
 use Rattle.conref_pull.specs.Tables.{AreTables, Documents}
+use Rattle.conref_pull.specs.declared.resolver.At.{At}
 use Rattle.conref_pull.specs.declared.resolver.Resolver.{Resolver}
 use Rattle.conref_pull.specs.declared.resolver.TooMany.{TooMany}
 use Rattle.conref_pull.specs.declared.tables.PlaceTables.{PlaceTables}
@@ -27,32 +28,40 @@ pub record Here : Type 0 where
 abbrev pub inside_of : Here → Here
 inside_of here = record here { depth = here.depth + 1 }
 
--- What is put in the place of siblings, in this topic
+abbrev pub seen_by : List ℕ → List (List ℕ) → Around
+seen_by topic declared = record { topic = topic; declared = declared }
 
-abbrev pub among_made : Here → Bool → List ℕ → Written → Made
-among_made here is_range topic nodes =
-    resolved_among (resolved_from here.steps here.setting) here.setting is_range topic here.depth here.path nodes
+-- what is around these nodes
+abbrev pub around_of : At → Around
+around_of at = seen_by at.topic.now at.declared.now
+
+-- What is put in the place of siblings, with this around them
+
+abbrev pub among_made : Here → Bool → Around → Written → Made
+among_made here is_range around nodes =
+    resolved_among (resolved_from here.steps here.setting) here.setting is_range around here.depth here.path nodes
 
 -- in the place of an element
-abbrev pub whole_made : Here → Bool → List ℕ → Element → Written → Made
-whole_made here is_range topic element inside =
-    element_resolved (resolved_from here.steps here.setting) here.setting is_range topic here.depth here.path element
+abbrev pub whole_made : Here → Bool → Around → Element → Written → Made
+whole_made here is_range around element inside =
+    element_resolved (resolved_from here.steps here.setting) here.setting is_range around here.depth here.path element
     inside (λ shown. among_made (inside_of here) false shown inside)
 
--- in the place of an element that takes nothing
-abbrev pub kept_made : Here → Bool → List ℕ → Element → Written → Made
-kept_made here is_range topic element inside =
-    element_made is_range element (among_made (inside_of here) false (topic_within is_range element topic) inside)
+-- in the place of an element that takes nothing, for which this counts
+abbrev pub kept_made : Here → Bool → Around → Element → Written → Made
+kept_made here is_range around element inside =
+    element_made is_range element (among_made (inside_of here) false (around_within is_range element around) inside)
 
--- in the place of an element with what it takes, which holds the content of a target
-abbrev pub merged_made : Here → Bool → List ℕ → Element → Written → Made
-merged_made here is_range topic merged inside = made_with (group_faults merged) (if goes here.setting merged
-    then record nothing_made { count = 1 } else kept_made here is_range topic merged inside)
+-- in the place of an element with what it takes, which holds the content of a target, for which these names are declared
+abbrev pub merged_made : Here → Bool → Around → List (List ℕ) → Element → Written → Made
+merged_made here is_range around there merged inside = made_with (group_faults around.declared merged)
+    (if goes here.setting around.declared merged then record nothing_made { count = 1 }
+    else kept_made here is_range (declared_there there around) merged inside)
 
 -- in the place of the ranges behind the targets that were taken
-abbrev pub ranges_put : Here → List ℕ → List Taken → Made
-ranges_put here topic taken =
-    ranges_made (resolved_from here.steps here.setting) topic here.depth (flat_map range_of_one taken)
+abbrev pub ranges_put : Here → Around → List Taken → Made
+ranges_put here around taken =
+    ranges_made (resolved_from here.steps here.setting) around here.depth (flat_map range_of_one taken)
 
 -- the first of some siblings alone
 abbrev pub first_alone : Written → Written

@@ -1,6 +1,6 @@
 //! Whether a target can be taken.
 
-ghost use Rattle.std.specs.Prelude.{◌≡◌, ℕ, List, Some, IfOk, OnOk, slice_get, take};
+ghost use Rattle.std.specs.Prelude.{◌≡◌, [], ℕ, List, Some, IfOk, OnOk, slice_get, take};
 ghost use Rattle.std.specs.Arc.{arc_value};
 ghost use Rattle.std.specs.List.{list_any};
 ghost use Rattle.std.specs.Option.{option_copied};
@@ -18,7 +18,7 @@ use crate::ranges::end_of_range;
 use crate::reference::reference_in;
 use crate::resolver::Resolver;
 use crate::tables::PlaceTables;
-use dita_doc::{FaultCode, Name, NoMemory, Node, Text};
+use dita_doc::{FaultCode, List, Name, NoMemory, Node, Text};
 use doc_elements::is_special;
 use std::alloc::Global;
 
@@ -82,11 +82,12 @@ impl<'a> Resolver<'a> {
             return Ok(None);
         };
         let from = target.node.end;
-        self.go_on(origin, element, found, links, from, to)
+        let declared = around_found(self.alloc, places, &found)?;
+        self.go_on(origin, element, found, links, declared, from, to)
     }
 
-    // Goes on within a target that fits the element, with a range behind it; none, with a fault, if
-    // it is being resolved already, or it would be too deep.
+    // Goes on within a target that fits the element, around which these names are declared, with a
+    // range behind it; none, with a fault, if it is being resolved already, or it would be too deep.
     #[tactic(auto, using(crate::proofs::PutLaws::making))]
     fn go_on(
         &mut self,
@@ -94,6 +95,7 @@ impl<'a> Resolver<'a> {
         element: &Node,
         found: Found<'_>,
         links: u32,
+        declared: List<Text>,
         from: u32,
         to: u32,
     ) -> Result<Option<Link>, NoMemory>
@@ -102,6 +104,7 @@ impl<'a> Resolver<'a> {
             (places : PlaceTables) → AreTables documents places
             → found_spec.IsFound documents meant found.entry
             → slice_get (arc_value found.entry.doc).nodes found.entry.place ≡ Some target → target.end ≡ from
+            → declared ≡ content_spec.declared_around [] meant.nodes meant.standing.place
             → elements_spec.is_special meant.standing.whole.0 (walk_spec.element_of origin.now element.now)
             ≡ true
             → accepting_spec.IsRangeEnd from meant.standing.behind (content_spec.range_by meant.standing
@@ -122,7 +125,10 @@ impl<'a> Resolver<'a> {
                 self.push_fault(origin, element, code, found.value)?;
                 Ok(None)
             }
-            None => Ok(Some(enter(&mut self.path, found, links, from, to)?)),
+            None => {
+                let path = &mut self.path;
+                Ok(Some(enter(path, found, links, declared, from, to)?))
+            }
         }
     }
 
@@ -186,10 +192,12 @@ fn enter(
     path: &mut Vec<Place>,
     found: Found<'_>,
     links: u32,
+    declared: List<Text>,
     from: u32,
     to: u32,
 ) -> Result<Link, NoMemory>
-    ensures link { IfOk result (λ link. link ≡ accepting_spec.link_of found.entry from to) }
+    ensures link { IfOk result (λ link. link
+        ≡ accepting_spec.link_of found.entry declared from to) }
     ensures path { OnOk result (accepting_spec.GoesOn path.old.items path.new.items found.entry
         links) }
 {
@@ -207,9 +215,27 @@ fn enter(
     Ok(Link {
         doc,
         place,
+        declared,
         from,
         to,
     })
+}
+
+// The names of conditional attributes that are declared around a target.
+fn around_found(
+    alloc: Global,
+    places: &mut PlaceTables,
+    found: &Found<'_>,
+) -> Result<List<Text>, NoMemory>
+    ensures names { (documents : Documents) (meant : content_spec.Found)
+        → AreTables documents places.old → found_spec.IsFound documents meant found.now
+        → IfOk result (λ names. names
+        ≡ content_spec.declared_around [] meant.nodes meant.standing.place) }
+    ensures tables { (documents : Documents) (meant : content_spec.Found)
+        → AreTables documents places.old → found_spec.IsFound documents meant found.now
+        → OnOk result (AreTables documents places.new) }
+{
+    places.declared_around(alloc, &found.name, &found.doc, found.place)
 }
 
 // Where the range behind a target ends, by the value that says so; without one there is no range.

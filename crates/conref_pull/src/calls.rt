@@ -125,11 +125,12 @@ pub fn resolve_with<A: Asker>(
     };
     tables.rules.read(alloc, asker, context)?;
     let rules = PageRules::of(alloc, &tables.rules, context)?;
-    let standing = Standing::at(&doc, place);
+    let standing = Standing::at(alloc, &doc, place)?;
     let deepest = DEPTH_LIMIT.saturating_sub(standing.depth);
     let mut resolver = Resolver::new(alloc, context, rules, deepest);
     let at = At {
         topic: standing.topic,
+        declared: &standing.declared,
         links: 0,
         is_range: false,
     };
@@ -172,8 +173,10 @@ pub fn resolve_page_with<A: Asker>(
     tables.rules.read(alloc, asker, context)?;
     let rules = PageRules::of(alloc, &tables.rules, context)?;
     let mut resolver = Resolver::new(alloc, context, rules, DEPTH_LIMIT);
+    let declared = List::new(alloc);
     let at = At {
         topic: "",
+        declared: &declared,
         links: 0,
         is_range: false,
     };

@@ -4,29 +4,33 @@ use crate::accept::LINK_LIMIT;
 use crate::origin::{Whole, whole_at};
 use crate::reference::Sought;
 use crate::resolver::Resolver;
-use crate::tables::PlaceTables;
-use dita_doc::{Doc, Name, NoMemory, Node};
+use crate::tables::{PlaceTables, copied_names};
+use dita_doc::{Doc, List, Name, NoMemory, Node, Text};
+use ditaval_rules::own_names;
 use readers::Asker;
+use std::alloc::Global;
 use std::sync::Arc;
 
-// A target that was taken, and the range behind it, which is empty if there is none.
+// A target that was taken, the names of conditional attributes that are declared around it, and the
+// range behind it, which is empty if there is none.
 #[derive(Drop)]
 pub(crate) struct Link {
     pub doc: Arc<Doc>,
     pub place: u32,
+    pub declared: List<Text>,
     pub from: u32,
     pub to: u32,
 }
 
 impl Link {
-    ghost use Rattle.std.specs.Prelude.{◌≡◌, List, Some, IfSome};
+    ghost use Rattle.std.specs.Prelude.{◌≡◌, List, Some, IfOk, IfSome};
     ghost use Rattle.std.specs.Arc.{arc_value};
     ghost use Rattle.readers.specs.Told.{Told};
     ghost use Rattle.conref_pull.specs.Asking as asking_spec;
     ghost use Rattle.conref_pull.specs.Hrefs.{WholeNamed};
     ghost use Rattle.conref_pull.specs.Linked as linked_spec;
     ghost use Rattle.conref_pull.specs.Origin as origin_spec;
-    ghost use Rattle.conref_pull.specs.Step.{Taken};
+    ghost use Rattle.conref_pull.specs.Step.{Taken, declared_inside};
 
     // The target, and what it holds.
     pub(crate) fn whole(&self) -> Option<Whole<'_>>
@@ -40,6 +44,21 @@ impl Link {
     {
         whole_at(&self.doc, self.place)
     }
+
+    // The names of conditional attributes that are declared for what the target holds.
+    fn declared_inside(&self, alloc: Global) -> Result<List<Text>, NoMemory>
+        ensures { (one : Taken) → linked_spec.IsLink self.now one
+            → IfOk result (λ names. names ≡ declared_inside one) }
+    {
+        let Some(target) = self.whole() else {
+            return Ok(List::new(alloc));
+        };
+        let own = own_names(alloc, target.node)?;
+        match own {
+            Some(names) => Ok(names),
+            None => copied_names(alloc, self.declared.as_slice()),
+        }
+    }
 }
 
 // The targets that an element takes, the farthest first, and how many targets the content of that
@@ -51,14 +70,14 @@ pub(crate) struct Chain {
 }
 
 impl Chain {
-    ghost use Rattle.std.specs.Prelude.{◌≡◌, ◌∷◌, ℕ, List, Some, IfSome};
+    ghost use Rattle.std.specs.Prelude.{◌≡◌, ◌∷◌, ℕ, List, Some, IfOk, IfSome};
     ghost use Rattle.conref_spec.specs.Content.{Place};
     ghost use Rattle.readers.specs.Told.{Told};
     ghost use Rattle.conref_pull.specs.Asking as asking_spec;
     ghost use Rattle.conref_pull.specs.Hrefs.{WholeNamed};
     ghost use Rattle.conref_pull.specs.Linked as linked_spec;
     ghost use Rattle.conref_pull.specs.Origin as origin_spec;
-    ghost use Rattle.conref_pull.specs.Step.{Taken};
+    ghost use Rattle.conref_pull.specs.Step.{Taken, declared_inside};
 
     // The farthest target, and what it holds.
     pub(crate) fn farthest(&self) -> Option<Whole<'_>>
@@ -74,6 +93,18 @@ impl Chain {
         match self.links.split_first() {
             None => None,
             Some((farthest, _)) => farthest.whole(),
+        }
+    }
+
+    // The names of conditional attributes that are declared for what the farthest target holds.
+    pub(crate) fn declared(&self, alloc: Global) -> Result<List<Text>, NoMemory>
+        ensures { (path : List Place) (end : ℕ) (one : Taken) (nearer : List Taken)
+            → linked_spec.AreLinks path end (one ∷ nearer) self.now.links.items
+            → IfOk result (λ names. names ≡ declared_inside one) }
+    {
+        match self.links.split_first() {
+            None => Ok(List::new(alloc)),
+            Some((farthest, _)) => farthest.declared_inside(alloc),
         }
     }
 }

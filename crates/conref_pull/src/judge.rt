@@ -8,8 +8,8 @@ ghost use Rattle.map_spec.specs.Judged as judged_spec;
 ghost use Rattle.conref_pull.specs.Judging as judging_spec;
 
 use crate::resolver::Resolver;
-use dita_doc::{Attribute, Fault, FaultCode, List, Name, NoMemory, Node};
-use ditaval_rules::is_conditional;
+use dita_doc::{Attribute, Fault, FaultCode, List, Name, NoMemory, Node, Text};
+use ditaval_rules::is_conditional_among;
 use doc_elements::fault_at;
 use std::alloc::Global;
 
@@ -20,30 +20,32 @@ impl<'a> Resolver<'a> {
     ghost use Rattle.conref_pull.specs.Judging as judging_spec;
     ghost use Rattle.conref_pull.specs.Rules as rules_spec;
 
-    // Whether an element goes that has these attributes. A value of groups counts as absent, with a
-    // fault.
+    // Whether an element goes that has these attributes, and for which these names of conditional
+    // attributes are declared. A value of groups counts as absent, with a fault.
     pub(crate) fn is_excluded(
         &mut self,
         origin: &Name,
         element: &Node,
+        declared: &List<Text>,
         attributes: &List<Attribute>,
     ) -> Result<bool, NoMemory>
         ensures state { OnOk result (self.new ≡ record self.old {
           faults = self.old.faults
-              ++ judged_spec.group_faults (judging_spec.with_attributes attributes.now
+              ++ judged_spec.group_faults declared.now (judging_spec.with_attributes attributes.now
               (walk_spec.element_of origin.now element.now));
         }) }
         ensures goes { IfOk result (λ goes. goes
-            ≡ rules_spec.some_exclude self.old.rules attributes.now) }
+            ≡ rules_spec.some_exclude self.old.rules declared.now attributes.now) }
     {
-        append_group_faults(self.alloc, &mut self.faults, origin, element, attributes)?;
+        let faults = &mut self.faults;
+        append_group_faults(self.alloc, faults, origin, element, declared, attributes)?;
         if self.rules.is_empty() {
             return Ok(false);
         }
-        if !has_judged(attributes) {
+        if !has_judged(declared, attributes) {
             return Ok(false);
         }
-        self.rules.exclude(self.alloc, attributes)
+        self.rules.exclude(self.alloc, declared, attributes)
     }
 }
 
@@ -53,14 +55,15 @@ fn append_group_faults(
     faults: &mut List<Fault>,
     origin: &Name,
     element: &Node,
+    declared: &List<Text>,
     attributes: &List<Attribute>,
 ) -> Result<(), NoMemory>
     ensures { OnOk result (faults.new ≡ faults.old
-        ++ judged_spec.group_faults (judging_spec.with_attributes attributes.now
+        ++ judged_spec.group_faults declared.now (judging_spec.with_attributes attributes.now
         (walk_spec.element_of origin.now element.now))) }
 {
     for attribute in attributes.as_slice() {
-        if is_group(attribute) {
+        if is_group(declared, attribute) {
             let name = attribute.name.as_str();
             faults.push(fault_at(alloc, origin, element, FaultCode::GroupValue, name)?)?;
         }
@@ -69,27 +72,27 @@ fn append_group_faults(
 }
 
 // Whether one of these attributes can exclude an element.
-fn has_judged(attributes: &List<Attribute>) -> bool
-    ensures { result ≡ list_any judging_spec.is_judged attributes.now }
+fn has_judged(declared: &List<Text>, attributes: &List<Attribute>) -> bool
+    ensures { result ≡ list_any (judging_spec.is_judged declared.now) attributes.now }
 {
     attributes
         .as_slice()
         .iter()
-        .any(|attribute| is_judged(attribute))
+        .any(|attribute| is_judged(declared, attribute))
 }
 
-fn is_judged(attribute: &Attribute) -> bool
-    ensures { result ≡ judging_spec.is_judged attribute.now }
+fn is_judged(declared: &List<Text>, attribute: &Attribute) -> bool
+    ensures { result ≡ judging_spec.is_judged declared.now attribute.now }
 {
-    is_conditional(attribute.name.as_str()) && !is_grouped(attribute)
+    is_conditional_among(declared, attribute.name.as_str()) && !is_grouped(attribute)
 }
 
 // The name is looked at first: its length tells most names apart, while a value is searched to its
 // end.
-fn is_group(attribute: &Attribute) -> bool
-    ensures { result ≡ judged_spec.is_group attribute.now }
+fn is_group(declared: &List<Text>, attribute: &Attribute) -> bool
+    ensures { result ≡ judged_spec.is_group declared.now attribute.now }
 {
-    is_conditional(attribute.name.as_str()) && is_grouped(attribute)
+    is_conditional_among(declared, attribute.name.as_str()) && is_grouped(attribute)
 }
 
 fn is_grouped(attribute: &Attribute) -> bool

@@ -5,7 +5,7 @@ ghost use Rattle.std.specs.Prelude.{◌≡◌, ◌+◌, ◌++◌, [], ◌∷◌,
 use crate::origin::origin_of;
 use crate::place::Place;
 use crate::rules::PageRules;
-use dita_doc::{Context, Doc, Fault, FaultCode, List, Name, NoMemory, Node, Resolved, Stop};
+use dita_doc::{Context, Doc, Fault, FaultCode, List, Name, NoMemory, Node, Resolved, Stop, Text};
 use doc_elements::fault_at;
 use doc_maker::DocMaker;
 use std::alloc::Global;
@@ -20,11 +20,13 @@ pub(crate) const TOO_MANY: u32 = COUNT_LIMIT + 1;
 #[derive(Clone, Copy)]
 pub(crate) struct TooMany;
 
-// Where nodes are resolved: the id of the topic around them, how many targets they are resolved
-// within, which are the first of the path, and whether they are of a range.
+// Where nodes are resolved: the id of the topic around them, where they stand now, the names of
+// conditional attributes that are declared around them, where they were written, how many targets
+// they are resolved within, which are the first of the path, and whether they are of a range.
 #[derive(Clone, Copy)]
 pub(crate) struct At<'a> {
     pub topic: &'a str,
+    pub declared: &'a List<Text>,
     pub links: u32,
     pub is_range: bool,
 }

@@ -11,7 +11,7 @@ ghost use Rattle.readers.specs.Told.{Agrees, tree_found};
 ghost use Rattle.conref_pull.specs.Rules as rules_spec;
 ghost use Rattle.conref_pull.specs.Shown.{shown};
 
-use dita_doc::{Attribute, Context, Doc, List, Name, NoMemory, Rule, Stop};
+use dita_doc::{Attribute, Context, Doc, List, Name, NoMemory, Rule, Stop, Text};
 use ditaval_rules::{NotDitaval, RuleTable, read_rules};
 use readers::Reader;
 use std::alloc::Global;
@@ -197,18 +197,19 @@ impl<'a> PageRules<'a> {
         self.lists.is_empty()
     }
 
-    // Whether rules exclude an element of these attributes.
+    // Whether rules exclude an element of these attributes, for which these names are declared.
     pub(crate) fn exclude(
         &mut self,
         alloc: Global,
+        declared: &List<Text>,
         attributes: &List<Attribute>,
     ) -> Result<bool, NoMemory>
         ensures same { self.new ≡ self.old }
         ensures excluded { IfOk result (λ is. is
-            ≡ rules_spec.some_exclude self.old attributes.now) }
+            ≡ rules_spec.some_exclude self.old declared.now attributes.now) }
     {
         make_tables(alloc, &self.lists, &mut self.tables)?;
-        Ok(any_excludes(&self.tables, attributes))
+        Ok(any_excludes(&self.tables, declared, attributes))
     }
 }
 
@@ -228,10 +229,16 @@ fn make_tables<'a>(
     Ok(())
 }
 
-fn any_excludes(tables: &[RuleTable<'_>], attributes: &List<Attribute>) -> bool
-    ensures { result ≡ rules_spec.some_exclude tables.now attributes.now }
+fn any_excludes(
+    tables: &[RuleTable<'_>],
+    declared: &List<Text>,
+    attributes: &List<Attribute>,
+) -> bool
+    ensures { result ≡ rules_spec.some_exclude tables.now declared.now attributes.now }
 {
-    tables.iter().any(|table| table.verdict(attributes))
+    tables
+        .iter()
+        .any(|table| table.verdict(declared, attributes))
 }
 
 fn push_val<'a>(

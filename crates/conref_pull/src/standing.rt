@@ -1,65 +1,77 @@
 //! Where a node of a document stands.
 
-ghost use Rattle.std.specs.Prelude.{◌≡◌, ◌<◌, [], length, if◌then◌else◌};
+ghost use Rattle.std.specs.Prelude.{◌≡◌, ◌<◌, [], length, IfOk, if◌then◌else◌};
 ghost use Rattle.doc_elements.specs.Walk as walk_spec;
 ghost use Rattle.map_spec.specs.Titles as titles_spec;
 ghost use Rattle.map_spec.specs.Places as places_spec;
 ghost use Rattle.conref_pull.specs.Around as around_spec;
 
-use dita_doc::{Doc, Node};
+use dita_doc::{Doc, List, NoMemory, Node, Text};
+use ditaval_rules::own_names;
+use std::alloc::Global;
 
-// Where a node stands: the id of the nearest topic around it, and how many elements are around it.
-#[derive(Clone, Copy)]
+// Where a node stands: the id of the nearest topic around it, the names of conditional attributes
+// that are declared around it, and how many elements are around it.
+#[derive(Drop)]
 pub(crate) struct Standing<'a> {
     pub topic: &'a str,
+    pub declared: List<Text>,
     pub depth: usize,
 }
 
 impl<'a> Standing<'a> {
-    ghost use Rattle.std.specs.Prelude.{◌≡◌, ◌<◌};
+    ghost use Rattle.std.specs.Prelude.{◌≡◌, ◌<◌, IfOk};
     ghost use Rattle.readers.specs.Named.{named_tree};
     ghost use Rattle.conref_pull.specs.Around as around_spec;
 
     // Where the node at this place stands, by a walk over the nodes before it.
-    pub(crate) fn at(doc: &'a Doc, place: u32) -> Standing<'a>
-        ensures { around_spec.standing_shown result ≡ around_spec.around_at
-            around_spec.nothing_around (named_tree doc.now) place }
+    pub(crate) fn at(alloc: Global, doc: &'a Doc, place: u32) -> Result<Standing<'a>, NoMemory>
+        ensures { IfOk result (λ standing. around_spec.standing_shown standing
+            ≡ around_spec.around_at around_spec.nothing_around (named_tree doc.now) place) }
     {
         let nodes = doc.nodes.as_slice();
         let count = nodes.len().min(place as usize);
-        behind(&nodes[..count], place)
+        behind(alloc, &nodes[..count], place)
     }
 
     // The same once a node was passed that stands in front of the place.
-    fn passed(self, node: &'a Node, place: u32) -> Standing<'a>
+    fn passed(self, alloc: Global, node: &'a Node, place: u32) -> Result<Standing<'a>, NoMemory>
         requires { self.depth < 4294967296 }
-        ensures { around_spec.standing_shown result ≡ around_spec.entered place node.now
-            (around_spec.standing_shown self.entry) }
+        ensures { IfOk result (λ standing. around_spec.standing_shown standing
+            ≡ around_spec.entered place node.now (around_spec.standing_shown self.entry)) }
     {
         if node.end <= place {
-            return self;
+            return Ok(self);
         }
-        Standing {
-            topic: topic_inside(node, self.topic),
-            depth: self.depth + 1,
-        }
+        let own = own_names(alloc, node)?;
+        let Standing {
+            topic,
+            declared,
+            depth,
+        } = self;
+        Ok(Standing {
+            topic: topic_inside(node, topic),
+            declared: own.unwrap_or(declared),
+            depth: depth + 1,
+        })
     }
 }
 
 // Where the node at this place stands, behind these nodes.
-fn behind<'a>(nodes: &'a [Node], place: u32) -> Standing<'a>
+fn behind<'a>(alloc: Global, nodes: &'a [Node], place: u32) -> Result<Standing<'a>, NoMemory>
     requires { length nodes.now < 4294967296 }
-    ensures { around_spec.standing_shown result ≡ around_spec.entered_all place nodes.now
-        around_spec.nothing_around }
+    ensures { IfOk result (λ standing. around_spec.standing_shown standing
+        ≡ around_spec.entered_all place nodes.now around_spec.nothing_around) }
 {
     let mut standing = Standing {
         topic: "",
+        declared: List::new(alloc),
         depth: 0,
     };
     for node in nodes {
-        standing = standing.passed(node, place);
+        standing = standing.passed(alloc, node, place)?;
     }
-    standing
+    Ok(standing)
 }
 
 // The id of the nearest topic for what an element holds.

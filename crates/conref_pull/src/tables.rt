@@ -1,8 +1,9 @@
 //! What is kept for all pages of a plan.
 
-ghost use Rattle.std.specs.Prelude.{◌≡◌, ◌+◌, ◌++◌, Some, IfOk, OnOk, slice_get};
+ghost use Rattle.std.specs.Prelude.{◌≡◌, ◌+◌, ◌++◌, [], Some, IfOk, OnOk, slice_get};
 ghost use Rattle.dita_doc.specs.Tree as tree_spec;
 ghost use Rattle.dita_doc.specs.Tree.{Content};
+ghost use Rattle.conref_spec.specs.Content.{declared_around};
 ghost use Rattle.readers.specs.Named as named_spec;
 ghost use Rattle.topic_find.specs.Walk as walk_spec;
 ghost use Rattle.conref_pull.specs.Parts as parts_spec;
@@ -11,14 +12,15 @@ ghost use Rattle.conref_pull.specs.Tables.{Documents};
 
 use crate::ranges::node_of;
 use crate::rules::RuleLists;
-use dita_doc::{Doc, Name, NoMemory, Node, NodeKind, Text};
+use dita_doc::{Doc, List, Name, NoMemory, Node, NodeKind, Text};
+use ditaval_rules::Declarations;
 use std::alloc::Global;
 use std::collections::BTreeMap;
 use topic_find::TargetTable;
 
 /// What was read of the documents of a plan, each when a page first needs it: where their elements
-/// stand, and the rules of each DITAVAL. It holds for one plan over one world, and each answer by it
-/// is the same as with new tables.
+/// stand, the conditional attributes that they declare, and the rules of each DITAVAL. It holds for
+/// one plan over one world, and each answer by it is the same as with new tables.
 #[derive(Drop)]
 pub struct Tables {
     pub(crate) rules: RuleLists,
@@ -48,6 +50,8 @@ pub(crate) struct PlaceTables {
     targets: BTreeMap<Name, TargetTable>,
     // For each node the place behind the last of its siblings.
     ends: BTreeMap<Name, Vec<u32>>,
+    // The names of conditional attributes that elements declare.
+    declared: BTreeMap<Name, Declarations>,
 }
 
 impl PlaceTables {
@@ -57,6 +61,7 @@ impl PlaceTables {
         PlaceTables {
             targets: BTreeMap::new(alloc),
             ends: BTreeMap::new(alloc),
+            declared: BTreeMap::new(alloc),
         }
     }
 
@@ -110,6 +115,42 @@ impl PlaceTables {
         self.ends.insert(name.clone()?, ends)?;
         Ok(end)
     }
+
+    // The names of conditional attributes that are declared around the element at this place.
+    pub(crate) fn declared_around(
+        &mut self,
+        alloc: Global,
+        name: &Name,
+        doc: &Doc,
+        place: u32,
+    ) -> Result<List<Text>, NoMemory>
+        ensures names { (documents : Documents) → tables_spec.AreTables documents self.old
+            → documents name.now ≡ Some (named_spec.named_tree doc.now)
+            → IfOk result (λ names. names
+            ≡ declared_around [] (named_spec.named_tree doc.now) place) }
+        ensures known { (documents : Documents) → tables_spec.AreTables documents self.old
+            → documents name.now ≡ Some (named_spec.named_tree doc.now)
+            → OnOk result (tables_spec.AreTables documents self.new) }
+    {
+        if let Some(declarations) = self.declared.get(name) {
+            return copied_names(alloc, declarations.around(place).as_slice());
+        }
+        let declarations = Declarations::of(alloc, doc)?;
+        let names = copied_names(alloc, declarations.around(place).as_slice())?;
+        self.declared.insert(name.clone()?, declarations)?;
+        Ok(names)
+    }
+}
+
+// The copies share no memory with the names.
+pub(crate) fn copied_names(alloc: Global, names: &[Text]) -> Result<List<Text>, NoMemory>
+    ensures { IfOk result (λ copies. copies ≡ names.now) }
+{
+    let mut copies = List::new(alloc);
+    for name in names {
+        copies.push(name.clone()?)?;
+    }
+    Ok(copies)
 }
 
 fn end_at(ends: &[u32], place: u32) -> Option<u32>

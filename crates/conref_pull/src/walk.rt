@@ -1,6 +1,6 @@
 //! The walk over nodes that are resolved.
 
-ghost use Rattle.std.specs.Prelude.{◌≡◌, ℕ, List, true};
+ghost use Rattle.std.specs.Prelude.{◌≡◌, ℕ, List, true, unwrap_or};
 ghost use Rattle.doc_elements.specs.Walk as walk_spec;
 ghost use Rattle.map_spec.specs.Elements as elements_spec;
 ghost use Rattle.map_spec.specs.Written.{Element};
@@ -13,7 +13,8 @@ use crate::ranges::node_of;
 use crate::reference::Sought;
 use crate::resolver::{At, Resolver, TooMany};
 use crate::tables::PlaceTables;
-use dita_doc::{Doc, First, Name, Node, Siblings, Stop};
+use dita_doc::{Doc, First, List, Name, Node, Siblings, Stop, Text};
+use ditaval_rules::own_names;
 use readers::Asker;
 
 impl<'a> Resolver<'a> {
@@ -22,6 +23,7 @@ impl<'a> Resolver<'a> {
     ghost use Rattle.dita_doc.specs.Tree as tree_spec;
     ghost use Rattle.dita_doc.specs.Tree.{Content};
     ghost use Rattle.dita_doc.specs.declared.plan.PlanNode.{PlanNode};
+    ghost use Rattle.ditaval_rules.specs.Domains.{declared_by};
     ghost use Rattle.doc_elements.specs.Walk as walk_spec;
     ghost use Rattle.map_spec.specs.Elements as elements_spec;
     ghost use Rattle.conref_spec.specs.Content as content_spec;
@@ -40,7 +42,7 @@ impl<'a> Resolver<'a> {
     ghost use Rattle.conref_pull.specs.Step as step_spec;
     ghost use Rattle.conref_pull.specs.Step.{Taken};
     ghost use Rattle.conref_pull.specs.Walking as walking_spec;
-    ghost use Rattle.conref_pull.specs.Walking.{Here, IsReady, Walks};
+    ghost use Rattle.conref_pull.specs.Walking.{Here, IsReady, Walks, around_of, seen_by};
 
     // Resolves nodes that stand side by side.
     #[cycle(resolve)]
@@ -55,7 +57,7 @@ impl<'a> Resolver<'a> {
         ensures known { (world : World) (here : Here) → Agrees world (A.told asker.new)
             → IsReady world (A.stand asker.old) at.entry.links here self.old places.old
             → Walks result here.setting.pushed at.entry.links (walking_spec.among_made here
-            at.entry.is_range at.entry.topic.now (named_content siblings.entry)) self.old self.new
+            at.entry.is_range (around_of at.entry) (named_content siblings.entry)) self.old self.new
             places.new }
         ensures asks { (nodes : List PlanNode) → (A.stand asker.old).setting.nodes ≡ nodes
             → Asks nodes (self.old.context.now.page.doc ∷ reused_in (named_content siblings.entry)) (A.told asker.old)
@@ -88,8 +90,7 @@ impl<'a> Resolver<'a> {
         }
     }
 
-    // Resolves an element: it goes, stays as it is, or takes what its reference names, with the
-    // ranges behind it.
+    // Resolves an element.
     #[cycle(resolve)]
     #[tactic(auto, using(crate::proofs::AskingLaws::following, crate::proofs::SettingLaws::paging))]
     pub(crate) fn element<A: Asker>(
@@ -104,7 +105,43 @@ impl<'a> Resolver<'a> {
             → IsReady world (A.stand asker.old) at.entry.links here self.old places.old
             → slice_get (siblings_spec.document inside.entry).nodes place ≡ Some node.now
             → Walks result here.setting.pushed at.entry.links (walking_spec.whole_made here
-            at.entry.is_range at.entry.topic.now (element_around inside.entry node.now)
+            at.entry.is_range (around_of at.entry) (element_around inside.entry node.now)
+            (named_content inside.entry)) self.old self.new places.new }
+        ensures asks { (nodes : List PlanNode) → (A.stand asker.old).setting.nodes ≡ nodes
+            → Asks nodes (self.old.context.now.page.doc ∷ reused_of_node inside.entry node.now) (A.told asker.old)
+            (A.told asker.new) }
+        ensures hrefs { HasNamed (A.told asker.old) (element_around inside.entry node.now)
+            → HaveNamed (A.told asker.old) (named_content inside.entry)
+            → PutNamed (A.told asker.old) self.old
+            → OnOk result (PutNamed (A.told asker.new) self.new) }
+        ensures page { OnOk result (setting_spec.IsSamePage self.old self.new) }
+        ensures stand { A.stand asker.new ≡ A.stand asker.old }
+        ensures grows { Grows (A.told asker.old) (A.told asker.new) }
+    {
+        let own = own_names(self.alloc, node)?;
+        let declared = declared_for(&own, at.declared);
+        self.element_with(asker, places, node, inside, declared, at)
+    }
+
+    // Resolves an element for which these names of conditional attributes are declared: it goes,
+    // stays as it is, or takes what its reference names, with the ranges behind it.
+    #[cycle(resolve)]
+    #[tactic(auto, using(crate::proofs::AskingLaws::following, crate::proofs::SettingLaws::paging))]
+    fn element_with<A: Asker>(
+        &mut self,
+        asker: &mut A,
+        places: &mut PlaceTables,
+        node: &Node,
+        inside: Siblings<'_>,
+        declared: &List<Text>,
+        at: At<'_>,
+    ) -> Result<(), Stop<TooMany>>
+        ensures known { (world : World) (here : Here) (place : ℕ) → Agrees world (A.told asker.new)
+            → IsReady world (A.stand asker.old) at.entry.links here self.old places.old
+            → slice_get (siblings_spec.document inside.entry).nodes place ≡ Some node.now
+            → declared.now ≡ declared_by at.entry.declared.now node.now.attributes
+            → Walks result here.setting.pushed at.entry.links (walking_spec.whole_made here
+            at.entry.is_range (around_of at.entry) (element_around inside.entry node.now)
             (named_content inside.entry)) self.old self.new places.new }
         ensures asks { (nodes : List PlanNode) → (A.stand asker.old).setting.nodes ≡ nodes
             → Asks nodes (self.old.context.now.page.doc ∷ reused_of_node inside.entry node.now) (A.told asker.old)
@@ -120,22 +157,22 @@ impl<'a> Resolver<'a> {
         let Some(origin) = origin_of(inside.doc(), node) else {
             return Ok(());
         };
-        if self.is_excluded(origin, node, &node.attributes)? {
+        if self.is_excluded(origin, node, declared, &node.attributes)? {
             return Ok(());
         }
         if Sought::by(node).is_none() {
-            return self.unchanged(asker, places, origin, node, inside, at);
+            return self.unchanged(asker, places, origin, node, inside, declared, at);
         }
         let topic = topic_seen(node, at);
         let chain = self.chain(asker, places, origin, node, topic, at.links)?;
         if chain.end <= at.links {
-            return self.unchanged(asker, places, origin, node, inside, at);
+            return self.unchanged(asker, places, origin, node, inside, declared, at);
         }
-        self.merged(asker, places, origin, node, &chain, topic, at)?;
+        self.merged(asker, places, origin, node, &chain, topic, declared, at)?;
         self.ranges(asker, places, &chain, at)
     }
 
-    // Puts an element as it is, with its content.
+    // Puts an element for which these names are declared as it is, with its content.
     #[cycle(resolve)]
     #[tactic(auto, using(crate::proofs::AskingLaws::following, crate::proofs::SettingLaws::paging))]
     fn unchanged<A: Asker>(
@@ -145,14 +182,16 @@ impl<'a> Resolver<'a> {
         origin: &Name,
         node: &Node,
         inside: Siblings<'_>,
+        declared: &List<Text>,
         at: At<'_>,
     ) -> Result<(), Stop<TooMany>>
         ensures known { (world : World) (here : Here) → Agrees world (A.told asker.new)
             → IsReady world (A.stand asker.old) at.entry.links here self.old places.old
             → Walks result here.setting.pushed at.entry.links (walking_spec.kept_made here
-            at.entry.is_range (content_spec.topic_for at.entry.is_range (walk_spec.element_of origin.now
-            node.now) at.entry.topic.now) (walk_spec.element_of origin.now node.now)
-            (named_content inside.entry)) self.old self.new places.new }
+            at.entry.is_range (seen_by (content_spec.topic_for at.entry.is_range
+            (walk_spec.element_of origin.now node.now) at.entry.topic.now) declared.now)
+            (walk_spec.element_of origin.now node.now) (named_content inside.entry)) self.old
+            self.new places.new }
         ensures asks { (nodes : List PlanNode) → (A.stand asker.old).setting.nodes ≡ nodes
             → Asks nodes (self.old.context.now.page.doc ∷ reused_in (named_content inside.entry)) (A.told asker.old)
             (A.told asker.new) }
@@ -172,6 +211,7 @@ impl<'a> Resolver<'a> {
             .open(name, attributes, origin, node.line, origin)?;
         let within = At {
             topic: topic_within(node, at),
+            declared,
             links: at.links,
             is_range: false,
         };
@@ -181,7 +221,7 @@ impl<'a> Resolver<'a> {
     }
 
     // Puts an element with what it takes from its targets, and the content of the last of them. It
-    // is judged once more, and counts also if it goes.
+    // is judged once more, by the names that are declared for itself, and counts also if it goes.
     #[cycle(resolve)]
     #[tactic(auto, using(crate::proofs::AskingLaws::following, crate::proofs::SettingLaws::paging))]
     fn merged<A: Asker>(
@@ -192,6 +232,7 @@ impl<'a> Resolver<'a> {
         node: &Node,
         chain: &Chain,
         topic: &str,
+        declared: &List<Text>,
         at: At<'_>,
     ) -> Result<(), Stop<TooMany>>
         ensures known { (world : World) (here : Here) (farthest : Taken) (nearer : List Taken)
@@ -200,8 +241,8 @@ impl<'a> Resolver<'a> {
             → linked_spec.AreLinks here.path chain.now.end (farthest ∷ nearer) chain.now.links.items
             → elements_spec.has_types (walk_spec.element_of origin.now node.now) ≡ true
             → Walks result here.setting.pushed chain.now.end (walking_spec.merged_made here
-            at.entry.is_range topic.now (content_spec.merged_element
-            (walk_spec.element_of origin.now node.now)
+            at.entry.is_range (seen_by topic.now declared.now) (step_spec.declared_inside farthest)
+            (content_spec.merged_element (walk_spec.element_of origin.now node.now)
             (step_spec.merged_onto farthest.element nearer)) farthest.inside) self.old self.new
             places.new }
         ensures asks { (nodes : List PlanNode) → (A.stand asker.old).setting.nodes ≡ nodes
@@ -218,12 +259,13 @@ impl<'a> Resolver<'a> {
     {
         self.count_one()?;
         let merged = merged_with(self.alloc, origin, node, &chain.links)?;
-        if self.is_excluded(origin, node, &merged.attributes)? {
+        if self.is_excluded(origin, node, declared, &merged.attributes)? {
             return Ok(());
         }
         let Some(target) = chain.farthest() else {
             return Ok(());
         };
+        let there = chain.declared(self.alloc)?;
         let Merged {
             attributes,
             href_doc,
@@ -233,6 +275,7 @@ impl<'a> Resolver<'a> {
             .open(name, attributes, origin, node.line, &href_doc)?;
         let within = At {
             topic: topic_taken(node, topic, at.is_range),
+            declared: &there,
             links: chain.end,
             is_range: false,
         };
@@ -260,7 +303,7 @@ impl<'a> Resolver<'a> {
             → chain.now.end ≡ at.entry.links + length taken
             → linked_spec.AreLinks path chain.now.end taken chain.now.links.items
             → Walks result here.setting.pushed at.entry.links (walking_spec.ranges_put here
-            at.entry.topic.now taken) self.old self.new places.new }
+            (around_of at.entry) taken) self.old self.new places.new }
         ensures asks { (nodes : List PlanNode) → (A.stand asker.old).setting.nodes ≡ nodes
             → AreGivenTo (A.told asker.old) chain.now.links.items
             → Asks nodes (self.old.context.now.page.doc ∷ []) (A.told asker.old)
@@ -279,6 +322,7 @@ impl<'a> Resolver<'a> {
             }
             let within = At {
                 topic: at.topic,
+                declared: &link.declared,
                 links: count,
                 is_range: true,
             };
@@ -302,7 +346,7 @@ impl<'a> Resolver<'a> {
             → IsReady world (A.stand asker.old) at.entry.links here self.old places.old
             → linked_spec.IsLink link.now one
             → Walks result here.setting.pushed at.entry.links (walking_spec.among_made here
-            at.entry.is_range at.entry.topic.now one.range) self.old self.new places.new }
+            at.entry.is_range (around_of at.entry) one.range) self.old self.new places.new }
         ensures asks { (nodes : List PlanNode) → (A.stand asker.old).setting.nodes ≡ nodes
             → IsGivenTo (A.told asker.old) link.now
             → Asks nodes (self.old.context.now.page.doc ∷ []) (A.told asker.old)
@@ -344,7 +388,7 @@ impl<'a> Resolver<'a> {
             → parts_spec.IsPart (tree_spec.tree_of doc.now.nodes) place part
             → parts_spec.has_first part ≡ true
             → Walks result here.setting.pushed at.entry.links (walking_spec.among_made here
-            at.entry.is_range at.entry.topic.now (walking_spec.first_alone
+            at.entry.is_range (around_of at.entry) (walking_spec.first_alone
             (named_spec.named doc.now.origins part))) self.old self.new places.new }
         ensures missing { (world : World) (here : Here) → Agrees world (A.told asker.new)
             → IsReady world (A.stand asker.old) at.entry.links here self.old places.old
@@ -369,6 +413,16 @@ impl<'a> Resolver<'a> {
                 None => Ok(()),
             },
         }
+    }
+}
+
+// The names of conditional attributes that are declared for an element: its own, or those around it.
+fn declared_for<'b>(own: &'b Option<List<Text>>, around: &'b List<Text>) -> &'b List<Text>
+    ensures { result.now ≡ unwrap_or own.now around.now }
+{
+    match own {
+        Some(names) => names,
+        None => around,
     }
 }
 

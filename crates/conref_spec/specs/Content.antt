@@ -1,7 +1,7 @@
 -- Content with its references resolved (DITA 1.3, "Content reference (conref)", "Processing conrefs", "Processing attributes
 -- when resolving conrefs", "The @conrefend attribute", "The @conkeyref attribute"). The limits, the order of the tests,
 -- what is counted, and what an element keeps after a fault, are our own.
-use Rattle.std.specs.Prelude.{◌+◌, ◌==◌, ◌&&◌, ◌||◌, ℕ, zero, suc, Bool, true, false, not, List, [], ◌∷◌, ◌++◌, Option, Some, None, filter, is_some, length, nat_le, nat_lt, option_map, unwrap_or, codes, bytes_eq, if◌then◌else◌}
+use Rattle.std.specs.Prelude.{◌+◌, ◌-◌, ◌==◌, ◌&&◌, ◌||◌, ℕ, zero, suc, Bool, true, false, not, List, [], ◌∷◌, ◌++◌, Option, Some, None, filter, is_some, length, nat_le, nat_lt, option_map, unwrap_or, codes, bytes_eq, if◌then◌else◌}
 use Rattle.std.specs.List.{list_any}
 use Rattle.std.specs.Option.{option_and_then, option_or}
 use Rattle.dita_doc.specs.ClassValue.{value_of}
@@ -13,6 +13,7 @@ use Rattle.dita_doc.specs.declared.fault.FaultCode.TheVariants as faults
 use Rattle.dita_doc.specs.declared.plan.Reference.{Reference}
 use Rattle.dita_doc.specs.declared.plan.Target.{Target}
 use Rattle.dita_doc.specs.declared.plan.Target.TheVariants as targets
+use Rattle.ditaval_rules.specs.Domains.{declared_by}
 use Rattle.ditaval_rules.specs.Verdict.{excluded}
 use Rattle.href_text.specs.Joined.{joined}
 use Rattle.href_text.specs.Reference.{reference_of}
@@ -21,7 +22,7 @@ use Rattle.map_spec.specs.Judged.{group_faults}
 use Rattle.map_spec.specs.Keys.{id_of_key, key_of}
 use Rattle.map_spec.specs.Target.{if_read, is_same_topic}
 use Rattle.map_spec.specs.Titles.{id_of}
-use Rattle.map_spec.specs.Written.{Element, Written, End, Chars, Node, side_by_side}
+use Rattle.map_spec.specs.Written.{Element, Written, End, Chars, Node, side_by_side, size}
 use Rattle.map_spec.specs.Places.{Standing, is_topic, target_in}
 use Rattle.map_spec.specs.Pushes.{without_names}
 
@@ -69,8 +70,19 @@ made_with faults made = record made { faults = faults ++ made.faults }
 
 -- Judging
 
-abbrev pub goes : Setting → Element → Bool
-goes setting element = list_any (λ rules. excluded rules element.attributes) setting.rules
+-- the names of conditional attributes that are declared around the node at a place, counted from the first of these nodes
+abbrev pub declared_around : List (List ℕ) → Written → ℕ → List (List ℕ)
+declared_around around End place = around
+declared_around around (Chars text doc rest) place =
+    if place == 0 then around else declared_around around rest (place - 1)
+declared_around around (Node element inside rest) place =
+    if place == 0 then around
+    else if nat_lt (size inside) place then declared_around around rest (place - (1 + size inside))
+    else declared_around (declared_by around element.attributes) inside (place - 1)
+
+-- an element goes by the rules and by the names that are declared for it where it was written
+abbrev pub goes : Setting → List (List ℕ) → Element → Bool
+goes setting declared element = list_any (λ rules. excluded rules declared element.attributes) setting.rules
 
 -- Targets
 
@@ -204,15 +216,18 @@ merged_element element target = record element {
 }
 
 -- Following references: the element with what it takes, whose content counts, the targets that this is resolved within, the
--- ranges that come behind, whether anything was taken, and the faults
+-- ranges that come behind, whether anything was taken, and the faults. `declared` are the names of conditional attributes
+-- that are declared where nodes were written: those around a range, and those around what the target holds
 
 pub record Range : Type 0 where
   pub nodes : Written
+  pub declared : List (List ℕ)
   pub path : List Place
 
 pub record Followed : Type 0 where
   pub element : Element
   pub content : Written
+  pub declared : List (List ℕ)
   pub path : List Place
   pub ranges : List Range
   pub has_taken : Bool
@@ -222,23 +237,30 @@ abbrev pub unchanged : Element → Written → List Place → List Fault → Fol
 unchanged element inside path faults = record {
   element = element;
   content = inside;
+  declared = [];
   path = path;
   ranges = [];
   has_taken = false;
   faults = faults;
 }
 
-abbrev pub range_behind : Written → List Place → List Range
-range_behind End path = []
-range_behind nodes path = record { nodes = nodes; path = path } ∷ []
+abbrev pub range_behind : Written → List (List ℕ) → List Place → List Range
+range_behind End around path = []
+range_behind nodes around path = record { nodes = nodes; declared = around; path = path } ∷ []
 
--- the element with what its target, followed in turn, gives it
-abbrev pub taken : Element → Written → List Place → List Fault → Followed → Followed
-taken element range path faults target = record {
+-- the names declared for what a target holds: where it took something itself, for what this holds
+abbrev pub declared_for : List (List ℕ) → Element → Followed → List (List ℕ)
+declared_for around written target = if target.has_taken then target.declared else declared_by around written.attributes
+
+-- the element with what its target, which was written so and is followed in turn, gives it; `around` are the names declared
+-- around the target
+abbrev pub taken : Element → List (List ℕ) → Element → Written → List Place → List Fault → Followed → Followed
+taken element around written range path faults target = record {
   element = merged_element element target.element;
   content = target.content;
+  declared = declared_for around written target;
   path = target.path;
-  ranges = target.ranges ++ range_behind range path;
+  ranges = target.ranges ++ range_behind range around path;
   has_taken = true;
   faults = faults ++ target.faults;
 }
@@ -260,7 +282,8 @@ abbrev pub taken_or : (List Place → Element → Written → Followed) → List
 taken_or follow path element inside before target (Some fault) = unchanged element inside path (before ++ fault ∷ [])
 taken_or follow path element inside before target None =
     let longer = path ++ record { doc = target.doc; at = target.standing.place } ∷ [] in
-    taken element (unwrap_or (range_by target.standing (attribute (codes "conrefend") element)) End) longer before
+    taken element (declared_around [] target.nodes target.standing.place) target.standing.whole.0
+    (unwrap_or (range_by target.standing (attribute (codes "conrefend") element)) End) longer before
     (follow longer target.standing.whole.0 target.standing.whole.1)
 
 abbrev pub followed_to : (List Place → Element → Written → Followed) → Setting → ℕ → List Place → Element → Written → Sought
@@ -287,6 +310,15 @@ followed setting topic depth path element inside =
 
 -- Resolving: what stands in the place of each node
 
+-- What is around nodes: the id of the nearest topic, where they stand now, and the names of conditional attributes that are
+-- declared around them, where they were written
+pub record Around : Type 0 where
+  pub topic : List ℕ
+  pub declared : List (List ℕ)
+
+abbrev pub nothing_around : Around
+nothing_around = record { topic = []; declared = [] }
+
 -- the id that a topic's content sees; an element of a range has none
 abbrev pub id_shown : Bool → List ℕ → List ℕ
 id_shown is_range id = if is_range || bytes_eq id use_target then [] else id
@@ -299,63 +331,80 @@ abbrev pub topic_within : Bool → Element → List ℕ → List ℕ
 topic_within is_range element topic =
     if is_topic element && not is_range then id_of element else topic
 
+-- what counts for an element itself, as it was written
+abbrev pub around_for : Bool → Element → Around → Around
+around_for is_range element around = record {
+  topic = topic_for is_range element around.topic;
+  declared = declared_by around.declared element.attributes;
+}
+
+-- what is around the nodes that it holds, once it is merged
+abbrev pub around_within : Bool → Element → Around → Around
+around_within is_range element around = record around { topic = topic_within is_range element around.topic }
+
+-- what was written elsewhere has the names that are declared there
+abbrev pub declared_there : List (List ℕ) → Around → Around
+declared_there declared around = record around { declared = declared }
+
 abbrev pub without_id : Bool → Element → Element
 without_id is_range element = if is_range
     then record element { attributes = without_names (codes "id" ∷ []) element.attributes } else element
 
--- resolves nodes within longer paths: whether they are of a range, the topic and the depth where they stand, the path
+-- resolves nodes within longer paths: whether they are of a range, what is around them, the depth where they stand, the path
 abbrev pub Resolve : Type 0
-Resolve = Bool → List ℕ → ℕ → List Place → Written → Made
+Resolve = Bool → Around → ℕ → List Place → Written → Made
 
-abbrev pub ranges_made : Resolve → List ℕ → ℕ → List Range → Made
-ranges_made resolve topic depth [] = nothing_made
-ranges_made resolve topic depth (range ∷ ranges) =
-    made_beside (resolve true topic depth range.path range.nodes) (ranges_made resolve topic depth ranges)
+abbrev pub ranges_made : Resolve → Around → ℕ → List Range → Made
+ranges_made resolve around depth [] = nothing_made
+ranges_made resolve around depth (range ∷ ranges) =
+    made_beside (resolve true (declared_there range.declared around) depth range.path range.nodes)
+    (ranges_made resolve around depth ranges)
 
 -- an element that stays, with its content
 abbrev pub element_made : Bool → Element → Made → Made
 element_made is_range element content =
     record content { nodes = Node (without_id is_range element) content.nodes End; count = 1 + content.count }
 
--- what was taken is judged once more; the element counts also if it goes
-abbrev pub made_of : Resolve → Setting → Bool → List ℕ → ℕ → (List ℕ → Made) → Followed → Made
-made_of resolve setting is_range topic depth own found = if found.has_taken
-    then made_with (group_faults found.element) (if goes setting found.element
+-- what was taken is judged once more, by the names declared for the element itself; the element counts also if it goes
+abbrev pub made_of : Resolve → Setting → Bool → Around → ℕ → (Around → Made) → Followed → Made
+made_of resolve setting is_range here depth own found = if found.has_taken
+    then made_with (group_faults here.declared found.element) (if goes setting here.declared found.element
     then record nothing_made { count = 1 }
     else element_made is_range found.element
-    (resolve false (topic_within is_range found.element topic) (depth + 1) found.path found.content))
-    else element_made is_range found.element (own (topic_within is_range found.element topic))
+    (resolve false (declared_there found.declared (around_within is_range found.element here)) (depth + 1) found.path
+    found.content))
+    else element_made is_range found.element (own (around_within is_range found.element here))
 
--- `own` resolves the content of the element itself, for the topic that it stands in
-abbrev pub element_resolved : Resolve → Setting → Bool → List ℕ → ℕ → List Place → Element → Written → (List ℕ → Made) → Made
-element_resolved resolve setting is_range topic depth path element inside own =
-    let here = topic_for is_range element topic in
-    let found = followed setting here depth path element inside in
-    made_with (group_faults element) (if goes setting element then nothing_made
+-- `own` resolves the content of the element itself, for what is around that
+abbrev pub element_resolved : Resolve → Setting → Bool → Around → ℕ → List Place → Element → Written → (Around → Made) → Made
+element_resolved resolve setting is_range around depth path element inside own =
+    let here = around_for is_range element around in
+    let found = followed setting here.topic depth path element inside in
+    made_with (group_faults here.declared element) (if goes setting here.declared element then nothing_made
     else made_with found.faults (made_beside (made_of resolve setting is_range here depth own found)
-    (ranges_made resolve topic depth found.ranges)))
+    (ranges_made resolve around depth found.ranges)))
 
 abbrev pub text_made : List ℕ → List ℕ → Made
 text_made text doc = record { nodes = Chars text doc End; count = 1; faults = [] }
 
-abbrev pub resolved_among : Resolve → Setting → Bool → List ℕ → ℕ → List Place → Written → Made
-resolved_among resolve setting is_range topic depth path End = nothing_made
-resolved_among resolve setting is_range topic depth path (Chars text doc rest) =
-    made_beside (text_made text doc) (resolved_among resolve setting is_range topic depth path rest)
-resolved_among resolve setting is_range topic depth path (Node element inside rest) = made_beside
-    (element_resolved resolve setting is_range topic depth path element inside
+abbrev pub resolved_among : Resolve → Setting → Bool → Around → ℕ → List Place → Written → Made
+resolved_among resolve setting is_range around depth path End = nothing_made
+resolved_among resolve setting is_range around depth path (Chars text doc rest) =
+    made_beside (text_made text doc) (resolved_among resolve setting is_range around depth path rest)
+resolved_among resolve setting is_range around depth path (Node element inside rest) = made_beside
+    (element_resolved resolve setting is_range around depth path element inside
     (λ here. resolved_among resolve setting false here (depth + 1) path inside))
-    (resolved_among resolve setting is_range topic depth path rest)
+    (resolved_among resolve setting is_range around depth path rest)
 
 -- each step is within a longer path
 unfoldable pub resolved_from : ℕ → Setting → Resolve
-resolved_from zero setting is_range topic depth path nodes = nothing_made
-resolved_from (suc steps) setting is_range topic depth path nodes =
-    resolved_among (resolved_from steps setting) setting is_range topic depth path nodes
+resolved_from zero setting is_range around depth path nodes = nothing_made
+resolved_from (suc steps) setting is_range around depth path nodes =
+    resolved_among (resolved_from steps setting) setting is_range around depth path nodes
 
--- nodes of the page's document, where they stand in this topic and at this depth
-abbrev pub resolved_in : Setting → List ℕ → ℕ → Written → Made
-resolved_in setting topic depth nodes = resolved_from (path_limit + 1) setting false topic depth [] nodes
+-- nodes of the page's document, with this around them and at this depth
+abbrev pub resolved_in : Setting → Around → ℕ → Written → Made
+resolved_in setting around depth nodes = resolved_from (path_limit + 1) setting false around depth [] nodes
 
 abbrev pub count_limit : ℕ
 count_limit = 262144
@@ -370,4 +419,4 @@ page_root setting = unwrap_or (setting.pushed setting.page) End
 
 -- the whole document of a page; `fault` stands at its root as stored
 abbrev pub resolved_page : ℕ → List Fault → Setting → Made
-resolved_page limit fault setting = within limit fault (resolved_in setting [] 1 (page_root setting))
+resolved_page limit fault setting = within limit fault (resolved_in setting nothing_around 1 (page_root setting))

@@ -1,5 +1,5 @@
 -- Entries of a table: the first for a subject, before and after a stable sort, and by halving.
-use Rattle.std.specs.Prelude.{◌≡◌, ◌&&◌, ◌<◌, ◌≤◌, ℕ, zero, suc, Bool, true, false, not, List, [], ◌∷◌, ◌++◌, Option, Some, None, filter, find, length, option_map, is_some, if◌then◌else◌}
+use Rattle.std.specs.Prelude.{◌≡◌, ◌&&◌, ◌<◌, ◌≤◌, ℕ, zero, suc, Bool, true, false, not, List, [], ◌∷◌, ◌++◌, Option, Some, None, filter, find, length, option_map, is_some, unwrap_or, if◌then◌else◌}
 use Rattle.std.specs.Cmp.{IsTotalOrder}
 use Rattle.std.specs.List.Sorted.{IsSortedByKey, IsStableByKey, IsNonDecreasingBy, IsPartitionedBy, ties}
 use Rattle.std.specs.Option.{option_copied, option_or}
@@ -20,7 +20,7 @@ use Rattle.dita_doc.specs.declared.content.Action.TheVariants as actions
 use Rattle.dita_doc.specs.declared.content.Rule.{Rule}
 use Rattle.ditaval_rules.specs.Subject.{Subject, subject_cmp, IsSortedBySubject, is_entry_for, is_entry_below, IsPlaceFor, IsTableOf, first_action, deciding_action, is_for, HasFirstOf, val_behind}
 use Rattle.ditaval_rules.specs.Rules.{is_same_text}
-use Rattle.ditaval_rules.specs.Verdict.{is_text, is_for_token, is_for_attribute, is_default, or_else, deciding, is_exclude, decides_exclude}
+use Rattle.ditaval_rules.specs.Verdict.{is_text, is_for_token, is_for_attribute, is_default, or_else, deciding, is_exclude, decides_exclude, decided as action_of}
 use Rattle.ditaval_rules.proofs.SubjectLaws.{subject_at}
 
 -- The first that passes
@@ -235,6 +235,15 @@ excluding_seen None None (Some three) = refl
 excluding_seen None (Some two) three = refl
 excluding_seen (Some one) two three = refl
 
+action_seen : (one two three : Option Rule) → action_of (or_else one (or_else two three))
+    ≡ unwrap_or (option_or (option_map (λ (rule : Rule). rule.action) one)
+    (option_or (option_map (λ (rule : Rule). rule.action) two) (option_map (λ (rule : Rule). rule.action) three)))
+    actions.Include
+action_seen None None None = refl
+action_seen None None (Some three) = refl
+action_seen None (Some two) three = refl
+action_seen (Some one) two three = refl
+
 module _ (entries : List (Subject × Action)) (rules : List Rule) (all : HasFirstOf entries rules) where
   abbrev action_in : Option Rule → Option Action
   action_in found = option_map (λ (rule : Rule). rule.action) found
@@ -253,4 +262,16 @@ module _ (entries : List (Subject × Action)) (rules : List Rule) (all : HasFirs
         first_by (None, None) is_default (λ rule. for_all rule.att rule.val),
       )
       (excluding_seen (find (is_for_token att.now token.now) rules) (find (is_for_attribute att.now) rules)
+      (find is_default rules))
+
+  pub decided_action : (att token : Bor (List ℕ)) → action_of (deciding rules att.now token.now)
+      ≡ unwrap_or (deciding_action entries att token) actions.Include
+  decided_action att token =
+      rw (
+        first_by (Some att, Some token) (is_for_token att.now token.now)
+            (λ rule. for_token att token rule.att rule.val),
+        first_by (Some att, None) (is_for_attribute att.now) (λ rule. for_attribute att rule.att rule.val),
+        first_by (None, None) is_default (λ rule. for_all rule.att rule.val),
+      )
+      (action_seen (find (is_for_token att.now token.now) rules) (find (is_for_attribute att.now) rules)
       (find is_default rules))

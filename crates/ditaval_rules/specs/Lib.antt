@@ -1,3 +1,6 @@
+pub mod Declarations
+pub mod Domains
+pub mod Names
 pub mod Reading
 pub mod Rules
 pub mod Subject

@@ -1,7 +1,7 @@
 -- Which elements a DITAVAL excludes (DITA 1.3, "Conditional processing (profiling)", "Filtering based on metadata
--- attributes"). The names of the conditional attributes, and that a grouped value counts as absent, are our profile
--- (own).
-use Rattle.std.specs.Prelude.{◌==◌, ◌&&◌, ℕ, Bool, true, false, not, List, [], ◌∷◌, Option, Some, None, length, find, is_some, codes, bytes_eq}
+-- attributes"). The names of the attributes that are conditional in every document, and that a grouped value counts as
+-- absent, are our profile (own).
+use Rattle.std.specs.Prelude.{◌==◌, ◌&&◌, ◌||◌, ℕ, Bool, true, false, not, List, [], ◌∷◌, Option, Some, None, length, find, is_some, codes, bytes_eq}
 use Rattle.std.specs.List.{list_all, list_any}
 use Rattle.dita_doc.specs.Bytes.{open_parenthesis}
 use Rattle.dita_doc.specs.ClassValue.{words_of}
@@ -17,6 +17,10 @@ conditional_names =
 
 abbrev pub is_conditional : List ℕ → Bool
 is_conditional name = list_any (bytes_eq name) conditional_names
+
+-- an element's conditional attributes are those of these names, and those whose names are declared for it
+abbrev pub is_conditional_among : List (List ℕ) → List ℕ → Bool
+is_conditional_among declared name = is_conditional name || list_any (bytes_eq name) declared
 
 -- Which rule decides a token of an attribute
 
@@ -49,6 +53,11 @@ is_exclude actions.Exclude = true
 is_exclude actions.Passthrough = false
 is_exclude actions.Flag = false
 
+-- what becomes of a token; with no rule it is included
+abbrev pub decided : Option Rule → Action
+decided None = actions.Include
+decided (Some rule) = rule.action
+
 -- with no rule a token is included
 abbrev pub decides_exclude : Option Rule → Bool
 decides_exclude None = false
@@ -67,12 +76,12 @@ abbrev pub is_some_token : List (List ℕ) → Bool
 is_some_token tokens = not (length tokens == 0)
 
 -- a conditional attribute that has a token excludes, if each of its tokens is excluded
-abbrev pub excludes : List Rule → Attribute → Bool
-excludes rules attribute =
-    is_conditional attribute.name && not (is_grouped attribute.value)
+abbrev pub excludes : List Rule → List (List ℕ) → Attribute → Bool
+excludes rules declared attribute =
+    is_conditional_among declared attribute.name && not (is_grouped attribute.value)
     && is_some_token (words_of attribute.value)
     && list_all (λ token. decides_exclude (deciding rules attribute.name token)) (words_of attribute.value)
 
--- an element is excluded, if one of its attributes excludes
-abbrev pub excluded : List Rule → List Attribute → Bool
-excluded rules attributes = list_any (excludes rules) attributes
+-- an element for which these names are declared is excluded, if one of its attributes excludes
+abbrev pub excluded : List Rule → List (List ℕ) → List Attribute → Bool
+excluded rules declared attributes = list_any (excludes rules declared) attributes

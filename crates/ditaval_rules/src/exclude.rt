@@ -9,7 +9,7 @@ ghost use Rattle.ditaval_rules.specs.Verdict as spec;
 
 use dita_doc::{Action, Attribute, List, Rule, Text, is_same, split_word};
 
-// The names of the conditional attributes.
+// The names of the attributes that are conditional in every document.
 const CONDITIONAL: [&str; 6] = [
     "audience",
     "platform",
@@ -19,12 +19,13 @@ const CONDITIONAL: [&str; 6] = [
     "deliveryTarget",
 ];
 
-/// Whether the rules exclude an element of these attributes. It takes no memory, and walks over all
-/// rules for each token: `RuleTable` finds the deciding rule by halving.
-pub fn verdict(rules: &List<Rule>, attributes: &List<Attribute>) -> bool
-    ensures { result ≡ spec.excluded rules.now attributes.now }
+/// Whether the rules exclude an element of these attributes, for which these names are declared. It
+/// takes no memory, and walks over all rules for each token: `RuleTable` finds the deciding rule by
+/// halving.
+pub fn verdict(rules: &List<Rule>, declared: &List<Text>, attributes: &List<Attribute>) -> bool
+    ensures { result ≡ spec.excluded rules.now declared.now attributes.now }
 {
-    is_excluded(rules, attributes)
+    is_excluded(rules, declared, attributes)
 }
 
 /// What finds the rule that decides a token.
@@ -51,20 +52,24 @@ impl Decides for List<Rule> {
 }
 
 /// Whether one of the attributes excludes.
-pub(crate) fn is_excluded<D: Decides>(decides: &D, attributes: &List<Attribute>) -> bool
-    ensures { result ≡ spec.excluded (D.rules decides.now) attributes.now }
+pub(crate) fn is_excluded<D: Decides>(
+    decides: &D,
+    declared: &List<Text>,
+    attributes: &List<Attribute>,
+) -> bool
+    ensures { result ≡ spec.excluded (D.rules decides.now) declared.now attributes.now }
 {
     attributes
         .as_slice()
         .iter()
-        .any(|attribute| excludes(decides, attribute))
+        .any(|attribute| excludes(decides, declared, attribute))
 }
 
-fn excludes<D: Decides>(decides: &D, attribute: &Attribute) -> bool
-    ensures { result ≡ spec.excludes (D.rules decides.now) attribute.now }
+fn excludes<D: Decides>(decides: &D, declared: &List<Text>, attribute: &Attribute) -> bool
+    ensures { result ≡ spec.excludes (D.rules decides.now) declared.now attribute.now }
 {
     let value = attribute.value.as_bytes();
-    is_conditional(attribute.name.as_str())
+    is_conditional_among(declared, attribute.name.as_str())
         && !value.contains(&b'(')
         && excludes_tokens(decides, attribute.name.as_bytes(), value)
 }
@@ -88,22 +93,41 @@ fn excludes_tokens<D: Decides>(decides: &D, att: &[u8], value: &[u8]) -> bool
     has_token
 }
 
-/// Whether this is the name of a conditional attribute.
+/// Whether this is the name of a conditional attribute of an element for which these names are
+/// declared.
+pub fn is_conditional_among(declared: &List<Text>, name: &str) -> bool
+    ensures { result ≡ spec.is_conditional_among declared.now name.now }
+{
+    is_conditional(name)
+        || declared
+            .as_slice()
+            .iter()
+            .any(|known| is_same(name.as_bytes(), known.as_bytes()))
+}
+
+/// Whether this is the name of an attribute that is conditional in every document.
 pub fn is_conditional(name: &str) -> bool
+    ensures { result ≡ spec.is_conditional name.now }
+{
+    is_everywhere(name.as_bytes())
+}
+
+/// The same of the bytes of a name.
+pub(crate) fn is_everywhere(name: &[u8]) -> bool
     ensures { result ≡ spec.is_conditional name.now }
 {
     CONDITIONAL
         .iter()
-        .any(|known| is_same(name.as_bytes(), known.as_bytes()))
+        .any(|known| is_same(name, known.as_bytes()))
 }
 
-fn first_for_token<'a>(rules: &'a [Rule], att: &[u8], token: &[u8]) -> Option<&'a Rule>
+pub(crate) fn first_for_token<'a>(rules: &'a [Rule], att: &[u8], token: &[u8]) -> Option<&'a Rule>
     ensures { option_copied result ≡ find (spec.is_for_token att.now token.now) rules.now }
 {
     rules.iter().find(|rule| is_text(&rule.att, att) && is_text(&rule.val, token))
 }
 
-fn first_for_attribute<'a>(rules: &'a [Rule], att: &[u8]) -> Option<&'a Rule>
+pub(crate) fn first_for_attribute<'a>(rules: &'a [Rule], att: &[u8]) -> Option<&'a Rule>
     ensures { option_copied result ≡ find (spec.is_for_attribute att.now) rules.now }
 {
     rules
@@ -111,7 +135,7 @@ fn first_for_attribute<'a>(rules: &'a [Rule], att: &[u8]) -> Option<&'a Rule>
         .find(|rule| is_text(&rule.att, att) && rule.val.is_none())
 }
 
-fn first_default(rules: &[Rule]) -> Option<&Rule>
+pub(crate) fn first_default(rules: &[Rule]) -> Option<&Rule>
     ensures { option_copied result ≡ find spec.is_default rules.now }
 {
     rules.iter().find(|rule| rule.att.is_none())

@@ -2,14 +2,22 @@
 //!
 //! What is used above it: `read_rules` gives the rules of a document with their faults; `verdict`
 //! and `RuleTable::verdict` say whether an element is excluded, as one definition says it. Neither
-//! verdict takes memory.
+//! verdict takes memory. `decided` and `RuleTable::decided` give the action of the rule that decides
+//! a token. `declared` gives the names of the conditional attributes that a document
+//! declares for an element, and `Declarations` those for many of its elements.
 #![tactic(auto)]
 
+mod decision;
+mod declarations;
+mod domains;
 mod exclude;
 mod reading;
 mod rules;
 mod table;
 
-pub use exclude::{is_conditional, verdict};
+pub use decision::decided;
+pub use declarations::Declarations;
+pub use domains::{declared, names_declared, own_names};
+pub use exclude::{is_conditional, is_conditional_among, verdict};
 pub use rules::{NotDitaval, RulesRead, read_rules};
 pub use table::RuleTable;

@@ -54,10 +54,17 @@ impl<'a> RuleTable<'a> {
     }
 
     /// The same verdict as `verdict` gives, by halving. It takes no memory.
-    pub fn verdict(&self, attributes: &List<Attribute>) -> bool
-        ensures { result ≡ spec.excluded self.now attributes.now }
+    pub fn verdict(&self, declared: &List<Text>, attributes: &List<Attribute>) -> bool
+        ensures { result ≡ spec.excluded self.now declared.now attributes.now }
     {
-        is_excluded(self, attributes)
+        is_excluded(self, declared, attributes)
+    }
+
+    /// The same action as `decided` gives, by halving. It takes no memory.
+    pub fn decided(&self, att: &[u8], token: &[u8]) -> Action
+        ensures { result ≡ spec.decided (spec.deciding self.now att.now token.now) }
+    {
+        deciding(self.entries.as_slice(), att, token).unwrap_or(Action::Include)
     }
 }
 

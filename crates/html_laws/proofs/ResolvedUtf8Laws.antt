@@ -15,7 +15,7 @@ use Rattle.map_spec.specs.Judged.{group_faults}
 use Rattle.map_spec.specs.Keys.{id_of_key, key_of}
 use Rattle.map_spec.specs.Target.{if_read, is_same_topic}
 use Rattle.map_spec.specs.Written.{Element, Written, End, Chars, Node}
-use Rattle.conref_spec.specs.Content.{Followed, Found, Made, Place, Range, Resolve, Setting, Sought, by_conref, by_key, conref_named, element_made, element_resolved, end_id, followed, followed_from, followed_to, found_by, found_in, goes, has_end_id, has_reference, is_written_in, key_faults, key_named, made_beside, made_of, made_with, merged_element, names_not_taken, nothing_made, page_root, path_limit, range_behind, range_by, range_from, ranges_made, refused_by, resolved_among, resolved_from, resolved_in, resolved_page, sought_by, specified, taken_or, takes_href, topic_for, topic_within, unchanged, up_to_end, value_used, without_id}
+use Rattle.conref_spec.specs.Content.{Around, Followed, Found, Made, Place, Range, Resolve, Setting, Sought, around_for, by_conref, by_key, conref_named, declared_around, declared_there, element_made, element_resolved, end_id, followed, followed_from, followed_to, found_by, found_in, goes, has_end_id, has_reference, is_written_in, key_faults, key_named, made_beside, made_of, made_with, merged_element, names_not_taken, nothing_around, nothing_made, page_root, path_limit, range_behind, range_by, range_from, ranges_made, refused_by, resolved_among, resolved_from, resolved_in, resolved_page, sought_by, specified, taken_or, takes_href, around_within, unchanged, up_to_end, value_used, without_id}
 use Rattle.map_spec.specs.Places.{Standing, target_in}
 use Rattle.map_spec.specs.Pushes.{without_names}
 use Rattle.html_laws.specs.Utf8.{HasUtf8Value, IsUtf8Content, IsUtf8Element, IsUtf8Target}
@@ -67,11 +67,11 @@ utf8_range_by standing (Some value) is =
     (λ id one. chosen IsUtf8Nodes (has_end_id id standing.whole.0) (Some End) (up_to_end id standing.behind) tt
     (utf8_up_to id standing.behind is.behind)) (always (end_id value))
 
-utf8_range_behind : (nodes : Written) (path : List Place) → IsUtf8Content nodes
-    → AllByRecursion IsUtf8Range (range_behind nodes path)
-utf8_range_behind End path all = tt
-utf8_range_behind (Chars text doc rest) path all = (all, tt)
-utf8_range_behind (Node element inside rest) path all = (all, tt)
+utf8_range_behind : (nodes : Written) (around : List (List ℕ)) (path : List Place) → IsUtf8Content nodes
+    → AllByRecursion IsUtf8Range (range_behind nodes around path)
+utf8_range_behind End around path all = tt
+utf8_range_behind (Chars text doc rest) around path all = (all, tt)
+utf8_range_behind (Node element inside rest) around path all = (all, tt)
 
 -- Attributes
 
@@ -177,13 +177,14 @@ module _ (setting : Setting) (of_setting : IsUtf8Setting setting) where
       let range_is : IsUtf8Content range =
       of_option IsUtf8Content (range_by target.standing (attribute (codes "conrefend") element)) End
       (utf8_range_by target.standing (attribute (codes "conrefend") element) is) tt in
+      let around = declared_around [] target.nodes target.standing.place in
       let found = follow longer target.standing.whole.0 target.standing.whole.1 in
       let onward = follows longer target.standing.whole.0 target.standing.whole.1 is.whole.0 is.whole.1 in
       record {
         element = utf8_merged element found.element first onward.element;
         content = onward.content;
-        ranges = of_both IsUtf8Range found.ranges (range_behind range longer) onward.ranges
-            (utf8_range_behind range longer range_is);
+        ranges = of_both IsUtf8Range found.ranges (range_behind range around longer) onward.ranges
+            (utf8_range_behind range around longer range_is);
       }
 
   utf8_followed_to : (follow : List Place → Element → Written → Followed) (depth : ℕ) (path : List Place)
@@ -216,75 +217,77 @@ module _ (setting : Setting) (of_setting : IsUtf8Setting setting) where
   IsUtf8Made made = IsUtf8Content made.nodes
 
   abbrev ResolvesInUtf8 : Resolve → Type 0
-  ResolvesInUtf8 resolve = (is_range : Bool) (topic : List ℕ) (depth : ℕ) (path : List Place) (nodes : Written)
-      → IsUtf8Content nodes → IsUtf8Made (resolve is_range topic depth path nodes)
+  ResolvesInUtf8 resolve = (is_range : Bool) (around : Around) (depth : ℕ) (path : List Place) (nodes : Written)
+      → IsUtf8Content nodes → IsUtf8Made (resolve is_range around depth path nodes)
 
-  utf8_ranges : (resolve : Resolve) (topic : List ℕ) (depth : ℕ) (ranges : List Range) → ResolvesInUtf8 resolve
-      → AllByRecursion IsUtf8Range ranges → IsUtf8Made (ranges_made resolve topic depth ranges)
-  utf8_ranges resolve topic depth [] resolves all = tt
-  utf8_ranges resolve topic depth (range ∷ ranges) resolves all =
-      utf8_beside (resolve true topic depth range.path range.nodes).nodes (ranges_made resolve topic depth ranges).nodes
-      (resolves true topic depth range.path range.nodes all.0) (utf8_ranges resolve topic depth ranges resolves all.1)
+  utf8_ranges : (resolve : Resolve) (around : Around) (depth : ℕ) (ranges : List Range) → ResolvesInUtf8 resolve
+      → AllByRecursion IsUtf8Range ranges → IsUtf8Made (ranges_made resolve around depth ranges)
+  utf8_ranges resolve around depth [] resolves all = tt
+  utf8_ranges resolve around depth (range ∷ ranges) resolves all =
+      let there = declared_there range.declared around in
+      utf8_beside (resolve true there depth range.path range.nodes).nodes (ranges_made resolve around depth ranges).nodes
+      (resolves true there depth range.path range.nodes all.0) (utf8_ranges resolve around depth ranges resolves all.1)
 
   utf8_element_made : (is_range : Bool) (element : Element) (content : Made) → IsUtf8Element element
       → IsUtf8Made content → IsUtf8Made (element_made is_range element content)
   utf8_element_made is_range element content first second = (utf8_without_id is_range element first, second, tt)
 
-  utf8_made_of : (resolve : Resolve) (is_range : Bool) (topic : List ℕ) (depth : ℕ) (own : List ℕ → Made)
-      (found : Followed) → ResolvesInUtf8 resolve → ((here : List ℕ) → IsUtf8Made (own here)) → IsUtf8Followed found
-      → IsUtf8Made (made_of resolve setting is_range topic depth own found)
-  utf8_made_of resolve is_range topic depth own found resolves owns is =
-      let here = topic_within is_range found.element topic in
-      let deeper = resolve false here (depth + 1) found.path found.content in
+  utf8_made_of : (resolve : Resolve) (is_range : Bool) (around : Around) (depth : ℕ) (own : Around → Made)
+      (found : Followed) → ResolvesInUtf8 resolve → ((here : Around) → IsUtf8Made (own here)) → IsUtf8Followed found
+      → IsUtf8Made (made_of resolve setting is_range around depth own found)
+  utf8_made_of resolve is_range around depth own found resolves owns is =
+      let here = around_within is_range found.element around in
+      let there = declared_there found.declared here in
+      let deeper = resolve false there (depth + 1) found.path found.content in
       let kept = element_made is_range found.element deeper in
-      let judged = if goes setting found.element then record nothing_made { count = 1 } else kept in
-      chosen IsUtf8Made found.has_taken (made_with (group_faults found.element) judged)
+      let judged = if goes setting around.declared found.element then record nothing_made { count = 1 } else kept in
+      chosen IsUtf8Made found.has_taken (made_with (group_faults around.declared found.element) judged)
       (element_made is_range found.element (own here))
-      (chosen IsUtf8Made (goes setting found.element) (record nothing_made { count = 1 }) kept tt
+      (chosen IsUtf8Made (goes setting around.declared found.element) (record nothing_made { count = 1 }) kept tt
       (utf8_element_made is_range found.element deeper is.element
-      (resolves false here (depth + 1) found.path found.content is.content)))
+      (resolves false there (depth + 1) found.path found.content is.content)))
       (utf8_element_made is_range found.element (own here) is.element (owns here))
 
-  utf8_element : (resolve : Resolve) (is_range : Bool) (topic : List ℕ) (depth : ℕ) (path : List Place)
-      (element : Element) (inside : Written) (own : List ℕ → Made) → ResolvesInUtf8 resolve → IsUtf8Element element
-      → IsUtf8Content inside → ((here : List ℕ) → IsUtf8Made (own here))
-      → IsUtf8Made (element_resolved resolve setting is_range topic depth path element inside own)
-  utf8_element resolve is_range topic depth path element inside own resolves first second owns =
-      let here = topic_for is_range element topic in
-      let found = followed setting here depth path element inside in
-      let found_is = utf8_followed_from (path_limit + 1) here depth path element inside first second in
+  utf8_element : (resolve : Resolve) (is_range : Bool) (around : Around) (depth : ℕ) (path : List Place)
+      (element : Element) (inside : Written) (own : Around → Made) → ResolvesInUtf8 resolve → IsUtf8Element element
+      → IsUtf8Content inside → ((here : Around) → IsUtf8Made (own here))
+      → IsUtf8Made (element_resolved resolve setting is_range around depth path element inside own)
+  utf8_element resolve is_range around depth path element inside own resolves first second owns =
+      let here = around_for is_range element around in
+      let found = followed setting here.topic depth path element inside in
+      let found_is = utf8_followed_from (path_limit + 1) here.topic depth path element inside first second in
       let made = made_of resolve setting is_range here depth own found in
-      let ranges = ranges_made resolve topic depth found.ranges in
-      chosen IsUtf8Made (goes setting element) nothing_made (made_with found.faults (made_beside made ranges)) tt
+      let ranges = ranges_made resolve around depth found.ranges in
+      chosen IsUtf8Made (goes setting here.declared element) nothing_made (made_with found.faults (made_beside made ranges)) tt
       (utf8_beside made.nodes ranges.nodes (utf8_made_of resolve is_range here depth own found resolves owns found_is)
-      (utf8_ranges resolve topic depth found.ranges resolves found_is.ranges))
+      (utf8_ranges resolve around depth found.ranges resolves found_is.ranges))
 
-  utf8_among : (resolve : Resolve) (is_range : Bool) (topic : List ℕ) (depth : ℕ) (path : List Place) (nodes : Written)
+  utf8_among : (resolve : Resolve) (is_range : Bool) (around : Around) (depth : ℕ) (path : List Place) (nodes : Written)
       → ResolvesInUtf8 resolve → IsUtf8Content nodes
-      → IsUtf8Made (resolved_among resolve setting is_range topic depth path nodes)
-  utf8_among resolve is_range topic depth path End resolves all = tt
-  utf8_among resolve is_range topic depth path (Chars text doc rest) resolves all =
-      utf8_beside (Chars text doc End) (resolved_among resolve setting is_range topic depth path rest).nodes (all.0, tt)
-      (utf8_among resolve is_range topic depth path rest resolves all.1)
-  utf8_among resolve is_range topic depth path (Node element inside rest) resolves all =
-      let own = λ (here : List ℕ). resolved_among resolve setting false here (depth + 1) path inside in
-      utf8_beside (element_resolved resolve setting is_range topic depth path element inside own).nodes
-      (resolved_among resolve setting is_range topic depth path rest).nodes
-      (utf8_element resolve is_range topic depth path element inside own resolves all.0 all.1
+      → IsUtf8Made (resolved_among resolve setting is_range around depth path nodes)
+  utf8_among resolve is_range around depth path End resolves all = tt
+  utf8_among resolve is_range around depth path (Chars text doc rest) resolves all =
+      utf8_beside (Chars text doc End) (resolved_among resolve setting is_range around depth path rest).nodes (all.0, tt)
+      (utf8_among resolve is_range around depth path rest resolves all.1)
+  utf8_among resolve is_range around depth path (Node element inside rest) resolves all =
+      let own = λ (here : Around). resolved_among resolve setting false here (depth + 1) path inside in
+      utf8_beside (element_resolved resolve setting is_range around depth path element inside own).nodes
+      (resolved_among resolve setting is_range around depth path rest).nodes
+      (utf8_element resolve is_range around depth path element inside own resolves all.0 all.1
       (λ here. utf8_among resolve false here (depth + 1) path inside resolves all.1))
-      (utf8_among resolve is_range topic depth path rest resolves all.2)
+      (utf8_among resolve is_range around depth path rest resolves all.2)
 
   utf8_resolved_from : (steps : ℕ) → ResolvesInUtf8 (resolved_from steps setting)
   unfolding resolved_from
-  utf8_resolved_from zero is_range topic depth path nodes all = tt
-  utf8_resolved_from (suc steps) is_range topic depth path nodes all =
-      utf8_among (resolved_from steps setting) is_range topic depth path nodes (utf8_resolved_from steps) all
+  utf8_resolved_from zero is_range around depth path nodes all = tt
+  utf8_resolved_from (suc steps) is_range around depth path nodes all =
+      utf8_among (resolved_from steps setting) is_range around depth path nodes (utf8_resolved_from steps) all
 
   pub utf8_resolved : (limit : ℕ) (faults : List Fault) → IsUtf8Content (resolved_page limit faults setting).nodes
   utf8_resolved limit faults =
       let root = page_root setting in
       let root_is : IsUtf8Content root =
       of_option IsUtf8Content (setting.pushed setting.page) End (of_setting.pushed setting.page of_setting.page) tt in
-      let made = resolved_in setting [] 1 root in
+      let made = resolved_in setting nothing_around 1 root in
       chosen IsUtf8Made (nat_le made.count limit) made (record { nodes = End; count = limit + 1; faults = faults })
-      (utf8_resolved_from (path_limit + 1) false [] 1 [] root root_is) tt
+      (utf8_resolved_from (path_limit + 1) false nothing_around 1 [] root root_is) tt

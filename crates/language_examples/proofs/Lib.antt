@@ -10,6 +10,7 @@ mod ChainRows
 mod PageRows
 mod TitleRows
 mod ContentRows
+mod DomainRows
 mod PushRows
 mod LimitRows
 mod LinkRows

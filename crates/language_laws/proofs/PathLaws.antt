@@ -98,25 +98,25 @@ left_unchanged path element inside faults is =
     record { own = is; on = refl; ranges = All-nil (IsRangeFrom path) }
 
 -- a range behind a path that goes on
-range_on : (path longer : List Place) (nodes : Written) → IsPath longer → GoesOn path longer
-    → All (IsRangeFrom path) (range_behind nodes longer)
-range_on path longer End is on = All-nil (IsRangeFrom path)
-range_on path longer (Chars text doc rest) is on =
+range_on : (path longer : List Place) (nodes : Written) (around : List (List ℕ)) → IsPath longer → GoesOn path longer
+    → All (IsRangeFrom path) (range_behind nodes around longer)
+range_on path longer End around is on = All-nil (IsRangeFrom path)
+range_on path longer (Chars text doc rest) around is on =
     All-cons (IsRangeFrom path) _ [] (is, on) (All-nil (IsRangeFrom path))
-range_on path longer (Node element inside rest) is on =
+range_on path longer (Node element inside rest) around is on =
     All-cons (IsRangeFrom path) _ [] (is, on) (All-nil (IsRangeFrom path))
 
 -- an element that takes from a target that was followed in turn
-target_taken : (path longer : List Place) (element : Element) (range : Written) (before : List Fault)
-    (target : Followed) → IsPath longer → GoesOn path longer → HasPaths longer target
-    → HasPaths path (taken element range longer before target)
-target_taken path longer element range before target is on has = record {
+target_taken : (path longer : List Place) (element : Element) (around : List (List ℕ)) (written : Element)
+    (range : Written) (before : List Fault) (target : Followed) → IsPath longer → GoesOn path longer → HasPaths longer target
+    → HasPaths path (taken element around written range longer before target)
+target_taken path longer element around written range before target is on has = record {
   own = has.own;
   on = on_further target.has_taken path longer target.path on has.on;
-  ranges = All-append (IsRangeFrom path) target.ranges (range_behind range longer)
+  ranges = All-append (IsRangeFrom path) target.ranges (range_behind range around longer)
       (All-weaker (IsRangeFrom longer) (IsRangeFrom path)
       (λ other from. (from.0, on_further true path longer other.path on from.1)) target.ranges has.ranges)
-      (range_on path longer range is on);
+      (range_on path longer range around is on);
 }
 
 -- a function that follows references and gives this
@@ -138,7 +138,7 @@ or_refused follow value depth path element inside before target None follows is 
       distinct = distinct_behind path (place_of target) is.distinct passed.0;
       short = omega (arith, passed.1, length_push path (place_of target));
     } in
-    target_taken path longer element _ before _ goes_on (on_by_one path (place_of target))
+    target_taken path longer element _ target.standing.whole.0 _ before _ goes_on (on_by_one path (place_of target))
     (follows longer target.standing.whole.0 target.standing.whole.1 goes_on)
 
 -- a reference, whether its target was found or not

@@ -9,12 +9,14 @@ use Rattle.ditaval_rules.specs.declared.rules.RulesRead.{RulesRead}
 use Rattle.reader_spec.specs.World.{World}
 use Rattle.map_spec.specs.Branches.{ditaval_in}
 use Rattle.map_spec.specs.Cascade.{whole_at}
+use Rattle.map_spec.specs.Judged.{declared_in}
 use Rattle.map_spec.specs.Written.{Whole}
 
--- rules exclude a node's element
+-- rules exclude a node's element, by the names that are declared for it
 abbrev pub are_excluding : World → PlanNode → List Rule → Bool
 are_excluding world node rules =
-    option_map_or (λ (whole : Whole). excluded rules whole.0.attributes) (whole_at world node) false
+    option_map_or (λ (whole : Whole). excluded rules (declared_in world node.doc node.place) whole.0.attributes)
+    (whole_at world node) false
 
 -- a DITAVAL does
 abbrev pub is_excluded_by : World → PlanNode → List ℕ → Bool

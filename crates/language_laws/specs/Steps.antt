@@ -9,7 +9,7 @@ use Rattle.map_spec.specs.Keys.{chain, chain_from}
 use Rattle.map_spec.specs.Pages.{free_from}
 use Rattle.map_spec.specs.Scopes.{found, found_from, qualified}
 use Rattle.map_spec.specs.Written.{Element, Whole, Written}
-use Rattle.conref_spec.specs.Content.{Place, Setting, followed_from, path_limit, resolved_from}
+use Rattle.conref_spec.specs.Content.{Around, Place, Setting, followed_from, path_limit, resolved_from}
 use Rattle.html_spec.specs.Contents.{items, items_from}
 
 -- a map with its submaps within a limit, or that it has too many nodes
@@ -56,6 +56,6 @@ FollowedIsWhole = (setting : Setting) (topic : List ℕ) (depth more : ℕ) (pat
     ≡ followed_from (path_limit + 1) setting topic depth path element inside
 
 abbrev pub ResolvedIsWhole : Type 0
-ResolvedIsWhole = (setting : Setting) (topic : List ℕ) (depth more : ℕ) (nodes : Written)
-    → resolved_from (path_limit + 1 + more) setting false topic depth [] nodes
-    ≡ resolved_from (path_limit + 1) setting false topic depth [] nodes
+ResolvedIsWhole = (setting : Setting) (around : Around) (depth more : ℕ) (nodes : Written)
+    → resolved_from (path_limit + 1 + more) setting false around depth [] nodes
+    ≡ resolved_from (path_limit + 1) setting false around depth [] nodes

@@ -1,6 +1,6 @@
 -- Filtering a map by a DITAVAL (DITA 1.3, "Conditional processing (profiling)", "Filtering based on metadata
 -- attributes"). A node that is excluded goes with all below it; that the root is never judged is our own.
-use Rattle.std.specs.Prelude.{◌&&◌, Bool, true, false, List, [], ◌++◌, Option, None, filter, map, if◌then◌else◌}
+use Rattle.std.specs.Prelude.{◌&&◌, ℕ, Bool, true, false, List, [], ◌++◌, Option, None, filter, map, if◌then◌else◌}
 use Rattle.std.specs.Option.{option_map_or}
 use Rattle.dita_doc.specs.declared.content.Rule.{Rule}
 use Rattle.dita_doc.specs.declared.doc.Attribute.{Attribute}
@@ -8,7 +8,9 @@ use Rattle.dita_doc.specs.declared.fault.Fault.{Fault}
 use Rattle.dita_doc.specs.declared.fault.FaultCode.TheVariants as faults
 use Rattle.dita_doc.specs.declared.plan.PlanKind.{PlanKind}
 use Rattle.dita_doc.specs.declared.plan.PlanKind.TheVariants as kinds
-use Rattle.ditaval_rules.specs.Verdict.{excluded, is_conditional, is_grouped}
+use Rattle.dita_doc.specs.Tree.{Content}
+use Rattle.ditaval_rules.specs.Domains.{declared_at}
+use Rattle.ditaval_rules.specs.Verdict.{excluded, is_conditional_among, is_grouped}
 use Rattle.reader_spec.specs.World.{World}
 use Rattle.map_spec.specs.Elements.{fault_at}
 use Rattle.map_spec.specs.MapTree.{Grown, Head, MapTree, NoNodes, MapNode, beside, no_growth, with_faults}
@@ -22,20 +24,28 @@ has_element _ = true
 abbrev pub whole_of : World → Head → Option Whole
 whole_of world head = if has_element head.kind then element_in world head.doc head.place else None
 
--- a value of groups counts as absent, with a fault
-abbrev pub is_group : Attribute → Bool
-is_group written = is_conditional written.name && is_grouped written.value
+-- the names of conditional attributes that are declared for this element
+abbrev pub declared_in : World → List ℕ → ℕ → List (List ℕ)
+declared_in world doc place = option_map_or (λ (tree : Content). declared_at [] tree place) (world doc) []
 
-abbrev pub group_faults : Element → List Fault
-group_faults element =
-    map (λ (written : Attribute). fault_at element faults.GroupValue written.name) (filter is_group element.attributes)
+abbrev pub declared_of : World → Head → List (List ℕ)
+declared_of world head = declared_in world head.doc head.place
+
+-- a value of groups counts as absent, with a fault
+abbrev pub is_group : List (List ℕ) → Attribute → Bool
+is_group declared written = is_conditional_among declared written.name && is_grouped written.value
+
+abbrev pub group_faults : List (List ℕ) → Element → List Fault
+group_faults declared element = map (λ (written : Attribute). fault_at element faults.GroupValue written.name)
+    (filter (is_group declared) element.attributes)
 
 abbrev pub group_faults_of : World → Head → List Fault
-group_faults_of world head = option_map_or (λ (whole : Whole). group_faults whole.0) (whole_of world head) []
+group_faults_of world head =
+    option_map_or (λ (whole : Whole). group_faults (declared_of world head) whole.0) (whole_of world head) []
 
 abbrev pub is_excluded : World → List Rule → Head → Bool
-is_excluded world rules head =
-    option_map_or (λ (whole : Whole). excluded rules whole.0.attributes) (whole_of world head) false
+is_excluded world rules head = option_map_or
+    (λ (whole : Whole). excluded rules (declared_of world head) whole.0.attributes) (whole_of world head) false
 
 -- the nodes that rules leave
 abbrev pub kept : World → List Rule → MapTree → MapTree

@@ -20,31 +20,42 @@ rule att val action = record { att = att; val = val; action = action }
 abbrev no_x : List Rule
 no_x = rule (Some (codes "audience")) (Some (codes "x")) actions.Exclude ∷ []
 
-one_token : excluded no_x (given (codes "audience") (codes "x") ∷ given (codes "platform") (codes "z") ∷ []) ≡ true
+one_token : excluded no_x [] (given (codes "audience") (codes "x") ∷ given (codes "platform") (codes "z") ∷ []) ≡ true
 one_token = refl
 
-two_tokens : excluded no_x (given (codes "audience") (codes "x y") ∷ []) ≡ false
+two_tokens : excluded no_x [] (given (codes "audience") (codes "x y") ∷ []) ≡ false
 two_tokens = refl
 
-no_tokens : excluded no_x (given (codes "audience") (codes " ") ∷ []) ≡ false
+no_tokens : excluded no_x [] (given (codes "audience") (codes " ") ∷ []) ≡ false
 no_tokens = refl
 
-groups : excluded no_x (given (codes "audience") (codes "x a(x)") ∷ []) ≡ false
+groups : excluded no_x [] (given (codes "audience") (codes "x a(x)") ∷ []) ≡ false
 groups = refl
 
-other_attribute : excluded (rule None None actions.Exclude ∷ []) (given (codes "class") (codes "x") ∷ []) ≡ false
+other_attribute : excluded (rule None None actions.Exclude ∷ []) [] (given (codes "class") (codes "x") ∷ []) ≡ false
 other_attribute = refl
 
-by_default : excluded (rule None None actions.Exclude ∷ []) (given (codes "product") (codes "x") ∷ []) ≡ true
+by_default : excluded (rule None None actions.Exclude ∷ []) [] (given (codes "product") (codes "x") ∷ []) ≡ true
 by_default = refl
 
 attribute_wins : excluded (rule None None actions.Exclude ∷ rule (Some (codes "props")) None actions.Passthrough ∷ [])
-    (given (codes "props") (codes "x") ∷ []) ≡ false
+    [] (given (codes "props") (codes "x") ∷ []) ≡ false
 attribute_wins = refl
 
 token_wins : excluded (rule (Some (codes "props")) None actions.Include
-    ∷ rule (Some (codes "props")) (Some (codes "x")) actions.Exclude ∷ []) (given (codes "props") (codes "x") ∷ []) ≡ true
+    ∷ rule (Some (codes "props")) (Some (codes "x")) actions.Exclude ∷ []) [] (given (codes "props") (codes "x") ∷ []) ≡ true
 token_wins = refl
+
+-- an attribute that is declared counts like the others, and one that is not says nothing
+
+abbrev no_role : List Rule
+no_role = rule (Some (codes "jobrole")) (Some (codes "x")) actions.Exclude ∷ []
+
+declared_attribute : excluded no_role (codes "jobrole" ∷ []) (given (codes "jobrole") (codes "x") ∷ []) ≡ true
+declared_attribute = refl
+
+other_declared : excluded no_role (codes "other" ∷ []) (given (codes "jobrole") (codes "x") ∷ []) ≡ false
+other_declared = refl
 
 -- Readings
 

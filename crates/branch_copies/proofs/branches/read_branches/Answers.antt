@@ -1,9 +1,7 @@
 use Rattle.std.proofs.Common.{◌≡◌, ◌∙◌, [], arith, length, refl, rules, vec_len}
-use Rattle.readers.proofs.DocumentLaws.{asks_after, asks_same}
 use Rattle.readers.proofs.FoundedLaws.{stays_after, stays_same}
 use Rattle.readers.proofs.GrowthLaws.{agrees_before, grows_same, grows_trans}
-use Rattle.branch_copies.specs.Ditavalrefs.{ditaval_targets}
-use Rattle.branch_copies.proofs.DitavalrefLaws.{given_later}
+use Rattle.branch_copies.proofs.DitavalrefLaws.{ditavals_after, ditavals_same, given_later}
 use Rattle.branch_copies.proofs.ReadingLaws.{reading_begins, reading_ends, reading_next}
 use Rattle.branch_copies.proofs.branches.read_branches.Goals as goal
 
@@ -15,7 +13,7 @@ loop-at-init g c = record {
   stand = refl;
   grows = grows_same _;
   founded = stays_same [] _ _ refl;
-  asks = λ refs. asks_same ditaval_targets [] _ _ refl;
+  asks = ditavals_same _ _ [] _ _ refl;
 }
 
 pub loop-at-preserved : goal.loop-at-preserved
@@ -37,7 +35,7 @@ loop-at-preserved g c = record {
   stand = c.in_ok-next.ensures.stand ∙ c.loop-at.invariant.stand;
   grows = grows_trans _ _ _ c.loop-at.invariant.grows c.in_ok-next.ensures.grows;
   founded = stays_after [] _ _ _ c.loop-at.invariant.grows c.loop-at.invariant.founded c.in_ok-next.ensures.founded;
-  asks = λ refs. asks_after ditaval_targets [] _ _ _ c.loop-at.invariant.grows (c.loop-at.invariant.asks refs) (c.in_ok-next.ensures.asks refs);
+  asks = ditavals_after _ _ _ _ _ c.loop-at.invariant.grows c.loop-at.invariant.asks c.in_ok-next.ensures.asks;
 }
 
 pub returns-clause-known : goal.returns-clause-known
@@ -58,8 +56,8 @@ pub returns-in_err-next-clause-founded : goal.returns-in_err-next-clause-founded
 returns-in_err-next-clause-founded g c = stays_after [] _ _ _ c.loop-at.invariant.grows c.loop-at.invariant.founded c.read_from.ensures.founded
 
 pub returns-in_err-next-clause-asks : goal.returns-in_err-next-clause-asks
-returns-in_err-next-clause-asks g c = λ refs.
-    asks_after ditaval_targets [] _ _ _ c.loop-at.invariant.grows (c.loop-at.invariant.asks refs) (c.read_from.ensures.asks refs)
+returns-in_err-next-clause-asks g c =
+    ditavals_after _ _ _ _ _ c.loop-at.invariant.grows c.loop-at.invariant.asks c.read_from.ensures.asks
 
 pub returns-in_err-push-clause-stand : goal.returns-in_err-push-clause-stand
 returns-in_err-push-clause-stand g c = c.read_from.ensures.stand ∙ c.loop-at.invariant.stand
@@ -71,8 +69,8 @@ pub returns-in_err-push-clause-founded : goal.returns-in_err-push-clause-founded
 returns-in_err-push-clause-founded g c = stays_after [] _ _ _ c.loop-at.invariant.grows c.loop-at.invariant.founded c.read_from.ensures.founded
 
 pub returns-in_err-push-clause-asks : goal.returns-in_err-push-clause-asks
-returns-in_err-push-clause-asks g c = λ refs.
-    asks_after ditaval_targets [] _ _ _ c.loop-at.invariant.grows (c.loop-at.invariant.asks refs) (c.read_from.ensures.asks refs)
+returns-in_err-push-clause-asks g c =
+    ditavals_after _ _ _ _ _ c.loop-at.invariant.grows c.loop-at.invariant.asks c.read_from.ensures.asks
 
 pub returns-clause-stand : goal.returns-clause-stand
 returns-clause-stand g c = c.loop-at.invariant.stand

@@ -1,11 +1,10 @@
 use Rattle.std.proofs.Common.{◌≡◌, [], length, map}
 use Rattle.map_spec.specs.Cascade.{whole_at}
 use Rattle.map_spec.specs.MapTree.{MapTree, count}
-use Rattle.readers.specs.Documents.{AsksOnly}
 use Rattle.readers.specs.Founded.{Grows, StaysFounded}
 use Rattle.readers.specs.Told.{Agrees}
 use Rattle.reader_spec.specs.World.{World}
-use Rattle.branch_copies.specs.Ditavalrefs.{AreDitavalrefs, ditaval_targets}
+use Rattle.branch_copies.specs.Ditavalrefs.{AsksDitavals}
 use Rattle.branch_copies.specs.Ditavals.{AreKnown}
 use Rattle.branch_copies.specs.Reading.{IsReading}
 use Rattle.branch_copies.specs.Stands.{StandsAt}
@@ -20,6 +19,5 @@ invariant-loop-at g l = record {
   stand : g.R.Reader.stand l.reader ≡ g.R.Reader.stand l.fn.reader;
   grows : Grows (g.R.Reader.told l.fn.reader) (g.R.Reader.told l.reader);
   founded : StaysFounded [] (g.R.Reader.told l.fn.reader) (g.R.Reader.told l.reader);
-  asks : AreDitavalrefs l.homes l.nodes
-      → AsksOnly ditaval_targets [] (g.R.Reader.told l.fn.reader) (g.R.Reader.told l.reader);
+  asks : AsksDitavals l.homes l.nodes [] (g.R.Reader.told l.fn.reader) (g.R.Reader.told l.reader);
 }

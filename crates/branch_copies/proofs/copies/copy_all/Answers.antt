@@ -8,12 +8,13 @@ use Rattle.branch_copies.specs.declared.node.Source.{Source}
 use Rattle.branch_copies.proofs.EndLaws.{begun, ended_all, ends_of, finished, one_root, stopped}
 use Rattle.branch_copies.proofs.copies.copy_all.Goals as goal
 
-pub returns-in-Err : goal.returns-in-Err
-returns-in-Err c = λ world head below defined kind are homes names read have.
+pub returns-in-Err-clause-copied : goal.returns-in-Err-clause-copied
+returns-in-Err-clause-copied c = λ world head below defined kind are homes declared names read have.
     let tree : MapTree = MapNode head below NoNodes in
     let source : Source = record {
       nodes = c.args.nodes;
       homes = c.args.homes;
+      declared = c.in_ok-each.field-0;
       names = c.args.names;
       branches = c.deref.result;
       spans = c.deref-2.result;
@@ -22,6 +23,7 @@ returns-in-Err c = λ world head below defined kind are homes names read have.
     let is : IsSource world source defined = record {
       ditavals = c.args.ditavals.now.read.items;
       homes = homes;
+      declared = c.in_ok-each.ensures world declared;
       names = names;
       read = subst (λ all. AreRead c.args.ditavals.now.read.items c.args.nodes.now all defined)
           (sym c.deref.ensures.value) read;
@@ -33,12 +35,13 @@ returns-in-Err c = λ world head below defined kind are homes names read have.
     c.in_ok-copying.ensures.left are refl
     (subst (λ spans. HaveBranches world spans defined 0 tree) (sym c.deref-2.ensures.value) have)))
 
-pub returns : goal.returns
-returns c = λ world head below defined kind are homes names read have.
+pub returns-clause-copied : goal.returns-clause-copied
+returns-clause-copied c = λ world head below defined kind are homes declared names read have.
     let tree : MapTree = MapNode head below NoNodes in
     let source : Source = record {
       nodes = c.args.nodes;
       homes = c.args.homes;
+      declared = c.in_ok-each.field-0;
       names = c.args.names;
       branches = c.deref.result;
       spans = c.deref-2.result;
@@ -47,6 +50,7 @@ returns c = λ world head below defined kind are homes names read have.
     let is : IsSource world source defined = record {
       ditavals = c.args.ditavals.now.read.items;
       homes = homes;
+      declared = c.in_ok-each.ensures world declared;
       names = names;
       read = subst (λ all. AreRead c.args.ditavals.now.read.items c.args.nodes.now all defined)
           (sym c.deref.ensures.value) read;

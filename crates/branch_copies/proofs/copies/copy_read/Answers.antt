@@ -6,20 +6,20 @@ use Rattle.map_spec.specs.MapTree.{MapNode, MapTree, NoNodes}
 use Rattle.branch_copies.proofs.EndLaws.{stop_same, with_faults}
 use Rattle.branch_copies.proofs.copies.copy_read.Goals as goal
 
-pub returns-in-Err : goal.returns-in-Err
-returns-in-Err c = λ world head below kind are homes read.
+pub returns-in-Err-clause-copied : goal.returns-in-Err-clause-copied
+returns-in-Err-clause-copied c = λ world head below kind are homes declared read.
     let tree : MapTree = MapNode head below NoNodes in
     stop_same (branched node_limit world tree) c.in-Err.stop
-    (c.in-Err.ensures world head below read.defined kind are homes
+    (c.in-Err.ensures.copied world head below read.defined kind are homes declared
     (λ parent at h b more stands. ap (λ names. slice_get names at) c.deref.ensures.value
     ∙ c.in_ok-names.ensures world parent at h b more homes stands)
     read.are read.have)
 
-pub returns : goal.returns
-returns c = λ world head below kind are homes read.
+pub returns-clause-copied : goal.returns-clause-copied
+returns-clause-copied c = λ world head below kind are homes declared read.
     let tree : MapTree = MapNode head below NoNodes in
     with_faults world tree c.in-Ok.copies c.args.read.faults read.faults
-    (c.in-Ok.ensures world head below read.defined kind are homes
+    (c.in-Ok.ensures.copied world head below read.defined kind are homes declared
     (λ parent at h b more stands. ap (λ names. slice_get names at) c.deref.ensures.value
     ∙ c.in_ok-names.ensures world parent at h b more homes stands)
     read.are read.have)

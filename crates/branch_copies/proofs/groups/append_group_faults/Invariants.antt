@@ -9,5 +9,5 @@ use Rattle.branch_copies.proofs.groups.append_group_faults.Given as goal
 abbrev pub invariant-loop-attribute : goal.invariant-loop-attribute
 invariant-loop-attribute l = l.faults
     ++ map (λ (written : Attribute). fault_at (element_of l.name l.element) fault_codes.GroupValue written.name)
-    (filter is_group (drop l.attribute-index l.attribute-items))
-    ≡ l.fn.faults ++ group_faults (element_of l.name l.element)
+    (filter (is_group l.declared) (drop l.attribute-index l.attribute-items))
+    ≡ l.fn.faults ++ group_faults l.declared (element_of l.name l.element)

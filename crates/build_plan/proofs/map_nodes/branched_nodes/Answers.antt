@@ -1,3 +1,4 @@
+use Rattle.branch_copies.proofs.DitavalrefLaws.{asks_refs}
 use Rattle.map_expand.proofs.AskedForLaws.{asked_later, stays_asked}
 use Rattle.readers.proofs.GrowthLaws.{agrees_before}
 use Rattle.build_plan.proofs.HomeLaws.{asked_fewer}
@@ -52,22 +53,25 @@ pub returns-in-Err-copy_branches-clause-asks : goal.returns-in-Err-copy_branches
 returns-in-Err-copy_branches-clause-asks g c =
     let before = c.filtered_nodes.new.reader in
     asks_ditavals _ _ _ _ _ c.filtered_nodes.ensures.asks c.in-Ok.ensures.asked
-    (c.copy_branches.ensures.asks (are_ditavalrefs (g.R.Reader.stand before).world c.args.rules.now c.args.map.now c.in-Ok.made
-    (c.in-Ok.ensures.known (g.R.Reader.stand before).world (g.met.R.Reader.agrees before))))
+    (asks_refs _ _ _ _ _ (are_ditavalrefs (g.R.Reader.stand before).world c.args.rules.now c.args.map.now c.in-Ok.made
+    (c.in-Ok.ensures.known (g.R.Reader.stand before).world (g.met.R.Reader.agrees before)))
+    c.copy_branches.ensures.asks)
 
 pub returns-in_err-append_faults-clause-asks : goal.returns-in_err-append_faults-clause-asks
 returns-in_err-append_faults-clause-asks g c =
     let before = c.filtered_nodes.new.reader in
     asks_ditavals _ _ _ _ _ c.filtered_nodes.ensures.asks c.in-Ok.ensures.asked
-    (c.copy_branches.ensures.asks (are_ditavalrefs (g.R.Reader.stand before).world c.args.rules.now c.args.map.now c.in-Ok.made
-    (c.in-Ok.ensures.known (g.R.Reader.stand before).world (g.met.R.Reader.agrees before))))
+    (asks_refs _ _ _ _ _ (are_ditavalrefs (g.R.Reader.stand before).world c.args.rules.now c.args.map.now c.in-Ok.made
+    (c.in-Ok.ensures.known (g.R.Reader.stand before).world (g.met.R.Reader.agrees before)))
+    c.copy_branches.ensures.asks)
 
 pub returns-clause-asks : goal.returns-clause-asks
 returns-clause-asks g c =
     let before = c.filtered_nodes.new.reader in
     asks_ditavals _ _ _ _ _ c.filtered_nodes.ensures.asks c.in-Ok.ensures.asked
-    (c.copy_branches.ensures.asks (are_ditavalrefs (g.R.Reader.stand before).world c.args.rules.now c.args.map.now c.in-Ok.made
-    (c.in-Ok.ensures.known (g.R.Reader.stand before).world (g.met.R.Reader.agrees before))))
+    (asks_refs _ _ _ _ _ (are_ditavalrefs (g.R.Reader.stand before).world c.args.rules.now c.args.map.now c.in-Ok.made
+    (c.in-Ok.ensures.known (g.R.Reader.stand before).world (g.met.R.Reader.agrees before)))
+    c.copy_branches.ensures.asks)
 
 pub returns-clause-filters : goal.returns-clause-filters
 returns-clause-filters g c = λ roots.

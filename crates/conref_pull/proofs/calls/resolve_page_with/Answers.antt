@@ -1,4 +1,4 @@
-use Rattle.std.proofs.Common.{Option, unwrap_or, false, [], sym, ap, refl, subst, ◌∙◌}
+use Rattle.std.proofs.Common.{ℕ, List, Option, unwrap_or, false, [], sym, ap, refl, subst, ◌∙◌}
 use Rattle.std.specs.Arc.{arc_value}
 use Rattle.std.specs.declared.alloc.Global.{Global}
 use Rattle.std.specs.declared.sync.Arc.{Arc}
@@ -7,7 +7,7 @@ use Rattle.dita_doc.specs.declared.doc.Doc.{Doc}
 use Rattle.dita_doc.specs.declared.plan.Context.{Context}
 use Rattle.map_spec.specs.Written.{Written}
 use Rattle.readers.specs.Documents.{IsGiven}
-use Rattle.conref_spec.specs.Content.{Made, page_root, resolved_in}
+use Rattle.conref_spec.specs.Content.{Made, nothing_around, page_root, resolved_in}
 use Rattle.map_spec.specs.Written.{End}
 use Rattle.readers.specs.Named.{named_found, named_tree, reused_in}
 use Rattle.readers.specs.Setting.{Stand}
@@ -21,7 +21,7 @@ use Rattle.conref_pull.specs.Putting.{built}
 use Rattle.conref_pull.specs.Resolved.{IsResolved, too_many_faults}
 use Rattle.conref_pull.specs.Rules.{ditavals, page_rules}
 use Rattle.conref_pull.specs.Setting.{setting_of}
-use Rattle.conref_pull.specs.Walking.{among_made}
+use Rattle.conref_pull.specs.Walking.{among_made, seen_by}
 use Rattle.conref_pull.proofs.AskingLaws.{about_next, about_page, about_rules, about_then, given_reused, none_among}
 use Rattle.conref_pull.proofs.CallLaws.{Begins, all_made, done_of, here_begins, none_made, ready_begins, setting_begins, tables_kept}
 use Rattle.conref_pull.proofs.OriginLaws.{content_named}
@@ -124,14 +124,16 @@ returns-clause-known g c = λ world agrees rules tables.
     let root = content_named c.of-2.result c.deref.result.now c.of-2.ensures.content c.of-2.ensures.document
     ∙ ap named_tree c.deref.ensures
     ∙ ap (λ (found : Option Written). unwrap_or found End) (ap named_found (sym c.in-Some.is) ∙ c.in_ok-doc.ensures.known world (agrees_before world _ _ c.in_ok-read.ensures.grows read)) in
-    c.finish.ensures.known world (resolved_in setting [] 1 (page_root setting)) agrees
-    (done_of c.siblings-done.result setting.pushed 0 (resolved_in setting [] 1 (page_root setting))
+    c.finish.ensures.known world (resolved_in setting nothing_around 1 (page_root setting)) agrees
+    (done_of c.siblings-done.result setting.pushed 0 (resolved_in setting nothing_around 1 (page_root setting))
     c.new-resolver.result c.siblings-done.new.self c.siblings-done.new.places begins
     (walks_as c.siblings-done.result setting.pushed 0
-    (among_made (here_begins setting 1) false [] (named_content c.of-2.result))
-    (resolved_in setting [] 1 (page_root setting)) c.new-resolver.result c.siblings-done.new.self
+    (among_made (here_begins setting 1) false (seen_by [] c.new-declared.result) (named_content c.of-2.result))
+    (resolved_in setting nothing_around 1 (page_root setting)) c.new-resolver.result c.siblings-done.new.self
     c.siblings-done.new.places
-    (all_made setting [] 1 (named_content c.of-2.result) ∙ ap (resolved_in setting [] 1) root)
+    (all_made setting (seen_by [] c.new-declared.result) 1 (named_content c.of-2.result)
+    ∙ ap (λ (names : List (List ℕ)). resolved_in setting (seen_by [] names) 1 (named_content c.of-2.result))
+    c.new-declared.ensures ∙ ap (resolved_in setting nothing_around 1) root)
     (c.siblings-done.ensures.known world (here_begins setting 1) later ready))))
 
 pub returns-clause-kept : goal.returns-clause-kept
@@ -158,7 +160,7 @@ returns-clause-kept g c = λ world agrees rules tables.
     (λ memory. (
       are,
       tables_kept c.siblings-done.result setting.pushed 0
-          (among_made (here_begins setting 1) false [] (named_content c.of-2.result)) c.new-resolver.result
+          (among_made (here_begins setting 1) false (seen_by [] c.new-declared.result) (named_content c.of-2.result)) c.new-resolver.result
           c.siblings-done.new.self c.siblings-done.new.places memory
           (c.siblings-done.ensures.known world (here_begins setting 1) later ready),
     )) c.finish.ensures.memory)

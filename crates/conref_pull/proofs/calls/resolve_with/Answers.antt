@@ -26,7 +26,7 @@ use Rattle.conref_pull.proofs.HrefGivenLaws.{found_named}
 use Rattle.conref_pull.proofs.HrefLaws.{building_later, linked_allowed, nodes_later}
 use Rattle.conref_pull.proofs.RuleLaws.{rules_of_page}
 use Rattle.conref_pull.proofs.WalkLaws.{walks_as}
-use Rattle.conref_pull.specs.Around.{Around, alone_at, around_at, nothing_around}
+use Rattle.conref_pull.specs.Around.{Stands, alone_at, around_at, nothing_around, standing_shown}
 use Rattle.conref_pull.proofs.StandingLaws.{node_walks}
 use Rattle.conref_pull.proofs.calls.resolve_with.Goals as goal
 
@@ -56,6 +56,14 @@ returns-in_err-rules-clause-founded g c = (about_rules (g.A.Reader.stand c.args.
 
 pub returns-in_err-rules-clause-asks : goal.returns-in_err-rules-clause-asks
 returns-in_err-rules-clause-asks g c = (about_rules (g.A.Reader.stand c.args.asker.now).setting.nodes _ _ _ _ _ c.pushed.ensures.grows c.pushed.ensures.founded c.pushed.ensures.asks
+    c.read.ensures.founded c.read.ensures.asks).asks
+
+pub returns-in_err-standing-clause-founded : goal.returns-in_err-standing-clause-founded
+returns-in_err-standing-clause-founded g c = (about_rules (g.A.Reader.stand c.args.asker.now).setting.nodes _ _ _ _ _ c.pushed.ensures.grows c.pushed.ensures.founded c.pushed.ensures.asks
+    c.read.ensures.founded c.read.ensures.asks).founded
+
+pub returns-in_err-standing-clause-asks : goal.returns-in_err-standing-clause-asks
+returns-in_err-standing-clause-asks g c = (about_rules (g.A.Reader.stand c.args.asker.now).setting.nodes _ _ _ _ _ c.pushed.ensures.grows c.pushed.ensures.founded c.pushed.ensures.asks
     c.read.ensures.founded c.read.ensures.asks).asks
 
 pub returns-clause-founded : goal.returns-clause-founded
@@ -120,28 +128,28 @@ returns-clause-known g c = λ world agrees rules tables.
     (page_rules world names) (sym stands) c.new-resolver.ensures.context
     (c.new-resolver.ensures.rules ∙ c.in_ok-rules.ensures ∙ rules_of_page world c.read.new.self names are
     c.in_ok-read.ensures.has) in
-    let ready = ready_begins world (g.A.Reader.stand c.read.new.reader) setting c.at-standing.result.depth
+    let ready = ready_begins world (g.A.Reader.stand c.read.new.reader) setting c.in_ok-standing.standing.depth
     c.new-resolver.result c.args.tables.now.places begins is
     (c.new-resolver.ensures.deepest ∙ c.saturating_sub-deepest.ensures) tables in
     let root = ap (λ (found : Option Written). unwrap_or found End) (ap named_found (sym c.in-Some.is)
     ∙ c.in_ok-doc.ensures.known world (agrees_before world _ _ c.in_ok-read.ensures.grows read)) in
-    let here = here_begins setting (c.at-standing.result.depth + 1) in
-    let topic = c.at-standing.result.topic.now in
+    let here = here_begins setting (c.in_ok-standing.standing.depth + 1) in
+    let around = (standing_shown c.in_ok-standing.standing).around in
     let meant = around_at nothing_around (page_root setting) c.args.place in
-    let all = resolved_in setting meant.topic (meant.depth + 1) (alone_at (page_root setting) c.args.place) in
+    let all = resolved_in setting meant.around (meant.depth + 1) (alone_at (page_root setting) c.args.place) in
     let alone = alone_at (named_tree c.deref-2.result.now) c.args.place in
     c.finish.ensures.known world all agrees
     (done_of c.node_at-done.result setting.pushed 0 all c.new-resolver.result c.node_at-done.new.self
     c.node_at-done.new.places begins
-    (walks_as c.node_at-done.result setting.pushed 0 (among_made here false topic alone) all c.new-resolver.result
+    (walks_as c.node_at-done.result setting.pushed 0 (among_made here false around alone) all c.new-resolver.result
     c.node_at-done.new.self c.node_at-done.new.places
-    (all_made setting topic (c.at-standing.result.depth + 1) alone
-    ∙ ap (λ (around : Around). resolved_in setting around.topic (around.depth + 1) alone)
-    (c.at-standing.ensures ∙ ap (λ (nodes : Written). around_at nothing_around nodes c.args.place)
+    (all_made setting around (c.in_ok-standing.standing.depth + 1) alone
+    ∙ ap (λ (stands : Stands). resolved_in setting stands.around (stands.depth + 1) alone)
+    (c.in_ok-standing.ensures ∙ ap (λ (nodes : Written). around_at nothing_around nodes c.args.place)
     (ap named_tree c.deref.ensures ∙ root))
-    ∙ ap (λ (nodes : Written). resolved_in setting meant.topic (meant.depth + 1) (alone_at nodes c.args.place))
+    ∙ ap (λ (nodes : Written). resolved_in setting meant.around (meant.depth + 1) (alone_at nodes c.args.place))
     (ap named_tree c.deref-2.ensures ∙ root))
-    (node_walks c.deref-2.result.now c.args.place c.node_at-done.result here false topic setting.pushed 0
+    (node_walks c.deref-2.result.now c.args.place c.node_at-done.result here false around setting.pushed 0
     c.new-resolver.result c.node_at-done.new.self c.node_at-done.new.places
     (λ part there some. c.node_at-done.ensures.known world here part later ready there some)
     (λ none. c.node_at-done.ensures.missing world here later ready none)))))
@@ -164,18 +172,18 @@ returns-clause-kept g c = λ world agrees rules tables.
     c.new-resolver.ensures.context
     (c.new-resolver.ensures.rules ∙ c.in_ok-rules.ensures ∙ rules_of_page world c.read.new.self names are
     c.in_ok-read.ensures.has) in
-    let ready = ready_begins world (g.A.Reader.stand c.read.new.reader) setting c.at-standing.result.depth
+    let ready = ready_begins world (g.A.Reader.stand c.read.new.reader) setting c.in_ok-standing.standing.depth
     c.new-resolver.result c.args.tables.now.places begins is
     (c.new-resolver.ensures.deepest ∙ c.saturating_sub-deepest.ensures) tables in
-    let here = here_begins setting (c.at-standing.result.depth + 1) in
-    let topic = c.at-standing.result.topic.now in
+    let here = here_begins setting (c.in_ok-standing.standing.depth + 1) in
+    let around = (standing_shown c.in_ok-standing.standing).around in
     on_ok_weaker c.finish.result
     (λ memory. (
       are,
       tables_kept c.node_at-done.result setting.pushed 0
-          (among_made here false topic (alone_at (named_tree c.deref-2.result.now) c.args.place)) c.new-resolver.result
+          (among_made here false around (alone_at (named_tree c.deref-2.result.now) c.args.place)) c.new-resolver.result
           c.node_at-done.new.self c.node_at-done.new.places memory
-          (node_walks c.deref-2.result.now c.args.place c.node_at-done.result here false topic setting.pushed 0
+          (node_walks c.deref-2.result.now c.args.place c.node_at-done.result here false around setting.pushed 0
           c.new-resolver.result c.node_at-done.new.self c.node_at-done.new.places
           (λ part there some. c.node_at-done.ensures.known world here part later ready there some)
           (λ none. c.node_at-done.ensures.missing world here later ready none)),
@@ -213,6 +221,12 @@ returns-in_err-rules-clause-grows g c = grows_trans _ _ _ c.pushed.ensures.grows
 
 pub returns-in_err-rules-clause-stand : goal.returns-in_err-rules-clause-stand
 returns-in_err-rules-clause-stand g c = c.read.ensures.stand ∙ c.pushed.ensures.stand
+
+pub returns-in_err-standing-clause-grows : goal.returns-in_err-standing-clause-grows
+returns-in_err-standing-clause-grows g c = grows_trans _ _ _ c.pushed.ensures.grows c.read.ensures.grows
+
+pub returns-in_err-standing-clause-stand : goal.returns-in_err-standing-clause-stand
+returns-in_err-standing-clause-stand g c = c.read.ensures.stand ∙ c.pushed.ensures.stand
 
 pub returns-clause-grows : goal.returns-clause-grows
 returns-clause-grows g c =

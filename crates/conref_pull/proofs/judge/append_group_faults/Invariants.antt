@@ -10,5 +10,5 @@ use Rattle.conref_pull.proofs.judge.append_group_faults.Given as goal
 abbrev pub invariant-loop-attribute : goal.invariant-loop-attribute
 invariant-loop-attribute l = l.faults
     ++ map (λ (written : Attribute). fault_at (element_of l.origin l.element) fault_codes.GroupValue written.name)
-    (filter is_group (drop l.attribute-index l.attribute-items))
-    ≡ l.fn.faults ++ group_faults (with_attributes l.attributes (element_of l.origin l.element))
+    (filter (is_group l.declared) (drop l.attribute-index l.attribute-items))
+    ≡ l.fn.faults ++ group_faults l.declared (with_attributes l.attributes (element_of l.origin l.element))

@@ -4,12 +4,11 @@ use Rattle.dita_doc.specs.declared.plan.PlanNode.{PlanNode}
 use Rattle.doc_elements.specs.Walk.{Found, content_in, element_of, found_in}
 use Rattle.map_spec.specs.MapTree.{node_of}
 use Rattle.plan_nodes.specs.Home.{doc_of}
-use Rattle.readers.proofs.DocumentLaws.{asks_same}
 use Rattle.readers.proofs.FoundedLaws.{stays_same}
 use Rattle.readers.proofs.GrowthLaws.{grows_same}
 use Rattle.branch_copies.specs.BranchRead.{IsBranchOf}
 use Rattle.branch_copies.proofs.AppendedLaws.{none_appended, one_appended}
-use Rattle.branch_copies.proofs.DitavalrefLaws.{asks_ref, stays_ref}
+use Rattle.branch_copies.proofs.DitavalrefLaws.{asks_ref, ditavals_same, stays_ref}
 use Rattle.branch_copies.proofs.HomeLaws.{node_there, whole_found}
 use Rattle.branch_copies.proofs.StandLaws.{whole_here}
 use Rattle.branch_copies.proofs.branches.Branches.read.Goals as goal
@@ -47,11 +46,11 @@ returns-in_err-branch-clause-founded g c =
     c.requires.given c.read_branch.ensures.founded
 
 pub returns-in_err-branch-clause-asks : goal.returns-in_err-branch-clause-asks
-returns-in_err-branch-clause-asks g c = λ refs is.
+returns-in_err-branch-clause-asks g c = λ is.
     let found = c.in-Some.ensures.lookup in
     asks_ref c.args.nodes.now c.args.homes.now c.args.place c.in-Some.node.now
     (c.in-Some-whole.element, c.in-Some-whole.inside) (node_there _ _ _ found.3.0 found.1) c.in-Some-whole.ensures _ _
-    c.requires.given refs is c.read_branch.ensures.asks
+    c.requires.given is c.read_branch.ensures.asks
 
 pub returns-in_err-push-clause-founded : goal.returns-in_err-push-clause-founded
 returns-in_err-push-clause-founded g c =
@@ -61,11 +60,11 @@ returns-in_err-push-clause-founded g c =
     c.requires.given c.read_branch.ensures.founded
 
 pub returns-in_err-push-clause-asks : goal.returns-in_err-push-clause-asks
-returns-in_err-push-clause-asks g c = λ refs is.
+returns-in_err-push-clause-asks g c = λ is.
     let found = c.in-Some.ensures.lookup in
     asks_ref c.args.nodes.now c.args.homes.now c.args.place c.in-Some.node.now
     (c.in-Some-whole.element, c.in-Some-whole.inside) (node_there _ _ _ found.3.0 found.1) c.in-Some-whole.ensures _ _
-    c.requires.given refs is c.read_branch.ensures.asks
+    c.requires.given is c.read_branch.ensures.asks
 
 pub returns-clause-founded : goal.returns-clause-founded
 returns-clause-founded g c =
@@ -75,11 +74,11 @@ returns-clause-founded g c =
     c.requires.given c.read_branch.ensures.founded
 
 pub returns-clause-asks : goal.returns-clause-asks
-returns-clause-asks g c = λ refs is.
+returns-clause-asks g c = λ is.
     let found = c.in-Some.ensures.lookup in
     asks_ref c.args.nodes.now c.args.homes.now c.args.place c.in-Some.node.now
     (c.in-Some-whole.element, c.in-Some-whole.inside) (node_there _ _ _ found.3.0 found.1) c.in-Some-whole.ensures _ _
-    c.requires.given refs is c.read_branch.ensures.asks
+    c.requires.given is c.read_branch.ensures.asks
 
 pub returns-in_default-clause-stand : goal.returns-in_default-clause-stand
 returns-in_default-clause-stand g c = refl
@@ -91,7 +90,7 @@ pub returns-in_default-clause-founded : goal.returns-in_default-clause-founded
 returns-in_default-clause-founded g c = stays_same _ _ _ refl
 
 pub returns-in_default-clause-asks : goal.returns-in_default-clause-asks
-returns-in_default-clause-asks g c = λ refs is. asks_same _ _ _ _ refl
+returns-in_default-clause-asks g c = λ is. ditavals_same _ _ _ _ _ refl
 
 pub returns-in_default-whole-clause-stand : goal.returns-in_default-whole-clause-stand
 returns-in_default-whole-clause-stand g c = refl
@@ -103,7 +102,7 @@ pub returns-in_default-whole-clause-founded : goal.returns-in_default-whole-clau
 returns-in_default-whole-clause-founded g c = stays_same _ _ _ refl
 
 pub returns-in_default-whole-clause-asks : goal.returns-in_default-whole-clause-asks
-returns-in_default-whole-clause-asks g c = λ refs is. asks_same _ _ _ _ refl
+returns-in_default-whole-clause-asks g c = λ is. ditavals_same _ _ _ _ _ refl
 
 pub returns-in_err-branch-clause-stand : goal.returns-in_err-branch-clause-stand
 returns-in_err-branch-clause-stand g c = c.read_branch.ensures.stand

@@ -1,10 +1,8 @@
 use Rattle.std.proofs.Common.{◌≡◌, ◌+◌, ◌∙◌, [], arith, refl}
 use Rattle.map_spec.specs.MapTree.{count}
-use Rattle.readers.proofs.DocumentLaws.{asks_after, asks_same}
 use Rattle.readers.proofs.FoundedLaws.{stays_after, stays_same}
 use Rattle.readers.proofs.GrowthLaws.{agrees_before, grows_same, grows_trans}
-use Rattle.branch_copies.specs.Ditavalrefs.{ditaval_targets}
-use Rattle.branch_copies.proofs.DitavalrefLaws.{given_later}
+use Rattle.branch_copies.proofs.DitavalrefLaws.{ditavals_after, ditavals_same, given_later}
 use Rattle.branch_copies.proofs.RefLaws.{refs_begin, refs_end_read, refs_next}
 use Rattle.branch_copies.proofs.StandLaws.{end_stands}
 use Rattle.branch_copies.proofs.branches.Branches.read_at.Goals as goal
@@ -24,7 +22,7 @@ loop-child-init g c = record {
   stand = refl;
   grows = grows_same _;
   founded = stays_same [] _ _ refl;
-  asks = λ refs. asks_same ditaval_targets [] _ _ refl;
+  asks = ditavals_same _ _ [] _ _ refl;
 }
 
 pub loop-child-preserved : goal.loop-child-preserved
@@ -41,7 +39,7 @@ loop-child-preserved g c = record {
   stand = c.in_ok-read_child.ensures.stand ∙ c.loop-child.invariant.stand;
   grows = grows_trans _ _ _ c.loop-child.invariant.grows c.in_ok-read_child.ensures.grows;
   founded = stays_after [] _ _ _ c.loop-child.invariant.grows c.loop-child.invariant.founded c.in_ok-read_child.ensures.founded;
-  asks = λ refs. asks_after ditaval_targets [] _ _ _ c.loop-child.invariant.grows (c.loop-child.invariant.asks refs) (c.in_ok-read_child.ensures.asks refs);
+  asks = ditavals_after _ _ _ _ _ c.loop-child.invariant.grows c.loop-child.invariant.asks c.in_ok-read_child.ensures.asks;
 }
 
 pub returns-clause-known : goal.returns-clause-known
@@ -63,8 +61,8 @@ pub returns-in_err-read_child-clause-founded : goal.returns-in_err-read_child-cl
 returns-in_err-read_child-clause-founded g c = stays_after [] _ _ _ c.loop-child.invariant.grows c.loop-child.invariant.founded c.read_child.ensures.founded
 
 pub returns-in_err-read_child-clause-asks : goal.returns-in_err-read_child-clause-asks
-returns-in_err-read_child-clause-asks g c = λ refs.
-    asks_after ditaval_targets [] _ _ _ c.loop-child.invariant.grows (c.loop-child.invariant.asks refs) (c.read_child.ensures.asks refs)
+returns-in_err-read_child-clause-asks g c =
+    ditavals_after _ _ _ _ _ c.loop-child.invariant.grows c.loop-child.invariant.asks c.read_child.ensures.asks
 
 pub returns-clause-stand : goal.returns-clause-stand
 returns-clause-stand g c = c.loop-child.invariant.stand

@@ -1,12 +1,11 @@
 use Rattle.std.proofs.Common.{◌≡◌, ◌-◌, ℕ, [], map}
 use Rattle.map_spec.specs.Cascade.{whole_at}
 use Rattle.map_spec.specs.MapTree.{Head, MapTree, MapNode}
-use Rattle.readers.specs.Documents.{AsksOnly}
 use Rattle.readers.specs.Founded.{Grows, StaysFounded}
 use Rattle.readers.specs.Told.{Agrees}
 use Rattle.reader_spec.specs.World.{World}
 use Rattle.branch_copies.specs.Appended.{AreRefsRead}
-use Rattle.branch_copies.specs.Ditavalrefs.{AreDitavalrefs, ditaval_targets}
+use Rattle.branch_copies.specs.Ditavalrefs.{AsksDitavals}
 use Rattle.branch_copies.specs.Ditavals.{AreKnown}
 use Rattle.branch_copies.specs.Stands.{StandsAt}
 use Rattle.branch_copies.proofs.branches.Branches.read_at.Given as goal
@@ -21,8 +20,7 @@ invariant-loop-child g l = record {
   stand : g.R.Reader.stand l.reader ≡ g.R.Reader.stand l.fn.reader;
   grows : Grows (g.R.Reader.told l.fn.reader) (g.R.Reader.told l.reader);
   founded : StaysFounded [] (g.R.Reader.told l.fn.reader) (g.R.Reader.told l.reader);
-  asks : AreDitavalrefs l.homes l.nodes
-      → AsksOnly ditaval_targets [] (g.R.Reader.told l.fn.reader) (g.R.Reader.told l.reader);
+  asks : AsksDitavals l.homes l.nodes [] (g.R.Reader.told l.fn.reader) (g.R.Reader.told l.reader);
 }
 
 abbrev pub decreases-loop-child : goal.decreases-loop-child

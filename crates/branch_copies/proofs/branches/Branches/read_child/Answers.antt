@@ -20,5 +20,5 @@ returns-clause-known g c = λ world parent head below more agrees are stands kno
     (c.read.ensures.known world head parent (place + 1 + count below) agrees are stands.0 known)
 
 pub returns-clause-asks : goal.returns-clause-asks
-returns-clause-asks g c = λ refs.
-    c.read.ensures.asks refs (sym c.is_ditavalref_at.ensures ∙ c.if-not-is_ditavalref_at.false)
+returns-clause-asks g c =
+    c.read.ensures.asks (sym c.is_ditavalref_at.ensures ∙ c.if-not-is_ditavalref_at.false)

@@ -1,7 +1,7 @@
 use Rattle.std.proofs.Common.{◌∙◌, refl, sym}
-use Rattle.readers.proofs.DocumentLaws.{asks_same}
 use Rattle.readers.proofs.FoundedLaws.{stays_same}
 use Rattle.readers.proofs.GrowthLaws.{grows_same}
+use Rattle.branch_copies.proofs.DitavalrefLaws.{ditavals_same}
 use Rattle.branch_copies.proofs.OwnLaws.{other_passed, own_read, ref_passed}
 use Rattle.branch_copies.proofs.branches.Branches.read_from.Goals as goal
 
@@ -36,7 +36,7 @@ pub returns-then-at-next-clause-founded : goal.returns-then-at-next-clause-found
 returns-then-at-next-clause-founded g c = stays_same _ _ _ refl
 
 pub returns-then-at-next-clause-asks : goal.returns-then-at-next-clause-asks
-returns-then-at-next-clause-asks g c = λ refs. asks_same _ _ _ _ refl
+returns-then-at-next-clause-asks g c = ditavals_same _ _ _ _ _ refl
 
 pub returns-then-is_ditavalref_at-clause-stand : goal.returns-then-is_ditavalref_at-clause-stand
 returns-then-is_ditavalref_at-clause-stand g c = refl
@@ -48,7 +48,7 @@ pub returns-then-is_ditavalref_at-clause-founded : goal.returns-then-is_ditavalr
 returns-then-is_ditavalref_at-clause-founded g c = stays_same _ _ _ refl
 
 pub returns-then-is_ditavalref_at-clause-asks : goal.returns-then-is_ditavalref_at-clause-asks
-returns-then-is_ditavalref_at-clause-asks g c = λ refs. asks_same _ _ _ _ refl
+returns-then-is_ditavalref_at-clause-asks g c = ditavals_same _ _ _ _ _ refl
 
 pub returns-then-not-has_branches_at-clause-stand : goal.returns-then-not-has_branches_at-clause-stand
 returns-then-not-has_branches_at-clause-stand g c = refl
@@ -60,7 +60,7 @@ pub returns-then-not-has_branches_at-clause-founded : goal.returns-then-not-has_
 returns-then-not-has_branches_at-clause-founded g c = stays_same _ _ _ refl
 
 pub returns-then-not-has_branches_at-clause-asks : goal.returns-then-not-has_branches_at-clause-asks
-returns-then-not-has_branches_at-clause-asks g c = λ refs. asks_same _ _ _ _ refl
+returns-then-not-has_branches_at-clause-asks g c = ditavals_same _ _ _ _ _ refl
 
 pub returns-in_err-read_at-clause-stand : goal.returns-in_err-read_at-clause-stand
 returns-in_err-read_at-clause-stand g c = c.read_at.ensures.stand

@@ -1,22 +1,17 @@
 use Rattle.std.proofs.Common.{arith, rules, ◌∷◌, refl, ap, sym, ◌∙◌, slice_get}
-use Rattle.std.proofs.lemmas.List.{drop_all}
 use Rattle.dita_doc.specs.Siblings.{document}
 use Rattle.dita_doc.specs.declared.doc.Doc.{Doc}
 use Rattle.doc_elements.specs.Walk.{element_of}
 use Rattle.conref_pull.specs.Origin.{named_content}
-use Rattle.conref_pull.specs.Step.{merged_onto}
-use Rattle.conref_pull.specs.Walking.{inside_of}
-use Rattle.conref_pull.proofs.ChainLaws.{not_none}
-use Rattle.conref_pull.proofs.NodeLaws.{node_none, some_node}
+use Rattle.conref_pull.specs.Step.{declared_inside, merged_onto}
+use Rattle.conref_pull.specs.Walking.{around_of, inside_of, seen_by}
 use Rattle.dita_doc.specs.Tree.{size_of}
-use Rattle.conref_pull.proofs.SizeLaws.{element_smaller, siblings_smaller}
 use Rattle.conref_pull.proofs.ElementWalkLaws.{asked_kept, asked_not, asked_took, judged_gone, judged_plain}
-use Rattle.conref_pull.proofs.LinkLaws.{given_links, links_are}
 use Rattle.conref_pull.proofs.OpenedLaws.{kept_not, kept_put, taken_goes, taken_not, taken_put}
 use Rattle.conref_pull.proofs.WalkNodeLaws.{behind_among, place_nothing, place_puts, place_walks, put_there, sibling_text, siblings_end, siblings_ready, text_put}
 use Rattle.conref_pull.proofs.WalkAskLaws.{about_same, agrees_before, among_same, among_then, asks_behind, asks_call, asks_counted, asks_followed, asks_last, asks_next, asks_on, asks_part, asks_target, given_later, given_some, grows_same, grows_trans, inside_among, link_later, links_later, node_reused, none_among, origin_there, page_around, page_faults, page_judged, page_on, page_one, page_same, page_then, reused_given}
 use Rattle.conref_pull.proofs.WalkHrefLaws.{around_put, counted_put, left_named, maker_counted, maker_faults, maker_then, named_later, nodes_later, origin_later, origin_named, place_put, place_text, put_later, same_put, sibling_put, written_named}
-use Rattle.conref_pull.proofs.WalkLoopLaws.{first_within, node_next, node_stops, range_ends, range_goes_on, range_next, range_ready, range_stops, ranges_end, ranges_over, ranges_ready, rest_within, sibling_next, sibling_stops, splits}
+use Rattle.conref_pull.proofs.WalkLoopLaws.{drop_all, element_smaller, first_within, given_links, links_are, node_next, node_none, not_none, node_stops, range_ends, range_goes_on, range_next, range_ready, range_stops, ranges_end, ranges_over, ranges_ready, rest_within, sibling_next, seen_as, siblings_smaller, some_node, sibling_stops, splits}
 use Rattle.conref_pull.proofs.resolver.Resolver.+resolve.Goals as goal
 
 pub node_at-element-requires : goal.node_at-element-requires
@@ -46,7 +41,7 @@ range-loop-init g t c = record {
   stand = refl;
   grows = grows_same _;
   hrefs = λ given put. put;
-  walked = λ world here one agrees ready is. range_ready c.args.at.is_range c.args.at.topic.now ready is;
+  walked = λ world here one agrees ready is. range_ready c.args.at.is_range (around_of c.args.at) ready is;
 }
 
 pub ranges-loop-link-init : goal.ranges-loop-link-init
@@ -57,34 +52,34 @@ ranges-loop-link-init g t c = record {
   grows = grows_same _;
   hrefs = λ given put. put;
   walked = λ world here path taken agrees ready far limit same count linked.
-      ranges_ready c.args.at.topic.now taken ready c.deref-link-items.ensures.value linked count same far limit;
+      ranges_ready (around_of c.args.at) taken ready c.deref-link-items.ensures.value linked count same far limit;
 }
 
-pub element-returns-then-is_none-clause-asks : goal.element-returns-then-is_none-clause-asks
-element-returns-then-is_none-clause-asks g t c =
+pub element_with-returns-then-is_none-clause-asks : goal.element_with-returns-then-is_none-clause-asks
+element_with-returns-then-is_none-clause-asks g t c =
     asks_part (g.A.Reader.stand c.args.asker.now) (page_faults c.args.self.now _ _ c.in_ok-is_excluded.ensures.state)
     (inside_among c.args.inside c.args.node.now) c.unchanged.ensures.asks
 
-pub element-returns-in_err-chain-clause-asks : goal.element-returns-in_err-chain-clause-asks
-element-returns-in_err-chain-clause-asks g t c =
+pub element_with-returns-in_err-chain-clause-asks : goal.element_with-returns-in_err-chain-clause-asks
+element_with-returns-in_err-chain-clause-asks g t c =
     asks_followed c.args.self.now c.args.inside c.args.node.now c.in-Some.origin.now c.doc.ensures c.in-Some.ensures
     c.in_ok-is_excluded.ensures.state (g.A.Reader.stand c.args.asker.now) c.chain.ensures.asks
 
-pub element-returns-then-chain-at-clause-asks : goal.element-returns-then-chain-at-clause-asks
-element-returns-then-chain-at-clause-asks g t c =
+pub element_with-returns-then-chain-at-clause-asks : goal.element_with-returns-then-chain-at-clause-asks
+element_with-returns-then-chain-at-clause-asks g t c =
     asks_behind c.args.self.now c.args.inside c.args.node.now c.in-Some.origin.now c.doc.ensures c.in-Some.ensures
     c.in_ok-is_excluded.ensures.state c.in_ok-chain.ensures.page (inside_among c.args.inside c.args.node.now)
     c.in_ok-chain.ensures.stand c.in_ok-chain.ensures.grows c.chain.ensures.asks c.unchanged-then-chain-at.ensures.asks
 
-pub element-returns-in_err-merged-clause-asks : goal.element-returns-in_err-merged-clause-asks
-element-returns-in_err-merged-clause-asks g t c =
+pub element_with-returns-in_err-merged-clause-asks : goal.element_with-returns-in_err-merged-clause-asks
+element_with-returns-in_err-merged-clause-asks g t c =
     asks_behind c.args.self.now c.args.inside c.args.node.now c.in-Some.origin.now c.doc.ensures c.in-Some.ensures
     c.in_ok-is_excluded.ensures.state c.in_ok-chain.ensures.page (none_among _) c.in_ok-chain.ensures.stand
     c.in_ok-chain.ensures.grows c.chain.ensures.asks
     (λ nodes same. c.merged.ensures.asks nodes same c.in_ok-chain.ensures.given)
 
-pub element-returns-clause-asks : goal.element-returns-clause-asks
-element-returns-clause-asks g t c =
+pub element_with-returns-clause-asks : goal.element_with-returns-clause-asks
+element_with-returns-clause-asks g t c =
     asks_last c.args.self.now c.args.inside c.args.node.now c.in-Some.origin.now c.doc.ensures c.in-Some.ensures
     c.in_ok-is_excluded.ensures.state c.in_ok-chain.ensures.page c.in_ok-merged.ensures.page c.in_ok-chain.ensures.stand
     c.in_ok-merged.ensures.stand c.in_ok-chain.ensures.grows c.in_ok-merged.ensures.grows c.chain.ensures.asks
@@ -181,7 +176,7 @@ siblings-loop-node-preserved g t c =
       hrefs = λ given put. sibling_put c.loop-node.invariant.grows split (c.loop-node.invariant.hrefs given put)
           c.in_ok-element-in-Element.ensures.hrefs;
       walked = λ world here agrees ready.
-          sibling_next c.args.at.is_range c.args.at.topic.now c.in-Element.place split c.in-Element.ensures.node ready
+          sibling_next c.args.at.is_range (around_of c.args.at) c.in-Element.place split c.in-Element.ensures.node ready
           c.loop-node.invariant.page c.loop-node.invariant.stand (c.loop-node.invariant.walked world here
           (agrees_before world _ _ c.in_ok-element-in-Element.ensures.grows agrees) ready) _ _
           (c.in_ok-element-in-Element.ensures.known world here c.in-Element.place agrees);
@@ -195,24 +190,24 @@ pub unchanged-returns-clause-asks : goal.unchanged-returns-clause-asks
 unchanged-returns-clause-asks g t c =
     asks_counted (g.A.Reader.stand c.args.asker.now) c.in_ok-count_one.ensures c.siblings.ensures.asks
 
-pub element-returns-then-chain-at-clause-grows : goal.element-returns-then-chain-at-clause-grows
-element-returns-then-chain-at-clause-grows g t c =
+pub element_with-returns-then-chain-at-clause-grows : goal.element_with-returns-then-chain-at-clause-grows
+element_with-returns-then-chain-at-clause-grows g t c =
     grows_trans _ _ _ c.in_ok-chain.ensures.grows c.unchanged-then-chain-at.ensures.grows
 
-pub element-returns-in_err-merged-clause-grows : goal.element-returns-in_err-merged-clause-grows
-element-returns-in_err-merged-clause-grows g t c = grows_trans _ _ _ c.in_ok-chain.ensures.grows c.merged.ensures.grows
+pub element_with-returns-in_err-merged-clause-grows : goal.element_with-returns-in_err-merged-clause-grows
+element_with-returns-in_err-merged-clause-grows g t c = grows_trans _ _ _ c.in_ok-chain.ensures.grows c.merged.ensures.grows
 
-pub element-returns-clause-grows : goal.element-returns-clause-grows
-element-returns-clause-grows g t c = grows_trans _ _ _ c.in_ok-chain.ensures.grows
+pub element_with-returns-clause-grows : goal.element_with-returns-clause-grows
+element_with-returns-clause-grows g t c = grows_trans _ _ _ c.in_ok-chain.ensures.grows
     (grows_trans _ _ _ c.in_ok-merged.ensures.grows c.ranges-2.ensures.grows)
 
-pub element-returns-then-chain-at-clause-page : goal.element-returns-then-chain-at-clause-page
-element-returns-then-chain-at-clause-page g t c = page_on c.unchanged-then-chain-at.result c.unchanged-then-chain-at.new.self (page_then _ _ _
+pub element_with-returns-then-chain-at-clause-page : goal.element_with-returns-then-chain-at-clause-page
+element_with-returns-then-chain-at-clause-page g t c = page_on c.unchanged-then-chain-at.result c.unchanged-then-chain-at.new.self (page_then _ _ _
     (page_faults c.args.self.now _ _ c.in_ok-is_excluded.ensures.state) c.in_ok-chain.ensures.page)
     c.unchanged-then-chain-at.ensures.page
 
-pub element-returns-clause-page : goal.element-returns-clause-page
-element-returns-clause-page g t c = page_on c.ranges-2.result c.ranges-2.new.self (page_then _ _ _ (page_then _ _ _
+pub element_with-returns-clause-page : goal.element_with-returns-clause-page
+element_with-returns-clause-page g t c = page_on c.ranges-2.result c.ranges-2.new.self (page_then _ _ _ (page_then _ _ _
     (page_faults c.args.self.now _ _ c.in_ok-is_excluded.ensures.state) c.in_ok-chain.ensures.page)
     c.in_ok-merged.ensures.page) c.ranges-2.ensures.page
 
@@ -238,18 +233,18 @@ node_at-returns-in-Some-node_of-clause-hrefs g t c = λ all put.
     place_text _ c.args.doc.now c.in-Some-node_of.node.now c.put_chars.result _ _
     (c.put_chars.ensures.put c.args.place (sym c.in-Some-node_of.ensures)) put
 
-pub element-returns-then-branch-clause-hrefs : goal.element-returns-then-branch-clause-hrefs
-element-returns-then-branch-clause-hrefs g t c = λ named held put.
+pub element_with-returns-then-branch-clause-hrefs : goal.element_with-returns-then-branch-clause-hrefs
+element_with-returns-then-branch-clause-hrefs g t c = λ named held put.
     same_put _ _ _ (maker_faults c.args.self.now _ _ c.in_ok-is_excluded.ensures.state) put
 
-pub element-returns-then-is_none-clause-hrefs : goal.element-returns-then-is_none-clause-hrefs
-element-returns-then-is_none-clause-hrefs g t c = λ named held put.
+pub element_with-returns-then-is_none-clause-hrefs : goal.element_with-returns-then-is_none-clause-hrefs
+element_with-returns-then-is_none-clause-hrefs g t c = λ named held put.
     c.unchanged.ensures.hrefs (origin_named _ c.args.inside c.args.node.now c.in-Some.origin.now c.doc.result.now
     c.doc.ensures c.in-Some.ensures named) held
     (same_put _ c.args.self.now c.is_excluded.new.self (maker_faults _ _ _ c.in_ok-is_excluded.ensures.state) put)
 
-pub element-returns-then-chain-at-clause-hrefs : goal.element-returns-then-chain-at-clause-hrefs
-element-returns-then-chain-at-clause-hrefs g t c = λ named held put.
+pub element_with-returns-then-chain-at-clause-hrefs : goal.element_with-returns-then-chain-at-clause-hrefs
+element_with-returns-then-chain-at-clause-hrefs g t c = λ named held put.
     (let grows = c.in_ok-chain.ensures.grows in
     c.unchanged-then-chain-at.ensures.hrefs
     (origin_later grows c.args.inside c.args.node.now c.in-Some.origin.now c.doc.ensures c.in-Some.ensures named)
@@ -257,8 +252,8 @@ element-returns-then-chain-at-clause-hrefs g t c = λ named held put.
     c.is_excluded.new.self c.chain.new.self (maker_faults _ _ _ c.in_ok-is_excluded.ensures.state)
     c.in_ok-chain.ensures.maker) put))
 
-pub element-returns-clause-hrefs : goal.element-returns-clause-hrefs
-element-returns-clause-hrefs g t c = λ named held put.
+pub element_with-returns-clause-hrefs : goal.element_with-returns-clause-hrefs
+element_with-returns-clause-hrefs g t c = λ named held put.
     (let grows = c.in_ok-chain.ensures.grows in
     c.ranges-2.ensures.hrefs (links_later _ _ _ c.in_ok-merged.ensures.grows c.in_ok-chain.ensures.given)
     (c.in_ok-merged.ensures.hrefs
@@ -296,17 +291,17 @@ unchanged-returns-clause-hrefs g t c = λ named held put.
 
 pub node_at-returns-in-Some-clause-known : goal.node_at-returns-in-Some-clause-known
 node_at-returns-in-Some-clause-known g t c = λ world here part agrees ready there first.
-    place_walks here c.args.at.links c.args.at.is_range c.args.at.topic.now c.element.result _ _ _ c.in-Some.ensures
+    place_walks here c.args.at.links c.args.at.is_range (around_of c.args.at) c.element.result _ _ _ c.in-Some.ensures
     there first (c.element.ensures.known world here c.args.place agrees ready)
 
 pub siblings-returns-in-End-clause-known : goal.siblings-returns-in-End-clause-known
 siblings-returns-in-End-clause-known g t c = λ world here agrees ready.
-    siblings_end here c.args.at.is_range c.args.at.topic.now c.loop-node.left c.in-End.ensures.content
+    siblings_end here c.args.at.is_range (around_of c.args.at) c.loop-node.left c.in-End.ensures.content
     (c.loop-node.invariant.walked world here agrees ready)
 
 pub siblings-returns-in_err-element-in-Element-clause-known : goal.siblings-returns-in_err-element-in-Element-clause-known
 siblings-returns-in_err-element-in-Element-clause-known g t c = λ world here agrees ready.
-    sibling_stops c.args.at.is_range c.args.at.topic.now c.in-Element.place (splits c.loop-node.left
+    sibling_stops c.args.at.is_range (around_of c.args.at) c.in-Element.place (splits c.loop-node.left
     c.in-Element.node.now c.in-Element.inside c.in-Element.rest c.in-Element.ensures.content
     c.in-Element.ensures.document) c.in-Element.ensures.node ready c.loop-node.invariant.page
     c.loop-node.invariant.stand
@@ -330,51 +325,56 @@ siblings-loop-node-preserved-in-Chars g t c =
       hrefs = λ given held. text_put c.loop-node.left c.in-Chars.rest c.in-Chars.node.now c.in-Chars.ensures.content
           c.in-Chars.ensures.document _ _ put (c.loop-node.invariant.hrefs given held);
       walked = λ world here agrees ready. sibling_text c.loop-node.left c.in-Chars.rest c.in-Chars.node.now
-          c.in-Chars.ensures.content c.in-Chars.ensures.document here c.args.at.is_range c.args.at.topic.now put
+          c.in-Chars.ensures.content c.in-Chars.ensures.document here c.args.at.is_range (around_of c.args.at) put
           c.in_ok-put_chars-in-Chars.ensures.path (c.loop-node.invariant.walked world here agrees ready);
     }
 
-pub element-returns-in_default-clause-known : goal.element-returns-in_default-clause-known
-element-returns-in_default-clause-known g t c = λ world here place agrees ready there.
+pub element-returns-clause-known : goal.element-returns-clause-known
+element-returns-clause-known g t c = λ world here place agrees ready there.
+    c.element_with.ensures.known world here place agrees ready there
+    (c.declared_for-declared.ensures ∙ sym (c.in_ok-own.ensures c.args.at.declared.now))
+
+pub element_with-returns-in_default-clause-known : goal.element_with-returns-in_default-clause-known
+element_with-returns-in_default-clause-known g t c = λ world here place agrees ready there declares.
     absurd (origin_there (document c.args.inside) place c.args.node.now there
     (ap (λ (d : Doc). slice_get d.origins c.args.node.now.origin) (sym c.doc.ensures) ∙ sym c.in_default.ensures))
 
-pub element-returns-then-branch-clause-known : goal.element-returns-then-branch-clause-known
-element-returns-then-branch-clause-known g t c = λ world here place agrees ready there.
-    judged_gone c.args.at.is_range c.args.at.topic.now c.args.inside c.args.node.now c.in-Some.origin.now c.doc.ensures
-    c.in-Some.ensures c.in_ok-is_excluded.ensures.state ready (sym c.if-branch.true ∙ c.in_ok-is_excluded.ensures.goes)
+pub element_with-returns-then-branch-clause-known : goal.element_with-returns-then-branch-clause-known
+element_with-returns-then-branch-clause-known g t c = λ world here place agrees ready there declares.
+    judged_gone c.args.at.is_range (around_of c.args.at) c.args.inside c.args.node.now c.in-Some.origin.now
+    c.args.declared.now c.doc.ensures c.in-Some.ensures declares c.in_ok-is_excluded.ensures.state ready (sym c.if-branch.true ∙ c.in_ok-is_excluded.ensures.goes)
 
-pub element-returns-then-is_none-clause-known : goal.element-returns-then-is_none-clause-known
-element-returns-then-is_none-clause-known g t c = λ world here place agrees ready there.
-    judged_plain c.args.at.is_range c.args.at.topic.now c.args.inside c.args.node.now c.in-Some.origin.now c.doc.ensures
-    c.in-Some.ensures c.in_ok-is_excluded.ensures.state ready c.unchanged.result c.by.result _ _
+pub element_with-returns-then-is_none-clause-known : goal.element_with-returns-then-is_none-clause-known
+element_with-returns-then-is_none-clause-known g t c = λ world here place agrees ready there declares.
+    judged_plain c.args.at.is_range (around_of c.args.at) c.args.inside c.args.node.now c.in-Some.origin.now
+    c.args.declared.now c.doc.ensures c.in-Some.ensures declares c.in_ok-is_excluded.ensures.state ready c.unchanged.result c.by.result _ _
     (sym c.if-branch.false ∙ c.in_ok-is_excluded.ensures.goes) (c.by.ensures c.in-Some.origin.now) c.if-is_none.ensures
     (c.unchanged.ensures.known world here agrees)
 
-pub element-returns-then-chain-at-clause-known : goal.element-returns-then-chain-at-clause-known
-element-returns-then-chain-at-clause-known g t c = λ world here place agrees ready there.
-    asked_kept c.args.at.is_range c.args.at.topic.now c.args.inside c.args.node.now c.in-Some.origin.now c.doc.ensures
-    c.in-Some.ensures c.in_ok-is_excluded.ensures.state (sym c.if-branch.false ∙ c.in_ok-is_excluded.ensures.goes)
+pub element_with-returns-then-chain-at-clause-known : goal.element_with-returns-then-chain-at-clause-known
+element_with-returns-then-chain-at-clause-known g t c = λ world here place agrees ready there declares.
+    asked_kept c.args.at.is_range (around_of c.args.at) c.args.inside c.args.node.now c.in-Some.origin.now
+    c.args.declared.now c.doc.ensures c.in-Some.ensures declares c.in_ok-is_excluded.ensures.state (sym c.if-branch.false ∙ c.in_ok-is_excluded.ensures.goes)
     (c.topic_seen-topic.ensures c.in-Some.origin.now) c.in_ok-chain.ensures.page c.in_ok-chain.ensures.stand ready
     (c.in_ok-chain.ensures.known world here.depth (named_content c.args.inside)
     (agrees_before world _ _ c.unchanged-then-chain-at.ensures.grows agrees)) c.unchanged-then-chain-at.result _ _
     c.if-chain-at.true (c.unchanged-then-chain-at.ensures.known world here agrees)
 
-pub element-returns-in_err-merged-clause-known : goal.element-returns-in_err-merged-clause-known
-element-returns-in_err-merged-clause-known g t c = λ world here place agrees ready there.
-    asked_not c.args.at.is_range c.args.at.topic.now c.args.inside c.args.node.now c.in-Some.origin.now c.doc.ensures
-    c.in-Some.ensures c.in_ok-is_excluded.ensures.state (sym c.if-branch.false ∙ c.in_ok-is_excluded.ensures.goes)
+pub element_with-returns-in_err-merged-clause-known : goal.element_with-returns-in_err-merged-clause-known
+element_with-returns-in_err-merged-clause-known g t c = λ world here place agrees ready there declares.
+    asked_not c.args.at.is_range (around_of c.args.at) c.args.inside c.args.node.now c.in-Some.origin.now
+    c.args.declared.now c.doc.ensures c.in-Some.ensures declares c.in_ok-is_excluded.ensures.state (sym c.if-branch.false ∙ c.in_ok-is_excluded.ensures.goes)
     (c.topic_seen-topic.ensures c.in-Some.origin.now) c.in_ok-chain.ensures.page c.in_ok-chain.ensures.stand ready
     (c.in_ok-chain.ensures.known world here.depth (named_content c.args.inside)
     (agrees_before world _ _ c.merged.ensures.grows agrees)) c.from_residual-in_err-merged.result
     c.in_err-merged.field-0.0 _ _ c.from_residual-in_err-merged.ensures.1 c.if-chain-at.false
     c.in_ok-chain.ensures.limit (λ at farthest nearer. c.in_err-merged.ensures.known world at farthest nearer agrees)
 
-pub element-returns-clause-known : goal.element-returns-clause-known
-element-returns-clause-known g t c = λ world here place agrees ready there.
+pub element_with-returns-clause-known : goal.element_with-returns-clause-known
+element_with-returns-clause-known g t c = λ world here place agrees ready there declares.
     (let later = agrees_before world _ _ c.ranges-2.ensures.grows agrees in
-    asked_took c.args.at.is_range c.args.at.topic.now c.args.inside c.args.node.now c.in-Some.origin.now c.doc.ensures
-    c.in-Some.ensures c.in_ok-is_excluded.ensures.state (sym c.if-branch.false ∙ c.in_ok-is_excluded.ensures.goes)
+    asked_took c.args.at.is_range (around_of c.args.at) c.args.inside c.args.node.now c.in-Some.origin.now
+    c.args.declared.now c.doc.ensures c.in-Some.ensures declares c.in_ok-is_excluded.ensures.state (sym c.if-branch.false ∙ c.in_ok-is_excluded.ensures.goes)
     (c.topic_seen-topic.ensures c.in-Some.origin.now) c.in_ok-chain.ensures.page c.in_ok-chain.ensures.stand ready
     (c.in_ok-chain.ensures.known world here.depth (named_content c.args.inside)
     (agrees_before world _ _ c.in_ok-merged.ensures.grows later)) c.ranges-2.result _ _ c.if-chain-at.false
@@ -384,8 +384,8 @@ element-returns-clause-known g t c = λ world here place agrees ready there.
 
 pub merged-returns-then-branch-clause-known : goal.merged-returns-then-branch-clause-known
 merged-returns-then-branch-clause-known g t c = λ world here farthest nearer agrees ready linked types.
-    taken_goes c.args.at.is_range c.args.topic.now (element_of c.args.origin.now c.args.node.now)
-    (merged_onto farthest.element nearer) farthest.inside c.in_ok-count_one.ensures (c.in_ok-merged.ensures.merged
+    taken_goes c.args.at.is_range (seen_by c.args.topic.now c.args.declared.now) (declared_inside farthest)
+    (element_of c.args.origin.now c.args.node.now) (merged_onto farthest.element nearer) farthest.inside c.in_ok-count_one.ensures (c.in_ok-merged.ensures.merged
     here.path c.args.chain.now.end (farthest ∷ nearer) farthest.inside
     (links_are here.path c.args.chain.now.end (farthest ∷ nearer) c.deref.ensures.value linked))
     c.in_ok-is_excluded.ensures.state ready (sym c.if-branch.true ∙ c.in_ok-is_excluded.ensures.goes)
@@ -396,32 +396,34 @@ merged-returns-in_default-clause-known g t c = λ world here farthest nearer agr
 
 pub merged-returns-in_err-siblings-clause-known : goal.merged-returns-in_err-siblings-clause-known
 merged-returns-in_err-siblings-clause-known g t c = λ world here farthest nearer agrees ready linked types.
-    (taken_not c.args.at.is_range c.args.topic.now (element_of c.args.origin.now c.args.node.now)
-    (merged_onto farthest.element nearer) farthest.inside c.open.new.self c.in_ok-count_one.ensures
+    (taken_not c.args.at.is_range (seen_by c.args.topic.now c.args.declared.now) (declared_inside farthest)
+    (element_of c.args.origin.now c.args.node.now) (merged_onto farthest.element nearer) farthest.inside c.open.new.self c.in_ok-count_one.ensures
     (c.in_ok-merged.ensures.merged here.path c.args.chain.now.end (farthest ∷ nearer) farthest.inside
     (links_are here.path c.args.chain.now.end (farthest ∷ nearer) c.deref.ensures.value linked))
     c.in_ok-is_excluded.ensures.state (sym c.if-branch.false ∙ c.in_ok-is_excluded.ensures.goes)
     c.in_ok-name.ensures.cases c.in_ok-attributes.ensures c.in_ok-open.ensures.opened
-    (c.topic_taken.ensures c.args.origin.now (merged_onto farthest.element nearer) types) ready
+    (seen_as (c.topic_taken.ensures c.args.origin.now (merged_onto farthest.element nearer) types)
+    (c.in_ok-there.ensures here.path c.args.chain.now.end farthest nearer linked)) ready
     c.from_residual-in_err-siblings.result c.in_err-siblings.field-0.0 _ _ c.from_residual-in_err-siblings.ensures.1
     (c.in-Some.ensures.target here.path c.args.chain.now.end farthest nearer linked)
     (c.in_err-siblings.ensures.known world (inside_of here) agrees))
 
 pub merged-returns-clause-known : goal.merged-returns-clause-known
 merged-returns-clause-known g t c = λ world here farthest nearer agrees ready linked types.
-    (taken_put c.args.at.is_range c.args.topic.now (element_of c.args.origin.now c.args.node.now)
-    (merged_onto farthest.element nearer) farthest.inside c.open.new.self c.in_ok-count_one.ensures
+    (taken_put c.args.at.is_range (seen_by c.args.topic.now c.args.declared.now) (declared_inside farthest)
+    (element_of c.args.origin.now c.args.node.now) (merged_onto farthest.element nearer) farthest.inside c.open.new.self c.in_ok-count_one.ensures
     (c.in_ok-merged.ensures.merged here.path c.args.chain.now.end (farthest ∷ nearer) farthest.inside
     (links_are here.path c.args.chain.now.end (farthest ∷ nearer) c.deref.ensures.value linked))
     c.in_ok-is_excluded.ensures.state (sym c.if-branch.false ∙ c.in_ok-is_excluded.ensures.goes)
     c.in_ok-name.ensures.cases c.in_ok-attributes.ensures c.in_ok-open.ensures.opened
-    (c.topic_taken.ensures c.args.origin.now (merged_onto farthest.element nearer) types) ready c.close.new.self
+    (seen_as (c.topic_taken.ensures c.args.origin.now (merged_onto farthest.element nearer) types)
+    (c.in_ok-there.ensures here.path c.args.chain.now.end farthest nearer linked)) ready c.close.new.self
     (c.in-Some.ensures.target here.path c.args.chain.now.end farthest nearer linked)
     (c.in_ok-siblings.ensures.known world (inside_of here) agrees) c.close.ensures)
 
 pub node_at-returns-in-Some-node_of-clause-known : goal.node_at-returns-in-Some-node_of-clause-known
 node_at-returns-in-Some-node_of-clause-known g t c = λ world here part agrees ready there first.
-    place_puts c.args.doc.now c.args.at.is_range c.args.at.topic.now c.put_chars.result _ ready there first
+    place_puts c.args.doc.now c.args.at.is_range (around_of c.args.at) c.put_chars.result _ ready there first
     c.in-None.ensures (sym c.in-Some-node_of.ensures)
     (c.put_chars.ensures.put c.args.place (sym c.in-Some-node_of.ensures)) c.put_chars.ensures.path
 
@@ -473,7 +475,7 @@ unchanged-returns-in_err-siblings-clause-known g t c = λ world here agrees read
     kept_not c.args.at.is_range _ (element_of c.args.origin.now c.args.node.now) (named_content c.args.inside)
     c.open.new.self c.in_ok-count_one.ensures c.in_ok-name.ensures.cases
     (c.in_ok-attributes.ensures _ c.in_ok-own.ensures).attributes c.in_ok-open.ensures.opened
-    (c.topic_within.ensures c.args.origin.now) ready c.from_residual-in_err-siblings.result c.in_err-siblings.field-0.0
+    (seen_as (c.topic_within.ensures c.args.origin.now) refl) ready c.from_residual-in_err-siblings.result c.in_err-siblings.field-0.0
     _ _ c.from_residual-in_err-siblings.ensures.1 (c.in_err-siblings.ensures.known world (inside_of here) agrees)
 
 pub unchanged-returns-clause-known : goal.unchanged-returns-clause-known
@@ -481,7 +483,7 @@ unchanged-returns-clause-known g t c = λ world here agrees ready.
     kept_put c.args.at.is_range _ (element_of c.args.origin.now c.args.node.now) (named_content c.args.inside)
     c.open.new.self c.in_ok-count_one.ensures c.in_ok-name.ensures.cases
     (c.in_ok-attributes.ensures _ c.in_ok-own.ensures).attributes c.in_ok-open.ensures.opened
-    (c.topic_within.ensures c.args.origin.now) ready c.close.new.self
+    (seen_as (c.topic_within.ensures c.args.origin.now) refl) ready c.close.new.self
     (c.in_ok-siblings.ensures.known world (inside_of here) agrees) c.close.ensures
 
 pub node_at-returns-in-Some-clause-missing : goal.node_at-returns-in-Some-clause-missing

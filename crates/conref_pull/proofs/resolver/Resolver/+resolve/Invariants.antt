@@ -14,7 +14,7 @@ use Rattle.conref_pull.specs.Origin.{named_content}
 use Rattle.conref_pull.specs.Linked.{AreLinks, IsLink}
 use Rattle.conref_pull.specs.Setting.{IsSamePage, path_within}
 use Rattle.conref_pull.specs.Step.{Taken}
-use Rattle.conref_pull.specs.Walking.{Here, IsReady, among_made, ranges_put}
+use Rattle.conref_pull.specs.Walking.{Here, IsReady, among_made, around_of, ranges_put}
 use Rattle.conref_pull.proofs.SizeLaws.{around, behind}
 use Rattle.conref_pull.proofs.SpanLaws.{Behind, Left}
 use Rattle.conref_pull.proofs.WalkLaws.{SoFar}
@@ -24,7 +24,10 @@ abbrev pub decreases-siblings : goal.decreases-siblings
 decreases-siblings g l = around l.at.links + 8 * size_of (content l.siblings) + 1
 
 abbrev pub decreases-element : goal.decreases-element
-decreases-element g l = around l.at.links + 8 * size_of (content l.inside) + 4
+decreases-element g l = around l.at.links + 8 * size_of (content l.inside) + 5
+
+abbrev pub decreases-element_with : goal.decreases-element_with
+decreases-element_with g l = around l.at.links + 8 * size_of (content l.inside) + 4
 
 abbrev pub decreases-unchanged : goal.decreases-unchanged
 decreases-unchanged g l = around l.at.links + 8 * size_of (content l.inside) + 2
@@ -56,8 +59,8 @@ invariant-siblings-loop-node g l = record {
       → HaveNamed (g.A.Reader.told l.fn.asker) (named_content l.left) × PutNamed (g.A.Reader.told l.asker) l.self;
   walked : (world : World) (here : Here) → Agrees world (g.A.Reader.told l.asker)
       → IsReady world (g.A.Reader.stand l.fn.asker) l.at.links here l.fn.self l.fn.places
-      → SoFar here.setting.pushed l.at.links (among_made here l.at.is_range l.at.topic.now (named_content l.left))
-      (among_made here l.at.is_range l.at.topic.now (named_content l.fn.siblings)) l.fn.self l.self l.places;
+      → SoFar here.setting.pushed l.at.links (among_made here l.at.is_range (around_of l.at) (named_content l.left))
+      (among_made here l.at.is_range (around_of l.at) (named_content l.fn.siblings)) l.fn.self l.self l.places;
 }
 
 abbrev pub decreases-siblings-loop-node : goal.decreases-siblings-loop-node
@@ -77,7 +80,7 @@ invariant-ranges-loop-link g l = record {
       → IsReady world (g.A.Reader.stand l.fn.asker) l.at.links here l.fn.self l.fn.places
       → l.chain.end ≤ length l.fn.self.path.items → l.chain.end ≤ 32 → path ≡ path_within l.fn.self l.chain.end
       → l.chain.end ≡ l.at.links + length taken → AreLinks path l.chain.end taken l.chain.links.items
-      → Behind here l.at.links l.at.topic.now path l.link-items (ranges_put here l.at.topic.now taken)
+      → Behind here l.at.links (around_of l.at) path l.link-items (ranges_put here (around_of l.at) taken)
       l.fn.self l.self l.places l.count l.link-index;
 }
 
@@ -93,6 +96,6 @@ invariant-range-loop g l = record {
       → PutNamed (g.A.Reader.told l.asker) l.self;
   walked : (world : World) (here : Here) (one : Taken) → Agrees world (g.A.Reader.told l.asker)
       → IsReady world (g.A.Reader.stand l.fn.asker) l.at.links here l.fn.self l.fn.places → IsLink l.link one
-      → Left (arc_value l.link.doc) here l.at.links l.at.is_range l.at.topic.now l.link.to
-      (among_made here l.at.is_range l.at.topic.now one.range) l.fn.self l.self l.places l.place l.counter;
+      → Left (arc_value l.link.doc) here l.at.links l.at.is_range (around_of l.at) l.link.to
+      (among_made here l.at.is_range (around_of l.at) one.range) l.fn.self l.self l.places l.place l.counter;
 }

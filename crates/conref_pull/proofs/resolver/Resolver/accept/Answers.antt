@@ -46,7 +46,9 @@ returns-clause-known c = λ documents meant at are is deep room.
     let here = subst (λ (d : Doc). slice_get d.nodes c.args.found.place ≡ Some c.in-Some.target.node.now) c.deref.ensures
     c.in-Some.ensures.here in
     let tables = c.in_ok-to.ensures.tables documents meant are is in
-    c.go_on.ensures.known documents meant at c.in-Some.target.node.now c.range_end.new.places tables is here refl
+    c.go_on.ensures.known documents meant at c.in-Some.target.node.now c.around_found.new.places
+    (c.in_ok-declared.ensures.tables documents meant tables is) is here refl
+    (c.in_ok-declared.ensures.names documents meant tables is)
     (special_is documents meant c.args.found is at c.args.links element c.args.self.now c.go_on.new.self
     c.range_end.new.places tables c.deref.result.now c.in-Some.target _ _ c.deref.ensures c.in-Some.ensures.whole
     (c.is_special.ensures c.in-Some.target.origin.now c.args.origin.now) c.if-not-is_special.false)

@@ -4,7 +4,8 @@ use Rattle.conref_pull.proofs.resolver.Resolver.is_excluded.Goals as goal
 
 pub returns-then-not-has_judged-clause-goes : goal.returns-then-not-has_judged-clause-goes
 returns-then-not-has_judged-clause-goes c =
-    sym (none_exclude c.args.self.now.rules c.args.attributes.now (sym c.has_judged.ensures ∙ c.if-not-has_judged.true))
+    sym (none_exclude c.args.self.now.rules c.args.declared.now c.args.attributes.now
+    (sym c.has_judged.ensures ∙ c.if-not-has_judged.true))
 
 pub returns-clause-goes : goal.returns-clause-goes
 returns-clause-goes c = c.exclude.ensures.excluded

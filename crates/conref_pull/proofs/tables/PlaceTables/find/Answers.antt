@@ -20,7 +20,7 @@ returns-clause-found c = λ documents are stored.
 
 pub returns-clause-known : goal.returns-clause-known
 returns-clause-known c = λ documents are stored.
-    target_put documents c.args.self.now (record { targets = c.insert.new.self; ends = c.args.self.now.ends })
+    target_put documents c.args.self.now (record c.args.self.now { targets = c.insert.new.self })
     c.in_ok-clone.field-0 c.args.name.now c.in_ok-table.table c.args.doc.now c.in_ok-clone.ensures.cases
-    c.in_ok-insert.ensures.updates.0 refl stored
+    c.in_ok-insert.ensures.updates.0 refl refl stored
     (table_named c.in_ok-table.table [] c.args.doc.now.origins (tree_of c.args.doc.now.nodes) (c.in_ok-table.ensures [])) are

@@ -14,6 +14,6 @@ returns-clause-end c = λ documents are stored. c.end_at-end.ensures
 
 pub returns-clause-known : goal.returns-clause-known
 returns-clause-known c = λ documents are stored.
-    ends_put documents c.args.self.now (record { targets = c.args.self.now.targets; ends = c.insert.new.self })
+    ends_put documents c.args.self.now (record c.args.self.now { ends = c.insert.new.self })
     c.in_ok-clone.field-0 c.args.name.now c.in_ok-ends.ends c.args.doc.now c.in_ok-clone.ensures.cases
-    c.in_ok-insert.ensures.updates.0 refl stored c.in_ok-ends.ensures are
+    c.in_ok-insert.ensures.updates.0 refl refl stored c.in_ok-ends.ensures are
