@@ -3,6 +3,7 @@ mod ShortPages
 mod MapRows
 mod StopRows
 mod FilterRows
+mod FlagRows
 mod BranchRows
 mod CascadeRows
 mod KeyRows

@@ -1,0 +1,5 @@
+pub mod FlagLaws
+pub mod OnceLaws
+pub mod PlaceLaws
+pub mod TokenLaws
+pub mod WordLaws

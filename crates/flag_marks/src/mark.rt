@@ -1,0 +1,145 @@
+//! The marks of a body.
+
+ghost use Rattle.std.specs.Prelude.{◌≡◌, ◌<◌, ◌++◌, ◌^◌, length, map, IfOk, OnOk};
+ghost use Rattle.std.specs.List.{list_any};
+ghost use Rattle.flag_marks.specs.Marks as spec;
+ghost use Rattle.flag_marks.specs.Places as places_spec;
+
+use crate::element::texts_of;
+use dita_doc::{Action, List, Mark, NoMemory, Node, NodeKind, Resolved, Rule, Text};
+use ditaval_rules::RuleTable;
+use std::alloc::Global;
+use std::collections::BTreeSet;
+
+/// The marks of a body, in the order of its elements: `flag-ATT-TOKEN` for each token that a list
+/// of rules flags, by each list in order, each conditional attribute in order and each token in
+/// order, each mark of an element once (DITA 1.3, "Flagging"; the form of a mark is our own).
+/// `declared` has for each node the names of the attributes that are declared for it. A value of
+/// groups gives none.
+///
+/// The rules are made ready once; then each element takes one look at its attributes for each list
+/// of rules and each name, each token a halving of the rules, and each one that is flagged a look
+/// into the set of the element's marks. Where no list has a rule that flags, no node is looked at.
+///
+/// # Errors
+///
+/// Out of memory.
+pub fn marks(
+    alloc: Global,
+    body: &Resolved,
+    rules: &List<List<Rule>>,
+    declared: &List<List<Text>>,
+) -> Result<List<Mark>, NoMemory>
+    requires { length declared.now ≡ length body.now.doc.nodes }
+    ensures value { IfOk result
+        (λ marks. marks ≡ spec.marks_from rules.now 0 declared.now body.now.doc.nodes) }
+    ensures places { IfOk result
+        (λ marks. places_spec.AreAtElements body.now.doc.nodes marks) }
+{
+    if !has_flag(rules.as_slice()) {
+        return Ok(List::new(alloc));
+    }
+    let tables = tables_of(alloc, rules.as_slice())?;
+    marks_of(
+        alloc,
+        &tables,
+        declared.as_slice(),
+        body.doc.nodes.as_slice(),
+    )
+}
+
+// Whether one of the lists has a rule that flags.
+fn has_flag(rules: &[List<Rule>]) -> bool
+    ensures { result ≡ list_any spec.have_flag rules.now }
+{
+    rules.iter().any(|some| is_flagging(some))
+}
+
+// Whether one of the rules flags.
+fn is_flagging(rules: &List<Rule>) -> bool
+    ensures { result ≡ spec.have_flag rules.now }
+{
+    rules
+        .as_slice()
+        .iter()
+        .any(|rule| rule.action == Action::Flag)
+}
+
+// A table for each list of rules.
+fn tables_of<'a>(alloc: Global, rules: &'a [List<Rule>]) -> Result<Vec<RuleTable<'a>>, NoMemory>
+    ensures { IfOk result (λ tables. tables.items ≡ rules.now) }
+{
+    let mut tables = Vec::new(alloc);
+    for some in rules {
+        tables.push(RuleTable::new(alloc, some)?)?;
+    }
+    Ok(tables)
+}
+
+// The marks of nodes, by tables.
+fn marks_of(
+    alloc: Global,
+    tables: &[RuleTable<'_>],
+    declared: &[List<Text>],
+    nodes: &[Node],
+) -> Result<List<Mark>, NoMemory>
+    requires each { length declared.now ≡ length nodes.now }
+    requires small { length nodes.now < 2 ^ 32 }
+    ensures { IfOk result (λ marks. marks ≡ spec.marks_from tables.now 0 declared.now nodes.now) }
+{
+    let mut marks = List::new(alloc);
+    for at in 0..nodes.len() {
+        push_node(
+            alloc,
+            &mut marks,
+            tables,
+            at as u32,
+            &declared[at],
+            &nodes[at],
+        )?;
+    }
+    Ok(marks)
+}
+
+// Appends the marks of the node at a place.
+fn push_node(
+    alloc: Global,
+    marks: &mut List<Mark>,
+    tables: &[RuleTable<'_>],
+    place: u32,
+    declared: &List<Text>,
+    node: &Node,
+) -> Result<(), NoMemory>
+    ensures { OnOk result (marks.new ≡ marks.old
+        ++ spec.marks_of_node tables.now place declared.now node.now.kind node.now.attributes) }
+{
+    match node.kind {
+        NodeKind::Chars => Ok(()),
+        NodeKind::Element => {
+            let texts = texts_of(alloc, tables, declared.as_slice(), node)?;
+            push_once(alloc, marks, place, texts.as_slice())
+        }
+    }
+}
+
+// Appends each of some texts once, as marks of a place.
+fn push_once(
+    alloc: Global,
+    marks: &mut List<Mark>,
+    place: u32,
+    texts: &[Text],
+) -> Result<(), NoMemory>
+    ensures { OnOk result (marks.new
+        ≡ marks.old ++ map (spec.at_place place) (spec.first_of_each texts.now)) }
+{
+    let mut seen = BTreeSet::new(alloc);
+    for text in texts {
+        if seen.insert(text.as_bytes())? {
+            marks.push(Mark {
+                place,
+                text: text.clone()?,
+            })?;
+        }
+    }
+    Ok(())
+}
