@@ -28,6 +28,8 @@ mod store;
 #[cfg(test)]
 mod targets;
 #[cfg(test)]
+mod terms;
+#[cfg(test)]
 mod titles;
 #[cfg(test)]
 mod transcripts;

@@ -1,5 +1,6 @@
-pub mod Tables
-pub mod Blocks
-pub mod PageHtml
 pub mod Anchors
+pub mod Blocks
 pub mod Contents
+pub mod PageHtml
+pub mod Tables
+pub mod Terms

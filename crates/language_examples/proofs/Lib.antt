@@ -17,5 +17,6 @@ mod LimitRows
 mod LinkRows
 mod AnchorRows
 mod HtmlRows
+mod TermRows
 mod ContentsRows
 mod BuildRows

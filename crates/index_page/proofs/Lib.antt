@@ -1,0 +1,4 @@
+pub mod BodyLaws
+pub mod GroupLaws
+pub mod TermLaws
+pub mod TextLaws

@@ -1,0 +1,4 @@
+pub mod Body
+pub mod Groups
+pub mod Rows
+pub mod Walk
