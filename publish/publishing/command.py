@@ -1,20 +1,78 @@
-"""The command as a whole: reads its words, does what they ask for, and gives the status."""
+"""The command as a whole: reads its words, publishes what they ask for, and gives the status."""
 from __future__ import annotations
 
+import os
+import signal
 import sys
 from collections.abc import Sequence
+from typing import TextIO
 
 from publishing import options
+from publishing.message import Stop
+from publishing.publication import Publication
 
 PUBLISHED, FAULTY, NOTHING = 0, 1, 2
 
 
+class Interrupted(KeyboardInterrupt):
+    """The system asks for an end."""
+
+
+def interrupt(_number: int, _frame: object) -> None:
+    raise Interrupted
+
+
+def say(text: str, stream: TextIO | None) -> None:
+    """Writes a line, if somebody still reads."""
+    if stream is None:
+        return
+    try:
+        print(text, file=stream, flush=True)
+    except (BrokenPipeError, ValueError):
+        pass
+    except OSError as error:
+        if stream is not sys.stderr:
+            say(f"publish: standard output: {error.strerror}", sys.stderr)
+
+
+def leave_streams() -> None:
+    """Sees to it that no write to a closed pipe is tried again when the program ends."""
+    for stream in (sys.stdout, sys.stderr):
+        try:
+            if stream is not None:
+                stream.flush()
+        except OSError:
+            os.dup2(os.open(os.devnull, os.O_WRONLY), stream.fileno())
+
+
+def publish(asked: options.Options) -> int:
+    """Publishes, and tells what is wrong."""
+    publication = Publication(asked, lambda text: say(text, sys.stdout))
+    try:
+        publication.run()
+    except Stop as stop:
+        publication.progress.clear()
+        for message in publication.messages():
+            say(str(message), sys.stdout)
+        say(f"publish: {stop}\npublish: nothing is published", sys.stderr)
+        return NOTHING
+    return FAULTY if asked.strict and publication.faults() else PUBLISHED
+
+
 def main(words: Sequence[str]) -> int:
     """The status of a call."""
+    for stream in (sys.stdout, sys.stderr):
+        if stream is not None:
+            stream.reconfigure(errors="backslashreplace")
+    signal.signal(signal.SIGTERM, interrupt)
+    signal.signal(signal.SIGHUP, interrupt)
     try:
-        options.read(words)
+        return publish(options.read(words))
     except options.BadWords as refused:
-        print(f"publish: {refused}", file=sys.stderr)
+        say(f"publish: {refused}", sys.stderr)
         return NOTHING
-    print("publish: nothing is published yet: this is the frame alone", file=sys.stderr)
-    return NOTHING
+    except KeyboardInterrupt:
+        say("publish: interrupted: nothing is published", sys.stderr)
+        return NOTHING
+    finally:
+        leave_streams()
