@@ -6,6 +6,7 @@ import pathlib
 import posixpath
 from collections.abc import Callable
 
+import style
 from publishing import beside, checks, closure, desk, faults, limits, names, pages, program, script, transcript
 from publishing.document import Document
 from publishing.message import Message, Stop, counted
@@ -101,14 +102,14 @@ class Publication:
     def take_pages(self, output: Output, number: int) -> None:
         """Reads the desk's pages, and puts them dressed where they are to stand."""
         made = output.desk / f"b{number}"
-        dress = self.dresser(output)
+        dress = self.dresser(output, made)
         found = pages.below(made)
         for count, name in enumerate(found, 1):
             self.progress.tell(f"page {count:,} of {len(found):,}", is_now=False)
             data = (made / name).read_bytes()
             page = pages.page_of(name, data.decode("utf-8"))
             self.pages[page.path] = page
-            self.write(output.pages / page.path, dress(data, page.path) if dress is not None else data)
+            self.write(output.pages / page.path, dress(data, page.path))
             (made / name).unlink()
             if self.asked.verbose:
                 self.say(f"page {names.shown(str(self.asked.out / page.path))}")
@@ -120,17 +121,17 @@ class Publication:
         except OSError as error:
             raise Stop(f"{names.shown(path.name)}: can't be written beside {self.asked.out}: {error.strerror}") from None
 
-    def dresser(self, output: Output) -> Callable[[bytes, str], bytes] | None:
-        """What gives a page its style sheet, which it puts there; none, if the call wants none."""
+    def dresser(self, output: Output, made: pathlib.Path) -> Callable[[bytes, str], bytes]:
+        """What gives a page its style sheet, which is put there, and the line to the contents; nothing, if the call wants none."""
         if self.asked.no_style:
-            return None
-        import style
+            return lambda page, path: page
         try:
             sheet = style.sheet_bytes(self.asked.style)
         except OSError as error:
             raise Stop(f"{self.asked.style}: the style sheet can't be read: {error.strerror}") from None
         self.write(output.pages / style.SHEET, sheet)
-        return style.dress
+        title = style.title_of((made / "index.html").read_bytes())
+        return lambda page, path: style.dress(page, path, title)
 
     def finish(self, output: Output) -> None:
         """Checks the pages, copies the files to which they lead, and puts all in the place of OUT."""
