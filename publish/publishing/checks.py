@@ -5,11 +5,12 @@ from __future__ import annotations
 
 import collections
 import posixpath
+import re
 from collections.abc import Callable, Iterable, Iterator
 
 from publishing import names
 from publishing.closure import Sources
-from publishing.document import Document, KeyUse, Reference, html_id
+from publishing.document import Document, KeyUse, Place, Reference, html_id
 from publishing.message import Message, counted
 from publishing.pages import Link, Page
 
@@ -35,6 +36,7 @@ class Checks:
         self.of_target: dict[str, list[tuple[Document, Reference]]] = collections.defaultdict(list)
         self.of_id: dict[str, list[tuple[Document, Reference]]] = collections.defaultdict(list)
         self.by_key: dict[str, list[tuple[Document, KeyUse]]] = collections.defaultdict(list)
+        self.by_written: dict[str, tuple[Document, Place]] = {}
         self.index()
 
     def all(self) -> list[Message]:
@@ -47,12 +49,14 @@ class Checks:
         return sorted(self.told)
 
     def index(self) -> None:
-        """Finds the references by what they lead to, and the uses of keys by the element that they ask for."""
+        """Finds references by what they lead to, uses of keys by the element that they ask for, and elements by their ids."""
         for document in self.documents:
             for reference in document.references:
                 self.of_target[reference.target or ""].append((document, reference))
                 if reference.asks in ("link", "node") and reference.fragment:
                     self.of_id[asked_id(reference)].append((document, reference))
+            for written, places in document.ids.values():
+                self.by_written.setdefault(written, (document, places[0]))
             for use in document.keys:
                 if "/" in use.value:
                     self.by_key[use.value.partition("/")[2]].append((document, use))
@@ -83,7 +87,8 @@ class Checks:
     def no_file(self, page: Page, link: Link, why: str) -> Iterator[Message]:
         """A link to a file that is not there: told at each reference to it."""
         kind = "picture" if link.is_picture else "file"
-        sentence = f"the {kind} `{names.shown(link.path or '')}` {why}"
+        alike = self.sources.alike(names.encoded(link.path or "")) if why == "is missing" else None
+        sentence = f"the {kind} `{names.shown(link.path or '')}` {why}{f' (there is `{alike}`)' if alike else ''}"
         found = self.of_target.get(names.encoded(link.path or ""), ())
         yield from (Message(self.sources.place(document.name), *it.place, sentence) for document, it in found)
         if not found:
@@ -104,10 +109,11 @@ class Checks:
         """An id that stands twice in a page since its element is brought in more than once, or beside another of its id."""
         title = names.shown(page.path)
         so = f"stands more than once in the page `{title}`, since content is brought in: links lead to the first"
-        for document in self.documents:
-            for written, places in document.ids.values():
-                if name.endswith("__" + written):
-                    return Message(self.sources.place(document.name), *places[0], f"the id `{written}` {so}")
+        for found in re.finditer("__", name):
+            written = name[found.end():]
+            if written in self.by_written:
+                document, place = self.by_written[written]
+                return Message(self.sources.place(document.name), *place, f"the id `{written}` {so}")
         return Message(self.place_of_page(page.path), 0, 0, f"the id `{name}` {so}")
 
     def hidden_by_pages(self) -> Iterator[Message]:

@@ -27,7 +27,7 @@ class Sources:
         self.foreign: set[str] = set()
         self.paths: dict[str, str] = {}
         self.real_folder = os.path.realpath(folder)
-        self.base = os.path.join(folder, "")
+        self.base = os.path.join(folder, "") if str(folder) != os.curdir else ""
 
     def path(self, name: str) -> str:
         """The file that has a name, whether or not it is there."""
@@ -43,6 +43,20 @@ class Sources:
 
     def is_there(self, name: str) -> bool:
         return os.path.isfile(self.path(name))
+
+    def alike(self, name: str) -> str | None:
+        """A file whose path differs from that of this name in capitals alone, or in how its accents are written."""
+        wanted, found = names.decoded(name).split("/"), ""
+        for segment in wanted:
+            try:
+                entries = os.listdir(self.base + found or ".")
+            except OSError:
+                return None
+            same = [it for it in entries if names.folded(it) == names.folded(segment)]
+            if not same:
+                return None
+            found = os.path.join(found, segment if segment in same else same[0])
+        return names.shown(found)
 
     def name_of(self, path: str) -> str:
         """The document name of a file of the command. One that lies outside of FOLDER has a name that no file of FOLDER can have."""
@@ -101,8 +115,9 @@ def reach(sources: Sources, roots: list[str], tell: Callable[[int], None] = lamb
                 sources.read(name)
 
 
-def files_below(folder: str) -> Iterator[str]:
-    """The files that may be documents, links to folders followed, each folder once. Names that begin with a dot are passed over."""
+def files_below(folder: pathlib.Path) -> Iterator[str]:
+    """The files that may be documents, by their paths below FOLDER; links to folders are followed, each folder is looked at once, and
+    names that begin with a dot are passed over."""
     seen = set()
     for place, folders, files in os.walk(folder, followlinks=True):
         status = os.stat(place)
@@ -111,18 +126,20 @@ def files_below(folder: str) -> Iterator[str]:
             continue
         seen.add((status.st_dev, status.st_ino))
         folders[:] = sorted(name for name in folders if not name.startswith("."))
-        yield from (os.path.join(place, name) for name in sorted(files) if name.endswith(ENDINGS) and not name.startswith("."))
+        below = os.path.relpath(place, folder)
+        found = sorted(name for name in files if name.endswith(ENDINGS) and not name.startswith("."))
+        yield from (name if below == os.curdir else os.path.join(below, name) for name in found)
 
 
 def not_reached(sources: Sources, tell: Callable[[int], None] = lambda count: None) -> Iterator[Message]:
     """A warning for each file that is not well formed and that nothing reaches."""
-    for count, path in enumerate(files_below(sources.base)):
-        name = names.encoded(path[len(sources.base):])
+    for count, path in enumerate(files_below(sources.folder)):
+        name = names.encoded(path)
         if name in sources.documents or name in sources.unread:
             continue
         tell(count)
         try:
-            reader.read(sources.real_folder, name, path)
+            reader.read(sources.real_folder, name, sources.path(name))
         except reader.Unread as unread:
             told = unread.message
             yield Message(told.path, told.line, told.column, f"{told.sentence}: nothing that is published leads to this file",

@@ -50,6 +50,11 @@ def publish(asked: options.Options) -> int:
     publication = Publication(asked, lambda text: say(text, sys.stdout))
     try:
         publication.run()
+    except KeyboardInterrupt:
+        publication.progress.clear()
+        if not publication.is_put:
+            raise
+        say("publish: interrupted, and the pages are there", sys.stderr)
     except Stop as stop:
         publication.progress.clear()
         for message in publication.messages():
@@ -64,8 +69,9 @@ def main(words: Sequence[str]) -> int:
     for stream in (sys.stdout, sys.stderr):
         if stream is not None:
             stream.reconfigure(errors="backslashreplace")
-    signal.signal(signal.SIGTERM, interrupt)
-    signal.signal(signal.SIGHUP, interrupt)
+    for number in (signal.SIGINT, signal.SIGTERM, signal.SIGHUP):
+        if signal.getsignal(number) != signal.SIG_IGN:
+            signal.signal(number, interrupt)
     try:
         return publish(options.read(words))
     except options.BadWords as refused:

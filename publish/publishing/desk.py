@@ -1,6 +1,7 @@
 """Runs the desk over a script, and says in a writer's words how it ended."""
 from __future__ import annotations
 
+import errno
 import pathlib
 import subprocess
 
@@ -30,7 +31,8 @@ def run(program: list[str], script: bytes, folder: pathlib.Path) -> str:
         child = subprocess.Popen([*program, "clean", "--out", str(folder)], stdin=subprocess.PIPE, stdout=subprocess.PIPE,
                                  stderr=subprocess.PIPE)
     except OSError as error:
-        raise Stop(f"{program[0]}: the program does not start: {error.strerror}") from None
+        hint = "; the release is for x86-64 Linux, and `tools/build` builds one here" if error.errno == errno.ENOEXEC else ""
+        raise Stop(f"{program[0]}: the program does not start: {error.strerror}{hint}") from None
     try:
         output, errors = child.communicate(script)
     except BaseException:

@@ -65,6 +65,7 @@ class Document:
     passed_over: dict[str, list[Place]] = dataclasses.field(default_factory=dict)
     pages: list[tuple[str, Place]] = dataclasses.field(default_factory=list)
     nodes: int = 0
+    split: list[str] | None = None
 
     def text(self) -> str:
         """Its lines for the desk, the last one without its end."""
@@ -72,7 +73,9 @@ class Document:
 
     def place(self, line: int) -> Place:
         """The line and the column in the file of what stands in this line of PYX, counted from 1."""
-        return place_in(self.text().split("\n"), line)
+        if self.split is None:
+            self.split = self.text().split("\n")
+        return place_in(self.split, line)
 
     def size(self) -> int:
         """How many bytes its lines have, with their ends."""

@@ -21,6 +21,7 @@ MISSING = {
     "NotTopic": "it gets no page",
     "BadReference": "nothing comes of it",
 }
+KINDS = {"ConrefMissing": "file", "MapMissing": "map", "DitavalMissing": "DITAVAL"}
 NAMED = frozenset({"MapMissing", "MapCycle", "TopicMissing", "NotTopic", "DitavalMissing", "LinkNoPage", "NameChanged"})
 
 
@@ -29,6 +30,7 @@ class Teller:
 
     def __init__(self, sources: Sources, refused: dict[str, Message]) -> None:
         self.sources, self.refused = sources, refused
+        self.only_images = only_images(sources)
 
     def message(self, fault: Fault) -> Message:
         document = self.sources.documents[fault.name]
@@ -69,12 +71,11 @@ class Teller:
         if name in self.sources.foreign:
             form = posixpath.splitext(name)[1][1:].lower() or "text"
             return f"`{title}` is no DITA file: write format=\"{form}\" here; as it is, {so}"
-        if fault.code == "ConrefMissing":
-            return f"there is no file `{title}`: {so}"
-        if fault.code == "LinkNoPage" and not self.sources.is_there(name):
-            hint = "" if name.endswith(ENDINGS) else " (a file that is no DITA needs a `format`)"
-            return f"there is no topic `{title}`{hint}: {so}"
-        return None
+        if self.sources.is_there(name):
+            return None
+        alike = self.sources.alike(name)
+        hint = f" (there is `{alike}`)" if alike else "" if name.endswith(ENDINGS) else " (a file that is no DITA needs a `format`)"
+        return f"there is no {KINDS.get(fault.code, 'topic')} `{title}`{hint}: {so}"
 
 
 def shown(fault: Fault) -> str:
@@ -99,19 +100,16 @@ def refusals(sources: Sources, replies: Iterable[tuple[str, list[str]]]) -> dict
     return told
 
 
-def is_no_news(sources: Sources, fault: Fault) -> bool:
-    """Whether a key has no text and needs none, since only images use it."""
-    if fault.code != "KeyNoText":
-        return False
-    uses = [use.is_image for document in sources.documents.values() for use in document.keys
-            if not document.is_map and names_key(use.value, fault.detail)]
-    return bool(uses) and all(uses)
-
-
-def names_key(value: str, key: str) -> bool:
-    """Whether a key reference names a key, perhaps by a scope."""
-    name = value.partition("/")[0]
-    return name == key or name.endswith("." + key)
+def only_images(sources: Sources) -> dict[str, bool]:
+    """Whether only images of topics use a key, by its name, perhaps through a scope: such a key needs no text."""
+    found: dict[str, bool] = {}
+    for document in sources.documents.values():
+        for use in () if document.is_map else document.keys:
+            names_of_key = use.value.partition("/")[0].split(".")
+            for place in range(len(names_of_key)):
+                name = ".".join(names_of_key[place:])
+                found[name] = found.get(name, True) and use.is_image
+    return found
 
 
 def told_all(teller: Teller, faults: Iterable[Fault]) -> Iterator[Message]:
@@ -120,7 +118,7 @@ def told_all(teller: Teller, faults: Iterable[Fault]) -> Iterator[Message]:
     for fault in faults:
         if fault.code == "Foreign":
             foreign[fault.detail].append(teller.message(fault))
-        elif not is_no_news(teller.sources, fault):
+        elif not (fault.code == "KeyNoText" and teller.only_images.get(fault.detail)):
             yield teller.message(fault)
     for name, messages in foreign.items():
         first = min(messages)

@@ -8,6 +8,7 @@ from __future__ import annotations
 
 import os
 import re
+import unicodedata
 import urllib.parse
 
 LONGEST = 255
@@ -32,6 +33,11 @@ def decoded(name: str) -> str:
 def shown(path: str) -> str:
     """A path as it can be printed: a byte that is no UTF-8 becomes `?`."""
     return path.encode("utf-8", "replace").decode("utf-8")
+
+
+def folded(segment: str) -> str:
+    """A part of a path without its capitals, its accents in one form."""
+    return unicodedata.normalize("NFC", segment).casefold()
 
 
 def has_scheme(value: str) -> bool:

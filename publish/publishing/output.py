@@ -95,8 +95,8 @@ class Output:
             with contextlib.suppress(OSError):
                 parent.rmdir()
 
-    def put(self) -> None:
-        """Moves what was made into the place of OUT."""
+    def put(self) -> bool:
+        """Moves what was made into the place of OUT; True, since else it stops."""
         try:
             made = sorted(names.encoded(path) for path in files_of(self.pages))
             (self.pages / MARKER).write_text(HEAD + "".join(f"{path}\n" for path in made), encoding="utf-8")
@@ -105,6 +105,7 @@ class Output:
                     self.keep_others()
                 shutil.copystat(self.out, self.pages)
             self.swap()
+            return True
         except OSError as error:
             raise Stop(f"{self.named}: can't be replaced: {error.strerror}") from None
 

@@ -25,6 +25,7 @@ class Publication:
         self.sources = closure.Sources(asked.folder)
         self.told: set[Message] = set()
         self.pages: dict[str, pages.Page] = {}
+        self.is_put = False
 
     def messages(self) -> list[Message]:
         return sorted(self.told)
@@ -68,7 +69,7 @@ class Publication:
         if path.is_dir():
             return f"{path}: is a folder and no file"
         ending = path.suffix
-        others = [it[len(self.sources.base):] for it in closure.files_below(self.sources.base) if posixpath.splitext(it)[1] == ending]
+        others = [it for it in closure.files_below(self.asked.folder) if posixpath.splitext(it)[1] == ending]
         return f"{path}: there is no such file; the files of {self.asked.folder} that end in {ending or 'nothing'}: " \
                f"{names.shown(', '.join(others[:20])) or 'none'}{', ..' if len(others) > 20 else ''}"
 
@@ -142,7 +143,7 @@ class Publication:
         copied = beside.wanted(self.asked.folder, self.pages)
         self.progress.tell(f"copying {counted(len(copied), 'file')}")
         beside.copy(self.asked.folder, copied, output.pages)
-        output.put()
+        self.is_put = output.put()
         self.progress.clear()
         if self.asked.verbose:
             for path in copied:

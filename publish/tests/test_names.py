@@ -74,6 +74,21 @@ class Files(Case):
         for value in (away, "mailto:a@b.c", "/a%2Fb"):
             self.assertIn(f'href="{value}"', self.page("t.html"))
 
+    def test_other_capitals_and_other_accents(self):
+        files = {"m.ditamap": map_of("Sub/T.dita", "b\u00e4.dita"), "sub/t.dita": topic(""), "ba\u0308.dita": topic("<image href='A.png'/>"),
+                 "n.ditamap": map_of("ba\u0308.dita"), "a.png": b"x"}
+        self.assertEqual(self.publish(files).told, [
+            "docs/m.ditamap:1:22: there is no topic `Sub/T.dita` (there is `sub/t.dita`): it gets no page (TopicMissing)",
+            "docs/m.ditamap:1:51: there is no topic `b\u00e4.dita` (there is `ba\u0308.dita`): it gets no page (TopicMissing)"])
+        result = self.call("docs", "n.ditamap", "out")
+        self.assertEqual(result.told, ["docs/ba\u0308.dita:1:37: the picture `A.png` is missing (there is `a.png`)"])
+
+    def test_where_you_are(self):
+        self.put({"m.ditamap": map_of("t.dita"), "t.dita": topic("<image href='a.png'/>"), "old.dita": "<b>"})
+        for words in (["-m", "m.ditamap"], ["-i", ".", "-o", "out"], [".", "m.ditamap", "out"], []):
+            result = self.call(*words, cwd=self.docs)
+            self.assertEqual((result.status, [line.partition(": ")[0] for line in result.told]), (0, ["old.dita:1:4", "t.dita:1:37"]), words)
+
     def test_out_of_the_folder(self):
         self.put({"t.dita": topic("", "u", "Above")}, self.root)
         result = self.publish({"m.ditamap": map_of("../t.dita")})
