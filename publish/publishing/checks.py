@@ -6,7 +6,7 @@ from __future__ import annotations
 import collections
 import posixpath
 import re
-from collections.abc import Callable, Iterable, Iterator
+from collections.abc import Callable, Collection, Iterator
 
 from publishing import names
 from publishing.closure import Sources
@@ -125,12 +125,19 @@ class Checks:
                                   f"the file `{names.shown(path)}` is not copied: a page has its name")
 
 
-def passed_over(sources: Sources, published: Iterable[str]) -> Iterator[Message]:
+def is_published(document: Document, pages: Collection[str], names_of_pages: str) -> bool:
+    """Whether a document has a page, as far as its name tells: a page in a branch has the name of its document within its own."""
+    base = posixpath.basename(pages_of(document)).removesuffix(".html")
+    return pages_of(document) in pages or base in names_of_pages
+
+
+def passed_over(sources: Sources, pages: Collection[str]) -> Iterator[Message]:
     """A warning for each kind of element whose content no page shows without a fault of the desk, at its first place."""
-    found: dict[str, list[tuple[str, int, int]]] = {}
-    for name in published:
-        document = sources.documents.get(name)
-        for element, places in (document.passed_over.items() if document is not None else ()):
-            found.setdefault(element, []).extend((sources.place(name), *place) for place in places)
+    found: dict[str, list[tuple[str, int, int]]] = collections.defaultdict(list)
+    names_of_pages = "\n".join(map(posixpath.basename, pages))
+    for document in sources.documents.values():
+        if document.passed_over and is_published(document, pages, names_of_pages):
+            for element, places in document.passed_over.items():
+                found[element] += [(sources.place(document.name), *place) for place in places]
     for element, places in sorted(found.items()):
         yield Message(*min(places), f"pages show nothing of <{element}>: {counted(len(places), 'element')} of the sources", is_warning=True)

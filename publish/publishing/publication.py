@@ -139,7 +139,7 @@ class Publication:
         self.progress.tell("checking the links")
         place_of_page = lambda path: names.shown(str(self.asked.out / path))
         self.told.update(checks.Checks(self.sources, self.pages, place_of_page).all())
-        self.told.update(checks.passed_over(self.sources, self.published()))
+        self.told.update(checks.passed_over(self.sources, self.pages))
         copied = beside.wanted(self.asked.folder, self.pages)
         self.progress.tell(f"copying {counted(len(copied), 'file')}")
         beside.copy(self.asked.folder, copied, output.pages)
@@ -149,18 +149,6 @@ class Publication:
             for path in copied:
                 self.say(f"copied {names.shown(str(self.asked.out / path))}")
         self.tell_end()
-
-    def published(self) -> list[str]:
-        """The documents that have pages, as far as their names tell."""
-        bases = {posixpath.dirname(path): [] for path in self.pages}
-        for path in self.pages:
-            bases[posixpath.dirname(path)].append(posixpath.basename(path))
-        found = []
-        for name in self.sources.documents:
-            folder, base = posixpath.split(names.decoded(posixpath.splitext(name)[0]))
-            if any(base in other for other in bases.get(folder, ())):
-                found.append(name)
-        return found
 
     def tell_end(self) -> None:
         """Tells the messages, and on the last line what is there."""

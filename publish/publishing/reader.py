@@ -158,12 +158,14 @@ class Reader:
         if self.has_unread_dtd:
             self.look_for_unknown_entities()
         line, column = self.parser.CurrentLineNumber, self.parser.CurrentColumnNumber + 1
+        if not attributes and around is not None:
+            kind = kind_of(name, None, self.document.is_map)
+            if kind.is_plain:
+                self.open.append(Open(kind, line, around.topic, around.cascade))
+                self.parts.append(f"?line {line}:{column}\n{kind.head}")
+                return
         written = dict(zip(attributes[::2], attributes[1::2]))
         kind = kind_of(name, written.get("class"), self.document.is_map)
-        if not written and kind.is_plain and around is not None:
-            self.open.append(Open(kind, line, around.topic, around.cascade))
-            self.parts.append(f"?line {line}:{column}\n{kind.head}")
-            return
         pairs = with_defaults(kind, written)
         self.begin(kind, pairs, (line, column), around)
         self.note(kind, pairs, (line, column))
@@ -187,7 +189,7 @@ class Reader:
         self.parts.append(")" + name)
 
     def flush(self) -> None:
-        text = escaped("".join(self.text))
+        text = escaped(self.text[0] if len(self.text) == 1 else "".join(self.text))
         self.text.clear()
         if text:
             self.parts.append("-" + text)
