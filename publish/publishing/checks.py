@@ -35,6 +35,7 @@ class Checks:
         self.told: set[Message] = set()
         self.of_target: dict[str, list[tuple[Document, Reference]]] = collections.defaultdict(list)
         self.of_id: dict[str, list[tuple[Document, Reference]]] = collections.defaultdict(list)
+        self.of_dot: dict[str, list[tuple[Document, Reference]]] = collections.defaultdict(list)
         self.by_key: dict[str, list[tuple[Document, KeyUse]]] = collections.defaultdict(list)
         self.by_written: dict[str, tuple[Document, Place]] = {}
         self.index()
@@ -55,6 +56,8 @@ class Checks:
                 self.of_target[reference.target or ""].append((document, reference))
                 if reference.asks in ("link", "node") and reference.fragment:
                     self.of_id[asked_id(reference)].append((document, reference))
+                    if reference.fragment.startswith("./"):
+                        self.of_dot[reference.fragment[2:]].append((document, reference))
             for written, places in document.ids.values():
                 self.by_written.setdefault(written, (document, places[0]))
             for use in document.keys:
@@ -82,7 +85,12 @@ class Checks:
         by_key = [Message(self.sources.place(document.name), *use.place, f"`{use.value}` leads to no element{so}")
                   for document, use in self.by_key.get(link.fragment.partition("__")[2], ())]
         page_alone = Message(self.place_of_page(page.path), 0, 0, f"`{link.written}` leads to no element{so}")
-        yield from asked or by_key or [page_alone]
+        yield from asked or self.brought_in_links(link, so) or by_key or [page_alone]
+
+    def brought_in_links(self, link: Link, so: str) -> list[Message]:
+        """The references `#./ID` that ask for the element of a link, in whatever topic they stand now."""
+        return [Message(self.sources.place(document.name), *it.place, f"`{it.written}` leads to no element{so}")
+                for document, it in self.of_dot.get(link.fragment.partition("__")[2], ())]
 
     def no_file(self, page: Page, link: Link, why: str) -> Iterator[Message]:
         """A link to a file that is not there: told at each reference to it."""

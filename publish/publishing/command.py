@@ -23,26 +23,15 @@ def interrupt(_number: int, _frame: object) -> None:
 
 
 def say(text: str, stream: TextIO | None) -> None:
-    """Writes a line, if somebody still reads."""
+    """Writes a line, if somebody still reads; a stream that fails is left alone from then on."""
     if stream is None:
         return
     try:
         print(text, file=stream, flush=True)
-    except (BrokenPipeError, ValueError):
-        pass
     except OSError as error:
-        if stream is not sys.stderr:
+        os.dup2(os.open(os.devnull, os.O_WRONLY), stream.fileno())
+        if stream is not sys.stderr and not isinstance(error, BrokenPipeError):
             say(f"publish: standard output: {error.strerror}", sys.stderr)
-
-
-def leave_streams() -> None:
-    """Sees to it that no write to a closed pipe is tried again when the program ends."""
-    for stream in (sys.stdout, sys.stderr):
-        try:
-            if stream is not None:
-                stream.flush()
-        except OSError:
-            os.dup2(os.open(os.devnull, os.O_WRONLY), stream.fileno())
 
 
 def publish(asked: options.Options) -> int:
@@ -80,5 +69,3 @@ def main(words: Sequence[str]) -> int:
     except KeyboardInterrupt:
         say("publish: interrupted: nothing is published", sys.stderr)
         return NOTHING
-    finally:
-        leave_streams()

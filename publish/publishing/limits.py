@@ -50,18 +50,18 @@ Scope = tuple[object, ...]
 def included(sources: Sources, root: str) -> list[tuple[str, Scope]]:
     """The maps that a map includes, itself first, each as often as it is included (but not in itself), and its key scope."""
     found: list[tuple[str, Scope]] = []
-
-    def visit(name: str, scope: Scope, around: tuple[str, ...]) -> None:
+    waiting: list[tuple[str, Scope, frozenset[str]]] = [(root, (), frozenset())]
+    while waiting and len(found) <= NODES:
+        name, scope, around = waiting.pop()
         document = sources.documents.get(name)
-        if document is None or not document.is_map or name in around or len(found) > NODES:
-            return
+        if document is None or not document.is_map or name in around:
+            continue
         found.append((name, scope))
-        for reference in document.references:
-            if reference.asks == "node" and reference.target is not None:
+        inside = around | {name}
+        for reference in reversed(document.references):
+            if reference.asks == "node" and reference.target in sources.documents:
                 inner = (*scope, name, reference.keyscope) if any(reference.keyscope) else scope
-                visit(reference.target, inner, (*around, name))
-
-    visit(root, (), ())
+                waiting.append((reference.target, inner, inside))
     return found
 
 

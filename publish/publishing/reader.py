@@ -92,10 +92,10 @@ def bytes_of(path: str) -> bytes:
 def read(folder: str, name: str, path: str) -> Document | None:
     """The document of a file; none, if no such file is there, and Unread says why one can't be read. Entities and DTDs are read
     if they lie in FOLDER, which is a path without links."""
+    if not os.path.isfile(path):
+        return None
     try:
         data = bytes_of(path)
-    except (FileNotFoundError, NotADirectoryError, IsADirectoryError):
-        return None
     except OSError as error:
         raise Unread(Message(names.shown(path), 0, 0, f"the file can't be read: {error.strerror}")) from None
     return Reader(folder, Document(name, path)).read(data)

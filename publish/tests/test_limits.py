@@ -5,7 +5,7 @@ import unittest
 from cases import Case, map_of, topic
 from publishing import limits
 from publishing.closure import Sources
-from publishing.document import Document
+from publishing.document import Document, Reference
 from publishing.message import Stop
 
 
@@ -43,6 +43,14 @@ class Limits(unittest.TestCase):
 
 
 class Maps(Case):
+    def test_maps_in_a_row_are_counted(self):
+        """Three thousand maps, each in the one before, are more than Python would follow by calls."""
+        sources = sources_of({})
+        for number in range(3000):
+            reference = Reference((1, 1), "href", "", "", f"{number + 1}", "", "", "node", (0, 0))
+            sources.documents[f"{number}"] = Document(f"{number}", "", is_map=True, nodes=2, references=[reference])
+        self.assertEqual(limits.nodes_of(sources, "0").total(), 6000)
+
     def test_nodes(self):
         """A map of 256 nodes and its own root, 257 times in a map that has 258 more."""
         small = "<map>" + "<topichead/>" * 256 + "</map>"

@@ -45,6 +45,10 @@ class Lost(Case):
         self.assertEqual(result.told, ["docs/t.dita:1:40: `k/b` leads to no element: the page `t.html` has no such element, and the link "
                                        "leads to its top"])
 
+    def test_an_xref_that_is_brought_in_to_an_id_that_is_in_no_page(self):
+        told = self.told("<p conref='u.dita#u/a'/>", **{"u.dita": topic("<p id='a'><xref href='#./c'/></p><p id='c'/>", "u")})
+        self.assertEqual(told, ["docs/u.dita:1:47: `#./c` leads to no element: the page `t.html` has no such element, and the link leads to its top"])
+
     def test_a_conref_to_an_id_that_is_in_no_document(self):
         told = self.told("<p conref='u.dita#u/b'/><p conref='u.dita#v/a'/><p conref='gone.dita#g/a'/><p conref='u.dita#u/a'/>",
                          **{"u.dita": topic("<p id='a'/>", "u")})

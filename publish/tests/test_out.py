@@ -186,12 +186,16 @@ class Ends(Case):
         self.assertEqual(result.told[-1], "docs/u.dita: the file can't be read: Permission denied: the document is left out")
 
     def test_closed_input_and_output(self):
-        for redirect in ("<&-", ">&-", "2>&-", "<&- >&- 2>&-", "| true"):
+        self.put({"m.ditamap": map_of("u.dita", "gone.dita")})
+        for redirect in ("<&-", ">&-", "2>&-", "<&- >&- 2>&-", "| true", ">/dev/full 2>&-"):
             ended = subprocess.run(["sh", "-c", f'"$0" "$1" docs m.ditamap new {redirect}', sys.executable, str(PUBLISH)], cwd=self.root,
                                    capture_output=True, timeout=60)
             self.assertEqual((ended.returncode, ended.stderr), (0, b""), redirect)
             self.assertTrue((self.root / "new" / "u.html").is_file())
             subprocess.run(["rm", "-r", str(self.root / "new")], check=True)
+        result = subprocess.run(["sh", "-c", '"$0" "$1" docs m.ditamap new >/dev/full', sys.executable, str(PUBLISH)], cwd=self.root,
+                                capture_output=True, timeout=60)
+        self.assertEqual(result.stderr, b"publish: standard output: No space left on device\n")
 
 
 class Progress(Case):
