@@ -14,6 +14,7 @@ from publishing.document import Document, KeyUse, Place, Reference, html_id
 from publishing.message import Message, counted
 from publishing.pages import Link, Page
 
+
 def asked_id(reference: Reference) -> str:
     """The id in a page that a reference asks for."""
     topic, slash, element = reference.fragment.partition("/")
@@ -67,7 +68,7 @@ class Checks:
     def link(self, page: Page, link: Link) -> Iterator[Message]:
         """What is wrong with a link of a page."""
         if link.path is None:
-            yield Message(self.place_of_page(page.path), 0, 0, f"`{link.written}` leads out of the folder of the pages")
+            yield self.on(page, f"`{link.written}` leads out of the folder of the pages")
         elif link.path in self.pages:
             if link.fragment and link.fragment not in self.pages[link.path].ids:
                 yield from self.no_id(page, link)
@@ -76,31 +77,30 @@ class Checks:
             if not path.is_file():
                 yield from self.no_file(page, link, "is a folder" if path.is_dir() else "is missing")
 
-    def no_id(self, page: Page, link: Link) -> Iterator[Message]:
-        """A link to an id that is in no page: told at each reference that asks for it, else at each key that does."""
-        target = self.document_of_page.get(link.path or "")
-        so = f": the page `{names.shown(link.path or '')}` has no such element, and the link leads to its top"
-        asked = [Message(self.sources.place(document.name), *it.place, f"`{it.written}` leads to no element{so}")
-                 for document, it in self.of_id.get(link.fragment, ()) if target in (None, it.target)]
-        by_key = [Message(self.sources.place(document.name), *use.place, f"`{use.value}` leads to no element{so}")
-                  for document, use in self.by_key.get(link.fragment.partition("__")[2], ())]
-        page_alone = Message(self.place_of_page(page.path), 0, 0, f"`{link.written}` leads to no element{so}")
-        yield from asked or self.brought_in_links(link, so) or by_key or [page_alone]
+    def at(self, document: Document, place: Place, sentence: str) -> Message:
+        return Message(self.sources.place(document.name), *place, sentence)
 
-    def brought_in_links(self, link: Link, so: str) -> list[Message]:
-        """The references `#./ID` that ask for the element of a link, in whatever topic they stand now."""
-        return [Message(self.sources.place(document.name), *it.place, f"`{it.written}` leads to no element{so}")
-                for document, it in self.of_dot.get(link.fragment.partition("__")[2], ())]
+    def on(self, page: Page, sentence: str) -> Message:
+        """A message where nothing in the sources is known that asks for what is missing."""
+        return Message(self.place_of_page(page.path), 0, 0, sentence)
 
-    def no_file(self, page: Page, link: Link, why: str) -> Iterator[Message]:
+    def no_id(self, page: Page, link: Link) -> list[Message]:
+        """A link to an id that is in no page: told at each reference that asks for it. Else, it was brought in from another topic, or a
+        key leads there."""
+        target, element = self.document_of_page.get(link.path or ""), link.fragment.partition("__")[2]
+        so = f"leads to no element: the page `{names.shown(link.path or '')}` has no such element, and the link leads to its top"
+        asked = [(document, it) for document, it in self.of_id.get(link.fragment, ()) if target in (None, it.target)]
+        told = [self.at(document, it.place, f"`{it.written}` {so}") for document, it in asked or self.of_dot.get(element, ())]
+        by_key = [self.at(document, use.place, f"`{use.value}` {so}") for document, use in self.by_key.get(element, ())]
+        return told or by_key or [self.on(page, f"`{link.written}` {so}")]
+
+    def no_file(self, page: Page, link: Link, why: str) -> list[Message]:
         """A link to a file that is not there: told at each reference to it."""
         kind = "picture" if link.is_picture else "file"
         alike = self.sources.alike(names.encoded(link.path or "")) if why == "is missing" else None
         sentence = f"the {kind} `{names.shown(link.path or '')}` {why}{f' (there is `{alike}`)' if alike else ''}"
         found = self.of_target.get(names.encoded(link.path or ""), ())
-        yield from (Message(self.sources.place(document.name), *it.place, sentence) for document, it in found)
-        if not found:
-            yield Message(self.place_of_page(page.path), 0, 0, sentence)
+        return [self.at(document, it.place, sentence) for document, it in found] or [self.on(page, sentence)]
 
     def twice(self, page: Page, name: str) -> Iterator[Message]:
         """An id that stands twice in a page: told at the second element of the document that has it."""
@@ -108,8 +108,8 @@ class Checks:
         for document in [own] if own is not None else self.documents:
             written, places = document.ids.get(name, ("", []))
             if len(places) > 1:
-                yield from (Message(self.sources.place(document.name), *place, f"the id `{written}` stands in line "
-                            f"{places[0][0]} already: links lead there") for place in places[1:])
+                so = f"the id `{written}` stands in line {places[0][0]} already: links lead there"
+                yield from (self.at(document, place, so) for place in places[1:])
                 return
         yield self.brought_in(page, name)
 
@@ -121,16 +121,15 @@ class Checks:
             written = name[found.end():]
             if written in self.by_written:
                 document, place = self.by_written[written]
-                return Message(self.sources.place(document.name), *place, f"the id `{written}` {so}")
-        return Message(self.place_of_page(page.path), 0, 0, f"the id `{name}` {so}")
+                return self.at(document, place, f"the id `{written}` {so}")
+        return self.on(page, f"the id `{name}` {so}")
 
     def hidden_by_pages(self) -> Iterator[Message]:
         """References to a file in whose place a page stands."""
         for path in self.pages:
             for document, reference in self.of_target.get(names.encoded(path), ()):
                 if reference.asks == "file" and (self.sources.folder / path).is_file():
-                    yield Message(self.sources.place(document.name), *reference.place,
-                                  f"the file `{names.shown(path)}` is not copied: a page has its name")
+                    yield self.at(document, reference.place, f"the file `{names.shown(path)}` is not copied: a page has its name")
 
 
 def is_published(document: Document, pages: Collection[str], names_of_pages: str) -> bool:

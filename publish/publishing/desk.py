@@ -41,4 +41,4 @@ def run(program: list[str], script: bytes, folder: pathlib.Path) -> str:
         raise
     if child.returncode != 0:
         raise Stop(why(child.returncode, output.decode("utf-8", "replace"), errors.decode("utf-8", "replace"), folder))
-    return output.decode("utf-8")
+    return output.decode("utf-8", "replace")

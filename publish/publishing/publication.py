@@ -89,9 +89,11 @@ class Publication:
 
     def judge(self, documents: list[Document], roots: list[str], entries: list[transcript.Entry]) -> None:
         """Takes the messages of a build from its transcript, or stops if nothing was built."""
+        if len(entries) != len(documents) + 1:
+            raise Stop("the desk's answer has not as many entries as the script has requests")
         refused = faults.refusals(self.sources, zip((it.name for it in documents), (it.reply for it in entries)))
         self.told.update(refused.values())
-        built = entries[len(documents)]
+        built = entries[-1]
         if built.reply[0] != "built":
             place = self.sources.place(roots[0])
             beyond = limits.beyond(self.sources, roots[0], built.reply)
@@ -113,7 +115,7 @@ class Publication:
             self.write(output.pages / page.path, dress(data, page.path))
             (made / name).unlink()
             if self.asked.verbose:
-                self.say(f"page {names.shown(str(self.asked.out / page.path))}")
+                self.say(f"page {self.shown(page.path)}")
 
     def write(self, path: pathlib.Path, data: bytes) -> None:
         try:
@@ -137,8 +139,7 @@ class Publication:
     def finish(self, output: Output) -> None:
         """Checks the pages, copies the files to which they lead, and puts all in the place of OUT."""
         self.progress.tell("checking the links")
-        place_of_page = lambda path: names.shown(str(self.asked.out / path))
-        self.told.update(checks.Checks(self.sources, self.pages, place_of_page).all())
+        self.told.update(checks.Checks(self.sources, self.pages, self.shown).all())
         self.told.update(checks.passed_over(self.sources, self.pages))
         copied = beside.wanted(self.asked.folder, self.pages)
         self.progress.tell(f"copying {counted(len(copied), 'file')}")
@@ -147,8 +148,12 @@ class Publication:
         self.progress.clear()
         if self.asked.verbose:
             for path in copied:
-                self.say(f"copied {names.shown(str(self.asked.out / path))}")
+                self.say(f"copied {self.shown(path)}")
         self.tell_end()
+
+    def shown(self, path: str) -> str:
+        """How messages name a page or a file of OUT."""
+        return names.shown(str(self.asked.out / path))
 
     def tell_end(self) -> None:
         """Tells the messages, and on the last line what is there."""

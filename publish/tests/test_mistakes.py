@@ -1,7 +1,6 @@
 """The table of mistakes in the page of the tool: each row is tried, and what the row says must be told.
 
 In a row `..` stands for any words. What the row says of the status is held too."""
-import os
 import re
 import unittest
 

@@ -134,7 +134,7 @@ class Ends(Case):
             self.same()
 
     def test_a_desk_that_fails(self):
-        for words, said in [("false", "the desk ended with status 1"), ("/no/such/program", "the program does not start: No such file"),
+        for words, said in [("false", "the desk ended with status 1"), ("true", "the desk's answer has not as many entries"), ("/no/such/program", "the program does not start: No such file"),
                             ("sh -c 'kill -9 $$'", "the desk was stopped by signal 9"), ("sh -c 'exit 5'", "memory ran out"),
                             ("sh -c 'echo >&2 dita_desk: OutletFault; echo >&2 b3/t.html: No space left; exit 7'",
                              "a page could not be written: b3/t.html: No space left")]:

@@ -96,6 +96,7 @@ class Reach(Case):
                                        "again (MapCycle)"])
 
     def test_no_map_and_no_ditaval(self):
+        (self.docs / "sub").mkdir()
         self.put({"n.ditamap": "<map/>", "v.ditaval": "<val/>", "b.ditamap": "<map><b></map>", "t.dita": topic("")})
         for words, said in [
             (("docs", "gone.ditamap", "out"), "gone.ditamap: there is no such file; the files of docs that end in .ditamap: b.ditamap, n.ditamap"),
@@ -104,6 +105,7 @@ class Reach(Case):
             (("docs", "t.dita", "out"), "docs/t.dita: `t.dita` is no map, so nothing was built"),
             (("docs", "n.ditamap", "out", "t.dita"), "docs/n.ditamap: `n.ditamap t.dita`: the DITAVAL is not there or is none, so nothing was built"),
             (("gone", "m.ditamap", "out"), "gone: there is no such folder"),
+            (("-i", "docs/sub", "-m", "docs/n.ditamap", "-o", "out"), "docs/n.ditamap: the map does not lie in docs/sub: name a folder around it by -i"),
             (("-m", "docs", "-o", "out"), "docs: is a folder and no file"),
         ]:
             result = self.call(*words)

@@ -3,7 +3,7 @@ import subprocess
 import sys
 
 import project
-from cases import TOOL, TOP, Case, map_of, topic
+from cases import TOOL, TOP, Case, map_of
 from publishing import sentences, steps
 
 
