@@ -16,7 +16,8 @@ class Forms(unittest.TestCase):
     def test_references_have_the_form_of_names(self):
         for value, normalised in [("b%C3%A4.dita", "b\u00e4.dita"), ("b%c3%a4.dita", "b\u00e4.dita"), ("a%20file.dita", "a%20file.dita"),
                                   ("a file.dita#t/%C3%A4", "a%20file.dita#t/\u00e4"), ("./x/../b.dita", "./x/../b.dita"), ("#./e", "#./e"),
-                                  ("100%25.dita", "100%25.dita"), ("100%.dita", "100%25.dita"), ("%7E.dita", "~.dita"), ("a.html?x=1&y=%20#z", "a.html?x=1&y=%20#z")]:
+                                  ("100%25.dita", "100%25.dita"), ("100%.dita", "100%25.dita"), ("%7E.dita", "~.dita"),
+                                  ("a.html?x=1&y=%20#z", "a.html?x=1&y=%20#z")]:
             self.assertEqual(names.normalised(value), normalised)
 
     def test_joining(self):
@@ -29,8 +30,10 @@ class Files(Case):
     def test_spaces_and_umlauts(self):
         files = {
             "m.ditamap": map_of("my%20topics/b%C3%A4.dita", "my topics/a file.dita", "./x/../100%25.dita", "no%23.dita"),
-            "my topics/b\u00e4.dita": topic("<p><xref href='a%20file.dita#a/p'>A</xref><xref href='../100%25.dita'/></p><image href='my%20picture.png'/>"),
-            "my topics/a file.dita": topic("<p id='p'><xref href='b\u00e4.dita'/><xref href='../no%23.dita'/></p><image href='my picture.png'/>", "a"),
+            "my topics/b\u00e4.dita": topic("<p><xref href='a%20file.dita#a/p'>A</xref><xref href='../100%25.dita'/></p>"
+                                         "<image href='my%20picture.png'/>"),
+            "my topics/a file.dita": topic("<p id='p'><xref href='b\u00e4.dita'/><xref href='../no%23.dita'/></p>"
+                                           "<image href='my picture.png'/>", "a"),
             "my topics/my picture.png": b"x", "100%.dita": topic("", "h", "Hundred"), "no#.dita": topic("", "n", "Number"),
         }
         result = self.publish(files)

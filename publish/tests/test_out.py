@@ -94,6 +94,16 @@ class Out(Case):
         self.assertTrue(script.startswith("1 put m.ditamap\n") and script.endswith("1 build m.ditamap\n"), script)
         self.assertTrue((self.root / "kept/here/transcript").read_text().startswith("dita transcript 1\nentry 0 1 1 stored 1\n"))
 
+    def test_a_style_of_ones_own(self):
+        self.put(FILES | {"own.css": "p { color: red }"})
+        self.assertEqual(self.call("docs", "m.ditamap", "out", "--style", "docs/own.css").status, 0)
+        self.assertEqual((self.out / "dita_desk.css").read_text(), "p { color: red }")
+        self.assertIn('href="dita_desk.css"', self.page("t.html"))
+        result = self.call("docs", "m.ditamap", "out", "--style", "gone.css")
+        self.assertEqual(result.status, 2)
+        self.assertIn("publish: gone.css: the style sheet can't be read: No such file or directory", result.errors)
+        self.assertEqual((self.out / "dita_desk.css").read_text(), "p { color: red }")
+
     def test_quiet_and_verbose(self):
         files = FILES | {"m.ditamap": map_of("t.dita", "gone.dita"), "a.png": b"x"}
         fault = "docs/m.ditamap:1:47: there is no topic `gone.dita`: it gets no page (TopicMissing)"
@@ -118,7 +128,8 @@ class Ends(Case):
 
     def slow_desk(self) -> dict[str, str]:
         """An environment with a desk that writes a page and then does not end."""
-        return os.environ | {"DITA_DESK": f"{sys.executable} -c 'import time, pathlib, sys; pathlib.Path(sys.argv[3], \"b3\").mkdir(); time.sleep(60)'"}
+        code = "import time, pathlib, sys; pathlib.Path(sys.argv[3], \"b3\").mkdir(); time.sleep(60)"
+        return os.environ | {"DITA_DESK": f"{sys.executable} -c '{code}'"}
 
     def test_interrupts(self):
         for number in (signal.SIGINT, signal.SIGTERM, signal.SIGHUP):

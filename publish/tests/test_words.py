@@ -27,11 +27,13 @@ class Words(Case):
         self.assertIn("<title>Kitchen Library Barista One</title>", self.page("index.html"))
 
     def test_choice_tables_definition_lists_and_menus(self):
-        choices = "<choicetable><chrow><choption>Left</choption><chdesc>Short</chdesc></chrow><chrow><choption>Right</choption><chdesc>Long</chdesc></chrow></choicetable>"
+        rows = "".join(f"<chrow><choption>{one}</choption><chdesc>{other}</chdesc></chrow>" for one, other in (("Left", "Short"), ("Right", "Long")))
+        choices = f"<choicetable>{rows}</choicetable>"
         text = self.text(f"<task id='t'><title>T</title><taskbody><steps><step><cmd>Go</cmd>{choices}</step></steps></taskbody></task>")
         self.assertEqual(text, "T Go Left Short Right Long")
-        lists = "<dl><dlentry><dt>Tea</dt><dd>hot</dd></dlentry><dlentry><dt>Ice</dt><dd>cold</dd></dlentry></dl><p><menucascade><uicontrol>File</uicontrol><uicontrol>Save</uicontrol></menucascade></p>"
-        self.assertEqual(self.text(f"<topic id='t'><title>T</title><body>{lists}</body></topic>"), "T Tea hot Ice cold File Save")
+        lists = "<dl><dlentry><dt>Tea</dt><dd>hot</dd></dlentry><dlentry><dt>Ice</dt><dd>cold</dd></dlentry></dl>"
+        menu = "<p><menucascade><uicontrol>File</uicontrol><uicontrol>Save</uicontrol></menucascade></p>"
+        self.assertEqual(self.text(f"<topic id='t'><title>T</title><body>{lists}{menu}</body></topic>"), "T Tea hot Ice cold File Save")
 
     def test_mixed_content_stays_as_it_is(self):
         text = self.text("<topic id='t'><title>T</title><body><p>H<sub>2</sub><b>O</b><i>!</i></p><ul><li><b>a</b><i>b</i></li></ul></body></topic>")
