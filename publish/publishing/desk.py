@@ -16,6 +16,12 @@ ENDS = {
 }
 
 
+HINTS = {
+    errno.ENOEXEC: "; the release is for x86-64 Linux, and `tools/build` builds a program",
+    errno.EACCES: "; `chmod +x` gives it the right",
+}
+
+
 def why(status: int, output: str, errors: str, folder: pathlib.Path) -> str:
     """What is told of a run that did not end as it should."""
     if status < 0:
@@ -31,8 +37,7 @@ def run(program: list[str], script: bytes, folder: pathlib.Path) -> str:
         child = subprocess.Popen([*program, "clean", "--out", str(folder)], stdin=subprocess.PIPE, stdout=subprocess.PIPE,
                                  stderr=subprocess.PIPE)
     except OSError as error:
-        hint = "; the release is for x86-64 Linux, and `tools/build` builds one here" if error.errno == errno.ENOEXEC else ""
-        raise Stop(f"{program[0]}: the program does not start: {error.strerror}{hint}") from None
+        raise Stop(f"{program[0]}: the program does not start: {error.strerror}{HINTS.get(error.errno, '')}") from None
     try:
         output, errors = child.communicate(script)
     except BaseException:

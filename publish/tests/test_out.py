@@ -20,6 +20,12 @@ def obey_permissions() -> None:
         ctypes.CDLL(None).prctl(24, capability, 0, 0, 0)
 
 
+def heed_signals() -> None:
+    """Has interrupts reach a call where those who started the tests ignore them, as a job in the background does."""
+    for number in (signal.SIGINT, signal.SIGTERM, signal.SIGHUP):
+        signal.signal(number, signal.SIG_DFL)
+
+
 class Out(Case):
     def files(self) -> list[str]:
         """The files of OUT without the marker."""
@@ -134,7 +140,7 @@ class Ends(Case):
     def test_interrupts(self):
         for number in (signal.SIGINT, signal.SIGTERM, signal.SIGHUP):
             child = subprocess.Popen([sys.executable, str(PUBLISH), "docs", "m.ditamap", "out"], cwd=self.root, env=self.slow_desk(),
-                                     stdout=subprocess.PIPE, stderr=subprocess.PIPE)
+                                     stdout=subprocess.PIPE, stderr=subprocess.PIPE, preexec_fn=heed_signals)
             for _ in range(200):
                 if any(self.root.glob(".out.publish-*/desk/b3")):
                     break
