@@ -14,8 +14,6 @@ ENDS = {
     6: "the desk reads no script there",
     7: "a page could not be written",
 }
-
-
 HINTS = {
     errno.ENOEXEC: "; the release is for x86-64 Linux, and `tools/build` builds a program",
     errno.EACCES: "; `chmod +x` gives it the right",
