@@ -88,6 +88,13 @@ def read_about(folder: pathlib.Path = FOLDER) -> dict[str, str]:
     return facts
 
 
+def is_beyond(commit: str) -> bool:
+    """Whether this is a clone without its whole history, which does not reach back to a commit."""
+    if git("rev-parse", "--is-shallow-repository").strip() != b"true":
+        return False
+    return subprocess.run(["git", "cat-file", "-e", f"{commit}^{{commit}}"], cwd=TOP, capture_output=True).returncode != 0
+
+
 def commits_behind(commit: str) -> tuple[int, int]:
     """How many commits stand behind this one, and how many of them changed crates."""
     every = git("rev-list", "--count", f"{commit}..HEAD")
