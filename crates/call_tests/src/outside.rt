@@ -77,8 +77,10 @@ fn an_outlet_does_not_take_the_page_that_failed(rt: HostRuntime) -> Result<(), F
 fn standard_input_is_read(rt: HostRuntime) -> Result<(), Fail> {
     let mut source = StdSource::new(b"ab".as_slice());
     let mut buffer = [0u8; 4];
+    assert_eq!(rt; source.first_byte(), None);
     assert_eq!(rt; source.read(&mut buffer), Ok(2));
     assert_eq!(rt; source.read(&mut buffer), Ok(0));
+    assert_eq!(rt; source.first_byte(), Some(b'a'));
     Ok(())
 }
 

@@ -20,7 +20,9 @@ pub fn command<'a>(alloc: Global) -> Result<Command<'a>, AllocError>
     ensures { IfOk result (λ command. spec.IsCommand (app_of command)) }
 {
     let with_mode = named(alloc).arg(mode(alloc))?;
-    let workers = number(alloc, "workers", 1, 16, "4").help("Threads that work on one build");
+    let workers = number(alloc, "workers", 1, 16, "4").help(
+        "No mode uses it yet: threads that work on one build",
+    );
     let start = with_mode.arg(workers)?;
     let made = with_project(alloc, start)?;
     let served = with_sessions(alloc, made)?;
@@ -43,10 +45,12 @@ fn with_project<'a>(alloc: Global, command: Command<'a>) -> Result<Command<'a>, 
         (spec.option (codes "topics") (value_parsers.Unsigned 2 4000) (codes "40"))) }
 {
     let seed = number(alloc, "number", 0, i64::MAX as u64, "1").help(
-        "The number from which a project is made",
+        "No mode uses it yet: the number from which a project is made",
     );
     let numbered = command.arg(seed)?;
-    let topics = number(alloc, "topics", 2, 4000, "40").help("Topics of the project that is made");
+    let topics = number(alloc, "topics", 2, 4000, "40").help(
+        "No mode uses it yet: topics of the project that is made",
+    );
     numbered.arg(topics)
 }
 
@@ -56,9 +60,13 @@ fn with_sessions<'a>(alloc: Global, command: Command<'a>) -> Result<Command<'a>,
         (spec.option (codes "port") (value_parsers.Unsigned 0 65535) (codes "7070")))
         (spec.option (codes "connections") (value_parsers.Unsigned 1 1024) (codes "1"))) }
 {
-    let port = number(alloc, "port", 0, 65535, "7070").help("The port to which sessions connect");
+    let port = number(alloc, "port", 0, 65535, "7070").help(
+        "No mode uses it yet: the port to which sessions connect",
+    );
     let placed = command.arg(port)?;
-    let connections = number(alloc, "connections", 1, 1024, "1").help("Sessions that are served");
+    let connections = number(alloc, "connections", 1, 1024, "1").help(
+        "No mode uses it yet: sessions that are served",
+    );
     placed.arg(connections)
 }
 
@@ -68,7 +76,7 @@ fn with_folder<'a>(alloc: Global, command: Command<'a>) -> Result<Command<'a>, A
         (spec.option (codes "out") value_parsers.NonEmptyString spec.default_folder)) }
 {
     let out = option(alloc, "out", "DIR", ValueParser::NonEmptyString, "out").help(
-        "The folder of the pages",
+        "clean: the folder of the pages",
     );
     command.arg(out)
 }

@@ -17,6 +17,8 @@ use thiserror::Error;
 enum Ended<'a> {
     #[error("dita_desk: {0:?}")]
     With(Status),
+    #[error("dita_desk: Script\nstandard input: looks like XML and is no script: use publish/publish")]
+    Xml,
     #[error("dita_desk: {status:?}\n{place}: {error}")]
     Because {
         status: Status,
@@ -55,6 +57,7 @@ fn run(rt: &HostRuntime) -> Result<ExitCode, NoMemory> {
     match status {
         Status::Words => refuse(rt, words.as_slice()),
         Status::ReadFault => Ok(end_by(rt, status, "standard input", source.last_error())),
+        Status::Script => Ok(end_by_script(rt, source.first_byte())),
         Status::WriteFault => Ok(end_by(rt, status, "standard output", sink.last_error())),
         Status::OutletFault => match outlet.last_error() {
             Some(page) => Ok(end_by(rt, status, page.path.as_str(), Some(page.error))),
@@ -92,6 +95,16 @@ fn end_by(rt: &HostRuntime, status: Status, place: &str, error: Option<io::Error
         }
         None => end(rt, status),
     }
+}
+
+// The exit status of bytes that are no script. If they begin as XML does, standard error says so.
+fn end_by_script(rt: &HostRuntime, first: Option<u8>) -> ExitCode {
+    if first != Some(b'<') {
+        return end(rt, Status::Script);
+    }
+    // If standard error can't be written, the exit status alone tells.
+    let _ = rt.eprintln(Ended::Xml);
+    ExitCode::from(Status::Script.number())
 }
 
 // The exit status of a run. If it is not that of a run that is done, standard error names it.

@@ -138,6 +138,7 @@ pub struct StdSource<R: Read> {
     reader: R,
     faults: u64,
     last: Option<io::Error>,
+    first: Option<u8>,
 }
 
 impl<R: Read> StdSource<R> {
@@ -147,12 +148,18 @@ impl<R: Read> StdSource<R> {
             reader,
             faults: 0,
             last: None,
+            first: None,
         }
     }
 
     /// The error of the last read that failed. For the reader of a message; no contract rests on it.
     pub fn last_error(&self) -> Option<io::Error> {
         self.last
+    }
+
+    /// The first byte that was read. For the reader of a message; no contract rests on it.
+    pub fn first_byte(&self) -> Option<u8> {
+        self.first
     }
 }
 
@@ -163,7 +170,12 @@ impl<R: Read> Source for StdSource<R> {
 
     fn read(&mut self, into: &mut [u8]) -> Result<usize, Failed> {
         match self.reader.read(into) {
-            Ok(count) => Ok(count),
+            Ok(count) => {
+                if self.first.is_none() && count > 0 {
+                    self.first = into.first().copied();
+                }
+                Ok(count)
+            }
             Err(error) => {
                 self.faults = with_fault(self.faults);
                 self.last = Some(error);

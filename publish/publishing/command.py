@@ -1,0 +1,71 @@
+"""The command as a whole: reads its words, publishes what they ask for, and gives the status."""
+from __future__ import annotations
+
+import os
+import signal
+import sys
+from collections.abc import Sequence
+from typing import TextIO
+
+from publishing import options
+from publishing.message import Stop
+from publishing.publication import Publication
+
+PUBLISHED, FAULTY, NOTHING = 0, 1, 2
+
+
+class Interrupted(KeyboardInterrupt):
+    """The system asks for an end."""
+
+
+def interrupt(_number: int, _frame: object) -> None:
+    raise Interrupted
+
+
+def say(text: str, stream: TextIO | None) -> None:
+    """Writes a line, if somebody still reads; a stream that fails is left alone from then on."""
+    if stream is None:
+        return
+    try:
+        print(text, file=stream, flush=True)
+    except OSError as error:
+        os.dup2(os.open(os.devnull, os.O_WRONLY), stream.fileno())
+        if stream is not sys.stderr and not isinstance(error, BrokenPipeError):
+            say(f"publish: standard output: {error.strerror}", sys.stderr)
+
+
+def publish(asked: options.Options) -> int:
+    """Publishes, and tells what is wrong."""
+    publication = Publication(asked, lambda text: say(text, sys.stdout))
+    try:
+        publication.run()
+    except KeyboardInterrupt:
+        publication.progress.clear()
+        if not publication.is_put:
+            raise
+        say("publish: interrupted, and the pages are there", sys.stderr)
+    except Stop as stop:
+        publication.progress.clear()
+        for message in publication.messages():
+            say(str(message), sys.stdout)
+        say(f"publish: {stop}\npublish: nothing is published", sys.stderr)
+        return NOTHING
+    return FAULTY if asked.strict and publication.faults() else PUBLISHED
+
+
+def main(words: Sequence[str]) -> int:
+    """The status of a call."""
+    for stream in (sys.stdout, sys.stderr):
+        if stream is not None:
+            stream.reconfigure(errors="backslashreplace")
+    for number in (signal.SIGINT, signal.SIGTERM, signal.SIGHUP):
+        if signal.getsignal(number) != signal.SIG_IGN:
+            signal.signal(number, interrupt)
+    try:
+        return publish(options.read(words))
+    except options.BadWords as refused:
+        say(f"publish: {refused}", sys.stderr)
+        return NOTHING
+    except KeyboardInterrupt:
+        say("publish: interrupted: nothing is published", sys.stderr)
+        return NOTHING

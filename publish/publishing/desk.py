@@ -1,0 +1,47 @@
+"""Runs the desk over a script, and says in a writer's words how it ended."""
+from __future__ import annotations
+
+import errno
+import pathlib
+import subprocess
+
+from publishing.message import Stop
+
+ENDS = {
+    3: "the script could not be read by the desk",
+    4: "the transcript could not be written by the desk",
+    5: "memory ran out",
+    6: "the desk reads no script there",
+    7: "a page could not be written",
+}
+HINTS = {
+    errno.ENOEXEC: "; the release is for x86-64 Linux, and `tools/build` builds a program",
+    errno.EACCES: "; `chmod +x` gives it the right",
+}
+
+
+def why(status: int, output: str, errors: str, folder: pathlib.Path) -> str:
+    """What is told of a run that did not end as it should."""
+    if status < 0:
+        return f"the desk was stopped by signal {-status}"
+    last = errors.strip().split("\n")[-1].replace(f"{folder}/", "")
+    detail = output.strip() if status == 6 else last
+    return f"{ENDS.get(status, f'the desk ended with status {status}')}: {detail}"
+
+
+def run(program: list[str], script: bytes, folder: pathlib.Path) -> str:
+    """The transcript of a script. The pages of the build with number N are then in `folder`/bN."""
+    try:
+        child = subprocess.Popen([*program, "clean", "--out", str(folder)], stdin=subprocess.PIPE, stdout=subprocess.PIPE,
+                                 stderr=subprocess.PIPE)
+    except OSError as error:
+        raise Stop(f"{program[0]}: the program does not start: {error.strerror}{HINTS.get(error.errno, '')}") from None
+    try:
+        output, errors = child.communicate(script)
+    except BaseException:
+        child.kill()
+        child.wait()
+        raise
+    if child.returncode != 0:
+        raise Stop(why(child.returncode, output.decode("utf-8", "replace"), errors.decode("utf-8", "replace"), folder))
+    return output.decode("utf-8", "replace")

@@ -1,0 +1,153 @@
+"""The folder OUT: what is published is written beside it, and takes its place only when all of it is there.
+
+A marker in OUT has the list of the files that this tool made. Only a folder that is empty or has the marker is replaced; files of OUT
+that are not in the list stay, unless the call asks to remove them."""
+from __future__ import annotations
+
+import contextlib
+import os
+import pathlib
+import shutil
+import signal
+import types
+from collections.abc import Iterator
+
+from publishing import names
+from publishing.message import Stop
+
+MARKER = ".publish-made-this"
+HEAD = "Files of this folder that `publish` made. It replaces them when it publishes here again, and leaves all others.\n"
+SIGNALS = (signal.SIGINT, signal.SIGTERM, signal.SIGHUP)
+
+
+@contextlib.contextmanager
+def uninterrupted() -> Iterator[None]:
+    """Holds interrupts back for a few calls that belong together."""
+    before = signal.pthread_sigmask(signal.SIG_BLOCK, SIGNALS)
+    try:
+        yield
+    finally:
+        signal.pthread_sigmask(signal.SIG_SETMASK, before)
+
+
+def made_before(out: pathlib.Path) -> set[str]:
+    """The files that the marker of a folder lists."""
+    lines = (out / MARKER).read_text(encoding="utf-8").split("\n")
+    return {names.decoded(line) for line in lines[1:] if line}
+
+
+def files_of(folder: pathlib.Path) -> Iterator[str]:
+    """The files and links below a folder, by their paths, and its empty folders, whose paths end in `/`."""
+    for place, folders, files in os.walk(folder):
+        below = os.path.relpath(place, folder)
+        linked = [name for name in folders if os.path.islink(os.path.join(place, name))]
+        yield from (os.path.normpath(os.path.join(below, name)) for name in [*files, *linked])
+        if not folders and not files and below != ".":
+            yield below + "/"
+
+
+class Output:
+    """OUT while it is made anew: `desk` is the folder for the desk, and what lies in `pages` takes the place of OUT."""
+
+    def __init__(self, out: pathlib.Path, folder: pathlib.Path, is_clean: bool) -> None:
+        self.named, self.out, self.is_clean = out, pathlib.Path(os.path.realpath(out)), is_clean
+        self.work = self.out.parent / f".{self.out.name}.publish-{os.getpid()}"
+        self.desk, self.pages, self.old = self.work / "desk", self.work / "pages", self.work / "old"
+        self.made_parents: list[pathlib.Path] = []
+        self.check(pathlib.Path(os.path.realpath(folder)))
+
+    def check(self, folder: pathlib.Path) -> None:
+        """Stops if this OUT is not to be replaced."""
+        if self.out == folder or self.out in folder.parents:
+            raise Stop(f"{self.named}: the documents lie in this folder: name another one for the pages")
+        try:
+            if not self.out.is_dir():
+                if os.path.lexists(self.out):
+                    raise Stop(f"{self.named}: is a file: name a folder for the pages")
+            elif not (self.out / MARKER).is_file() and any(self.out.iterdir()):
+                raise Stop(f"{self.named}: is not empty, and was not made by this tool: name a new folder, or empty this one first")
+        except OSError as error:
+            raise Stop(f"{self.named}: {error.strerror}") from None
+
+    def __enter__(self) -> Output:
+        try:
+            self.make_parents()
+            for folder in (self.work, self.desk, self.pages):
+                folder.mkdir()
+        except OSError as error:
+            self.remove()
+            raise Stop(f"{self.named}: no folder can be made beside it: {error.strerror}") from None
+        return self
+
+    def make_parents(self) -> None:
+        for parent in reversed([it for it in self.out.parents if not it.exists()]):
+            parent.mkdir()
+            self.made_parents.append(parent)
+
+    def __exit__(self, kind: type[BaseException] | None, _fault: BaseException | None, _trace: types.TracebackType | None) -> None:
+        with uninterrupted():
+            self.remove()
+
+    def remove(self) -> None:
+        """Removes what does not take the place of OUT, and the folders made for nothing."""
+        shutil.rmtree(self.work, ignore_errors=True)
+        for parent in reversed(self.made_parents):
+            with contextlib.suppress(OSError):
+                parent.rmdir()
+
+    def put(self) -> bool:
+        """Moves what was made into the place of OUT; True, since else it stops."""
+        try:
+            made = sorted(names.encoded(path) for path in files_of(self.pages))
+            (self.pages / MARKER).write_text(HEAD + "".join(f"{path}\n" for path in made), encoding="utf-8")
+            if self.out.is_dir() and (self.out / MARKER).is_file():
+                if not self.is_clean:
+                    self.keep_others()
+                shutil.copystat(self.out, self.pages)
+            self.swap()
+            return True
+        except OSError as error:
+            raise Stop(f"{self.named}: can't be replaced: {error.strerror}") from None
+
+    def keep_others(self) -> None:
+        """Brings in the files of OUT that this tool did not make."""
+        listed = made_before(self.out) | {MARKER}
+        for path in files_of(self.out):
+            if path in listed:
+                continue
+            target = self.pages / path
+            try:
+                target.parent.mkdir(parents=True, exist_ok=True)
+                if path.endswith("/"):
+                    target.mkdir(exist_ok=True)
+                else:
+                    link(self.out / path, target)
+            except (FileExistsError, NotADirectoryError):
+                raise Stop(f"{self.named / path}: was not made by this tool, and a page or a file is to stand in its place: move it "
+                           "away, or give --clean") from None
+
+    def swap(self) -> None:
+        """Puts the new folder in the place of the old one; if that fails, the old one stands there again."""
+        with uninterrupted():
+            is_there = self.out.is_dir()
+            if is_there:
+                os.rename(self.out, self.old)
+            try:
+                os.rename(self.pages, self.out)
+            except OSError:
+                if is_there:
+                    os.rename(self.old, self.out)
+                raise
+            self.made_parents.clear()
+
+
+def link(source: pathlib.Path, target: pathlib.Path) -> None:
+    """The same file at a second place, by a copy where the disk has no links. A target that is there is left."""
+    try:
+        os.link(source, target, follow_symlinks=False)
+    except FileExistsError:
+        raise
+    except OSError:
+        if os.path.lexists(target):
+            raise FileExistsError(str(target)) from None
+        shutil.copy2(source, target, follow_symlinks=False)

@@ -1,0 +1,14 @@
+"""The script that has the desk store documents and build a map."""
+from __future__ import annotations
+
+from collections.abc import Iterable, Sequence
+
+from publishing.document import Document
+
+
+def script_of(documents: Iterable[Document], asked: Sequence[str]) -> bytes:
+    """The script over these documents, in the order of the bytes of their names; `asked` is the map, and perhaps a DITAVAL."""
+    parts = []
+    for document in sorted(documents, key=lambda it: it.name.encode("utf-8")):
+        parts += [f"1 put {document.name}", *document.parts, "."]
+    return "\n".join([*parts, "1 build " + " ".join(asked), ""]).encode("utf-8")
