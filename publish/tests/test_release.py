@@ -104,13 +104,15 @@ class Release(Case):
         self.release(commit="1" * 40)
         self.refused("the sources of the release can't be read: git ls-tree: ", "this check needs the whole history")
 
-    def test_a_program_built_here_of_the_same_sources_is_the_same(self):
+    def test_whether_a_program_built_here_of_the_same_sources_is_the_same_is_said(self):
         self.put({"crates/dita_desk/out/dita_desk": b"built"}, self.top)
         os.chmod(self.top / "crates/dita_desk/out/dita_desk", 0o755)
         self.release()
-        self.assertEqual(self.tool("check-release")[0], 0)
+        status, said = self.tool("check-release")
+        self.assertEqual((status, "; the program that is built here is the same, byte for byte\n" in said), (0, True), said)
         self.put({"crates/dita_desk/out/dita_desk": b"rebuilt"}, self.top)
-        self.refused("the program that is built here of the same sources has the checksum ")
+        status, said = self.tool("check-release")
+        self.assertEqual((status, "; the program that is built here of the same sources has other bytes" in said), (0, True), said)
 
     def test_a_release_is_made_of_what_was_committed_and_built(self):
         status, said = self.tool("release")
