@@ -1,6 +1,6 @@
 //! The words of the program, as they are written.
 
-use command_line::{command, out_folder, reads};
+use command_line::{Mode, command, mode, out_folder};
 use std::alloc::{AllocError, Global};
 use std::test::Fail;
 
@@ -16,19 +16,26 @@ fn words(alloc: Global, line: &str) -> Result<Vec<String>, AllocError> {
 fn words_are_read_or_not(rt: HostRuntime) -> Result<(), Fail> {
     let alloc = rt.alloc();
     let read = [
-        "dita_desk clean",
-        "dita_desk clean --topics 2",
-        "dita_desk --out=www clean --number 9223372036854775807",
-        "dita_desk clean --port 0 --workers 16 --connections 1024 --topics 4000",
-        "dita_desk -- clean",
+        ("dita_desk clean", Mode::Clean),
+        ("dita_desk terms", Mode::Terms),
+        ("dita_desk clean --topics 2", Mode::Clean),
+        (
+            "dita_desk --out=www clean --number 9223372036854775807",
+            Mode::Clean,
+        ),
+        (
+            "dita_desk clean --port 0 --workers 16 --connections 1024 --topics 4000",
+            Mode::Clean,
+        ),
+        ("dita_desk -- terms", Mode::Terms),
     ];
-    for line in read {
-        assert!(rt; reads(alloc, &words(alloc, line)?)?, "{line}");
+    for (line, named) in read {
+        assert!(rt; mode(alloc, &words(alloc, line)?)? == Some(named), "{line}");
     }
     let refused = [
         "dita_desk",
         "dita_desk fly",
-        "dita_desk clean clean",
+        "dita_desk clean terms",
         "dita_desk clean --topics 1",
         "dita_desk clean --topics 4001",
         "dita_desk clean --workers 0",
@@ -45,7 +52,7 @@ fn words_are_read_or_not(rt: HostRuntime) -> Result<(), Fail> {
         "dita_desk --version",
     ];
     for line in refused {
-        assert!(rt; !reads(alloc, &words(alloc, line)?)?, "{line}");
+        assert!(rt; mode(alloc, &words(alloc, line)?)?.is_none(), "{line}");
     }
     Ok(())
 }
@@ -72,6 +79,7 @@ fn help_names_each_option(rt: HostRuntime) -> Result<(), Fail> {
     let help = command(alloc)?.render_help()?;
     for part in [
         "clean",
+        "terms",
         "--workers <N>",
         "--number <N>",
         "--topics <N>",

@@ -14,9 +14,8 @@ use Rattle.map_spec.specs.Titles.{title_in}
 use Rattle.map_spec.specs.Written.{Whole}
 use Rattle.html_spec.specs.Anchors.{anchor_faults, anchors, element_links}
 use Rattle.html_spec.specs.Blocks.{body_html}
-use Rattle.conref_spec.specs.Content.{resolved_page}
 use Rattle.html_spec.specs.PageHtml.{page_text, page_within, too_large}
-use Rattle.part_spec.specs.Parts.{here_of, links_of, no_html, rooms, setting_of, too_many}
+use Rattle.part_spec.specs.Parts.{content_of_root, here_of, links_of, marks_in, no_html, page_rules, rooms}
 use Rattle.reader_spec.specs.World.{World}
 use Rattle.clean_build.specs.Made.{page_behind, page_of_root}
 use Rattle.clean_build.proofs.GatheredLaws.{among_first, among_parts, among_second}
@@ -76,8 +75,8 @@ module _ (world : World) (plan : Plan) (val : Option (List ℕ)) (index : ℕ) (
       (page_of_root rooms world plan val index page behind root)
   root_with root =
       let here = here_of world plan page index in
-      let made = resolved_page rooms.nodes (too_many root) (setting_of world plan val page) in
-      let body = body_html (anchors here made.nodes) made.nodes in
+      let made = content_of_root rooms world plan val page root in
+      let body = body_html (anchors here made.nodes) (marks_in (page_rules world val page) made) made.nodes in
       let faults = made.faults ++ anchor_faults here made.nodes ++ body.faults in
       within_with rooms.bytes root.0.doc root.0.line (title_in world page.id.doc [])
       (record { bytes = body.bytes; faults = faults ++ [] }) (record { bytes = body.bytes; faults = faults ++ behind })

@@ -1,22 +1,31 @@
--- The body of a page, from the content that was resolved.
-use Rattle.std.specs.Prelude.{◌≡◌, ◌+◌, ◌++◌, ℕ, List, ◌∷◌, IsTrue, bytes_eq}
+-- The body of a page and its terms, from the content that was resolved.
+use Rattle.std.specs.Prelude.{◌≡◌, ◌+◌, ◌++◌, ℕ, List, ◌∷◌, Option, IsTrue, bytes_eq, map}
 use Rattle.std.proofs.Common.{refl, ap, subst, ◌∙◌}
 use Rattle.std.proofs.Math.Logic.{⊎_elim}
 use Rattle.std.proofs.lemmas.Bool.{or_cases, or_left}
 use Rattle.conref_pull.specs.Resolved.{IsResolved}
-use Rattle.conref_pull.specs.Rules.{ditavals}
+use Rattle.conref_pull.specs.Rules.{AreRules, HasAll, all_kept, ditavals}
+use Rattle.conref_pull.specs.declared.rules.RuleLists.{RuleLists}
+use Rattle.conref_pull.proofs.RuleLaws.{rules_of_page}
 use Rattle.dita_doc.specs.Tree as tree
 use Rattle.dita_doc.specs.Tree.{Content, size_of, tree_of}
+use Rattle.dita_doc.specs.declared.content.Mark.{Mark}
 use Rattle.dita_doc.specs.declared.content.Resolved.{Resolved}
+use Rattle.dita_doc.specs.declared.content.Rule.{Rule}
+use Rattle.dita_doc.specs.declared.content.TermEntry.{TermEntry}
 use Rattle.dita_doc.specs.declared.fact.Html.{Html}
 use Rattle.dita_doc.specs.declared.fault.Fault.{Fault}
 use Rattle.dita_doc.specs.declared.plan.Context.{Context}
 use Rattle.doc_maker.specs.Made.{resolved_tree, written_from}
+use Rattle.flag_marks.specs.Marks.{attributes_at, marks_from}
 use Rattle.html_blocks.specs.Body.{AreNodesOf, with_own_hrefs}
-use Rattle.map_spec.specs.Written.{Element, Written, Chars, Node}
+use Rattle.index_page.specs.Body as terms
+use Rattle.map_spec.specs.Written.{Element, Written, End, Chars, Node}
 use Rattle.html_spec.specs.Anchors.{Here, anchor_faults, anchors, element_links}
 use Rattle.html_spec.specs.Blocks.{body_html}
 use Rattle.conref_spec.specs.Content.{Made}
+use Rattle.part_spec.specs.Parts.{marks_in}
+use Rattle.reader_spec.specs.World.{World}
 use Rattle.readers.specs.Founded.{AreAllowed, Grows, StaysFounded, homes, is_allowed, is_among}
 use Rattle.readers.specs.Named.{linked_in, named}
 use Rattle.readers.specs.Setting.{Stand}
@@ -28,7 +37,8 @@ use Rattle.xref_links.specs.Body.{written_at, written_of}
 use Rattle.xref_links.specs.declared.made.AnchorsMade.{AnchorsMade}
 use Rattle.xref_links.specs.Here.{AreMade}
 use Rattle.xref_links.specs.Names.{names_asked}
-use Rattle.clean_build.specs.Bodies.{body_of, with_faults}
+use Rattle.clean_build.specs.Bodies.{body_of, rules_for, terms_wanted, with_faults}
+use Rattle.clean_build.proofs.MarkLaws.{marks_made}
 
 chars_same : (text doc : List ℕ) (one other : Written) → one ≡ other → Chars text doc one ≡ Chars text doc other
 chars_same text doc one other same = ap (Chars text doc) same
@@ -59,6 +69,15 @@ own_at body place (tree.Element name attributes origin line inside rest) =
 pub own_nodes : (body : Resolved) → AreNodesOf body (written_of body)
 own_nodes body = own_at body 0 (tree_of body.doc.nodes)
 
+-- also where its terms are looked for
+own_terms : (nodes : Written) → terms.with_own_hrefs nodes ≡ with_own_hrefs nodes
+own_terms End = refl
+own_terms (Chars text doc rest) = chars_same _ _ _ _ (own_terms rest)
+own_terms (Node element inside rest) = node_same _ _ _ _ _ (own_terms inside) (own_terms rest)
+
+pub own_entries : (body : Resolved) → terms.AreNodesOf body (written_of body)
+own_entries body = own_terms (written_of body) ∙ own_nodes body
+
 -- The faults, one after another
 pub all_faults : (html : Html) (before next behind one two three : List Fault) → one ≡ before ++ next
     → two ≡ one ++ html.faults → three ≡ two ++ behind
@@ -67,25 +86,43 @@ all_faults html before next behind one two three first second third =
     ap (λ (all : List Fault). let made : Html = record { bytes = html.bytes; faults = all } in made)
     (third ∙ ap (λ all. all ++ behind) (second ∙ ap (λ all. all ++ html.faults) first))
 
--- The body of what was resolved, with the links of its elements
-module _ (here : Here) (made : Made) (resolved : Resolved) (added : AnchorsMade) (is : IsResolved resolved made)
-    (links : AreMade here (written_of resolved) added) where
+-- The body of what was resolved, with the links and the marks of its elements, and its terms
+module _ (made : Made) (resolved : Resolved) (is : IsResolved resolved made) where
   nodes_are : written_of resolved ≡ made.nodes
   nodes_are = same_written resolved ∙ is.nodes
 
-  pub body_links : added.links ≡ element_links here made.nodes
-  body_links = links.links ∙ ap (element_links here) nodes_are
+  -- by the rules of the page, all of which were read
+  pub marks_are : (world : World) (context : Context) (lists : RuleLists) (marks : List Mark) → AreRules world lists
+      → HasAll lists (ditavals context.val context.page.filters)
+      → marks ≡ marks_from (all_kept lists (ditavals context.val context.page.filters)) 0 resolved.declared
+      (map attributes_at resolved.doc.nodes)
+      → marks ≡ marks_in (rules_for world context) made
+  marks_are world context lists marks are has found =
+      marks_made (rules_for world context) made resolved marks is.nodes is.declared
+      (found ∙ ap (λ (rules : List (List Rule)). marks_from rules 0 resolved.declared (map attributes_at resolved.doc.nodes))
+      (rules_of_page world lists (ditavals context.val context.page.filters) are has))
 
-  pub body_is : (body : Html) (behind : List Fault)
-      → body ≡ with_faults (body_html added.anchors (written_of resolved)) resolved.faults added.faults behind
-      → body ≡ body_of here behind made
-  body_is body behind with_all = with_all
-      ∙ ap (λ a. with_faults (body_html a (written_of resolved)) resolved.faults added.faults behind) links.anchors
-      ∙ ap (λ f. with_faults (body_html (anchors here (written_of resolved)) (written_of resolved)) resolved.faults f behind)
-      links.faults
-      ∙ ap (λ n. with_faults (body_html (anchors here n) n) resolved.faults (anchor_faults here n) behind) nodes_are
-      ∙ ap (λ f. with_faults (body_html (anchors here made.nodes) made.nodes) f (anchor_faults here made.nodes) behind)
-      is.faults
+  pub terms_are : (number : Option ℕ) (entries : List TermEntry) → entries ≡ terms_wanted number (written_of resolved)
+      → entries ≡ terms_wanted number made.nodes
+  terms_are number entries found = found ∙ ap (terms_wanted number) nodes_are
+
+  module _ (here : Here) (added : AnchorsMade) (links : AreMade here (written_of resolved) added) where
+    pub body_links : added.links ≡ element_links here made.nodes
+    body_links = links.links ∙ ap (element_links here) nodes_are
+
+    pub body_is : (rules : List (List Rule)) (marks : List Mark) (body : Html) (behind : List Fault)
+        → marks ≡ marks_in rules made
+        → body ≡ with_faults (body_html added.anchors marks (written_of resolved)) resolved.faults added.faults behind
+        → body ≡ body_of here rules behind made
+    body_is rules marks body behind marked with_all = with_all
+        ∙ ap (λ a. with_faults (body_html a marks (written_of resolved)) resolved.faults added.faults behind) links.anchors
+        ∙ ap (λ f. with_faults (body_html (anchors here (written_of resolved)) marks (written_of resolved)) resolved.faults
+        f behind) links.faults
+        ∙ ap (λ n. with_faults (body_html (anchors here n) marks n) resolved.faults (anchor_faults here n) behind) nodes_are
+        ∙ ap (λ m. with_faults (body_html (anchors here made.nodes) m made.nodes) resolved.faults
+        (anchor_faults here made.nodes) behind) marked
+        ∙ ap (λ f. with_faults (body_html (anchors here made.nodes) (marks_in rules made) made.nodes) f
+        (anchor_faults here made.nodes) behind) is.faults
 
 -- What is asked about over a body: its content, and then what its elements' links name, which documents gave that were
 -- told

@@ -5,6 +5,7 @@ pub mod FoundLaws
 pub mod GatheredLaws
 pub mod GivenLaws
 pub mod LinkLaws
+pub mod MarkLaws
 pub mod NameLaws
 pub mod OnceLaws
 pub mod PageLaws
@@ -17,4 +18,5 @@ pub mod RowLaws
 pub mod SingleLaws
 pub mod StandLaws
 pub mod TableLaws
+pub mod TermLaws
 pub mod TopicLaws

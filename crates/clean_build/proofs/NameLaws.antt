@@ -5,7 +5,6 @@ use Rattle.std.specs.Option.{option_copied, option_to_list}
 use Rattle.std.proofs.Common.{subst, sym}
 use Rattle.std.proofs.Math.Logic.{⊎_elim}
 use Rattle.std.proofs.lemmas.Bool.{or_cases, or_left, or_right}
-use Rattle.conref_pull.specs.Rules.{ditavals}
 use Rattle.dita_doc.specs.declared.plan.PagePlan.{PagePlan}
 use Rattle.dita_doc.specs.declared.plan.Plan.{Plan}
 use Rattle.map_spec.specs.Pages.{local_name}
@@ -16,9 +15,8 @@ use Rattle.readers.proofs.AmongLaws.{among_back, among_either, among_front}
 use Rattle.readers.proofs.FoundedLaws.{among_first, stays_after, stays_among, stays_one}
 use Rattle.readers.proofs.GrowthLaws.{grows_trans}
 use Rattle.toc_page.specs.Made.{contents_names}
-use Rattle.clean_build.specs.Names.{about_page, names_of, names_of_page, names_of_plan}
+use Rattle.clean_build.specs.Names.{names_of, names_of_content, names_of_page, names_of_plan}
 use Rattle.clean_build.specs.declared.ground.Ground.{Ground}
-use Rattle.clean_build.specs.declared.works.PageWork.{PageWork}
 
 -- Pages
 
@@ -118,56 +116,56 @@ module _ (front : List (List ℕ)) (old new : List Told) where
         (among_either (names_of_page page) (names_of ground) m (IsTrue (is_among (names_of ground) m))
         (λ here. among_back val (names_of_plan plan) m (of_page plan m at page there here)) (λ more. more)))
 
-  module _ (work : PageWork) where
+    -- and of the titles of its pages
+    pub stays_titles : StaysFounded (map (λ (page : PagePlan). page.id.doc) plan.pages) old new
+        → StaysFounded (front ++ names_of ground) old new
+    stays_titles = stays_among _ (front ++ names_of ground) old new (λ m among. among_plan m
+        (among_back (homes plan.nodes) (led plan m ++ used plan m) m (among_back (led plan m) (used plan m) m
+        (among_back plan.documents (flat_map names_of_page plan.pages) m (docs_among plan.pages m among)))))
+
+  module _ (ground : Ground) (page : PagePlan) where
     abbrev own : List (List ℕ)
-    own = names_of_page work.page.now
+    own = names_of_page page
+
+    abbrev build : List (List ℕ)
+    build = option_to_list (option_copied ground.val)
 
     abbrev all : List (List ℕ)
-    all = front ++ about_page work
+    all = own ++ names_of ground
 
-    among_own : (m : List ℕ) → IsTrue (is_among own m) → IsTrue (is_among all m)
-    among_own m among = among_back front (about_page work) m (among_front own (names_of work.ground) m among)
+    pub stays_doc : StaysFounded (page.id.doc ∷ []) old new → StaysFounded (front ++ all) old new
+    stays_doc = stays_one page.id.doc (front ++ all) old new (among_back front all page.id.doc
+        (among_front own (names_of ground) page.id.doc (among_first page.id.doc page.id.filters)))
 
-    pub stays_doc : StaysFounded (work.page.now.id.doc ∷ []) old new → StaysFounded all old new
-    stays_doc = stays_one work.page.now.id.doc all old new
-        (among_own work.page.now.id.doc (among_first work.page.now.id.doc work.page.now.id.filters))
+    pub stays_shown : StaysFounded (names_of_links ground.plan.now) old new → StaysFounded (front ++ all) old new
+    stays_shown = stays_among _ (front ++ all) old new (λ m among. among_back front all m
+        (among_back own (names_of ground) m (among_back build (names_of_plan ground.plan.now) m
+        (of_links ground.plan.now m among))))
 
-    pub stays_shown : StaysFounded (names_of_links work.ground.plan.now) old new → StaysFounded all old new
-    stays_shown = stays_among _ all old new (λ m among. among_back front (about_page work) m
-        (among_back own (names_of work.ground) m (among_back (option_to_list (option_copied work.ground.val))
-        (names_of_plan work.ground.plan.now) m (of_links work.ground.plan.now m among))))
-
-    content_among : (m : List ℕ)
-        → IsTrue (is_among (work.page.now.id.doc ∷ ditavals (option_copied work.ground.val) work.page.now.id.filters) m)
-        → IsTrue (is_among (about_page work) m)
+    content_among : (m : List ℕ) → IsTrue (is_among (names_of_content ground page) m) → IsTrue (is_among all m)
     content_among m among = ⊎_elim
-        (λ here. or_left (bytes_eq work.page.now.id.doc m) _ here)
-        (λ behind. among_either (option_to_list (option_copied work.ground.val)) work.page.now.id.filters m
-        (IsTrue (is_among (about_page work) m))
-        (λ build. among_back own (names_of work.ground) m
-        (among_front (option_to_list (option_copied work.ground.val)) (names_of_plan work.ground.plan.now) m build))
-        (λ filters. or_right (bytes_eq work.page.now.id.doc m) _
-        (among_front work.page.now.id.filters (names_of work.ground) m filters)) behind)
-        (or_cases (bytes_eq work.page.now.id.doc m) _ among)
+        (λ here. or_left (bytes_eq page.id.doc m) _ here)
+        (λ behind. among_either build page.id.filters m (IsTrue (is_among all m))
+        (λ given. among_back own (names_of ground) m (among_front build (names_of_plan ground.plan.now) m given))
+        (λ filters. or_right (bytes_eq page.id.doc m) _
+        (among_front page.id.filters (names_of ground) m filters)) behind)
+        (or_cases (bytes_eq page.id.doc m) _ among)
 
-    pub stays_content : StaysFounded
-        (front ++ work.page.now.id.doc ∷ ditavals (option_copied work.ground.val) work.page.now.id.filters) old new
-        → StaysFounded all old new
-    stays_content = stays_among
-        (front ++ work.page.now.id.doc ∷ ditavals (option_copied work.ground.val) work.page.now.id.filters) all old new
-        (λ m. among_after front _ (about_page work) m (content_among m))
+    pub stays_content : StaysFounded (front ++ names_of_content ground page) old new
+        → StaysFounded (front ++ all) old new
+    stays_content = stays_among (front ++ names_of_content ground page) (front ++ all) old new
+        (λ m. among_after front _ all m (content_among m))
 
 -- What is asked about for a page: its content, then its links by nodes, then its title
 
-module _ (front : List (List ℕ)) (work : PageWork) (a b c : List Told) (grows : Grows a b)
-    (content : StaysFounded
-    (front ++ work.page.now.id.doc ∷ ditavals (option_copied work.ground.val) work.page.now.id.filters) a b)
-    (links : StaysFounded (names_of_links work.ground.plan.now) b c) where
-  pub stays_linked : StaysFounded (front ++ about_page work) a c
-  stays_linked = stays_after (front ++ about_page work) a b c grows
-      (stays_content front a b work content) (stays_shown front b c work links)
+module _ (front : List (List ℕ)) (ground : Ground) (page : PagePlan) (a b c : List Told) (grows : Grows a b)
+    (content : StaysFounded (front ++ names_of_content ground page) a b)
+    (links : StaysFounded (names_of_links ground.plan.now) b c) where
+  pub stays_linked : StaysFounded (front ++ (names_of_page page ++ names_of ground)) a c
+  stays_linked = stays_after (front ++ (names_of_page page ++ names_of ground)) a b c grows
+      (stays_content front a b ground page content) (stays_shown front b c ground page links)
 
-  pub stays_titled : (d : List Told) → Grows b c → StaysFounded (work.page.now.id.doc ∷ []) c d
-      → StaysFounded (front ++ about_page work) a d
-  stays_titled d further title = stays_after (front ++ about_page work) a c d (grows_trans a b c grows further)
-      stays_linked (stays_doc front c d work title)
+  pub stays_titled : (d : List Told) → Grows b c → StaysFounded (page.id.doc ∷ []) c d
+      → StaysFounded (front ++ (names_of_page page ++ names_of ground)) a d
+  stays_titled d further title = stays_after (front ++ (names_of_page page ++ names_of ground)) a c d
+      (grows_trans a b c grows further) stays_linked (stays_doc front c d ground page title)

@@ -1,14 +1,15 @@
 -- The page of a plan, from the content that was resolved and the root of its document.
-use Rattle.std.specs.Prelude.{◌≡◌, ◌++◌, ℕ, List, [], ◌∷◌, Option, Some, None, option_map, slice_get}
+use Rattle.std.specs.Prelude.{◌≡◌, ◌++◌, ℕ, Bool, true, false, List, [], ◌∷◌, Option, Some, None, option_map, slice_get}
 use Rattle.std.specs.List.{flat_map}
-use Rattle.std.specs.Option.{option_map_or, option_to_list}
-use Rattle.std.proofs.Common.{refl, sym, ap, ◌∙◌}
+use Rattle.std.specs.Option.{option_copied, option_map_or, option_to_list}
+use Rattle.std.proofs.Common.{refl, sym, ap, subst, ◌∙◌}
 use Rattle.conref_pull.specs.Resolved.{page_made, root_faults}
 use Rattle.conref_pull.specs.Rules as kept
 use Rattle.conref_pull.specs.Rules.{ditavals, rules_under}
 use Rattle.conref_pull.specs.Setting as pulled
 use Rattle.dita_doc.specs.declared.content.PageLink.{PageLink}
 use Rattle.dita_doc.specs.declared.content.Rule.{Rule}
+use Rattle.dita_doc.specs.declared.content.TermEntry.{TermEntry}
 use Rattle.dita_doc.specs.declared.fact.Html.{Html}
 use Rattle.dita_doc.specs.declared.fault.Fault.{Fault}
 use Rattle.dita_doc.specs.declared.plan.Context.{Context}
@@ -18,20 +19,21 @@ use Rattle.ditaval_rules.specs.declared.rules.RulesRead.{RulesRead}
 use Rattle.map_spec.specs.Branches.{ditaval_in}
 use Rattle.map_spec.specs.Included.{root_in}
 use Rattle.map_spec.specs.Titles.{title_in}
-use Rattle.map_spec.specs.Written.{Whole}
+use Rattle.map_spec.specs.Written.{Whole, End}
 use Rattle.node_links.specs.NodeTable.{node_links}
 use Rattle.html_spec.specs.Anchors.{element_links}
-use Rattle.conref_spec.specs.Content.{Made, count_limit, resolved_page}
+use Rattle.conref_spec.specs.Content.{Made, count_limit, nothing_made, resolved_page}
 use Rattle.link_spec.specs.Links.{row_faults}
 use Rattle.html_spec.specs.PageHtml.{page_html}
-use Rattle.part_spec.specs.Parts.{here_of, hrefs_once, no_html, page_part, rooms, rules_of, setting_of, too_many}
+use Rattle.part_spec.specs.Parts.{content_of_root, here_of, hrefs_once, no_html, page_content, page_part, page_rules, rooms, rules_of, too_many}
 use Rattle.reader_spec.specs.World.{World}
-use Rattle.clean_build.specs.Bodies.{IsBodyMade, body_of, content_of}
-use Rattle.clean_build.specs.Made.{page_at, page_behind, page_of_root}
+use Rattle.clean_build.specs.Bodies.{AreKnown, IsBodyMade, body_of, content_of, rules_for, terms_wanted}
+use Rattle.clean_build.specs.Made.{IsMadeAt, IsPageMade, IsRootAt, nothing, number_wanted, page_at, page_behind, page_content_of, page_of_root}
 use Rattle.clean_build.specs.Tables.{made_for}
 use Rattle.clean_build.specs.declared.body.BodyMade.{BodyMade}
+use Rattle.clean_build.specs.declared.works.PageMade.{PageMade}
+use Rattle.clean_build.specs.declared.works.PageWork.{PageWork}
 use Rattle.clean_build.proofs.LinkLaws.{links_once}
-use Rattle.clean_build.proofs.RootLaws.{IsRootAt}
 
 -- The rules by which a page is judged
 
@@ -47,26 +49,64 @@ rules_all world (name ∷ names) =
     ap (λ rules. rules ++ kept.page_rules world names) (rules_one (ditaval_in world name))
     ∙ ap (λ rules. rules_of (ditaval_in world name) ++ rules) (rules_all world names)
 
-module _ (world : World) (plan : Plan) (val : Option (List ℕ)) (index : ℕ) (page : PagePlan) (behind : List Fault) where
+-- The content of a page
+
+module _ (world : World) (plan : Plan) (val : Option (List ℕ)) (page : PagePlan) where
+  abbrev names : List (List ℕ)
+  names = ditavals val page.id.filters
+
   abbrev content : Made
   content = page_made world (made_for plan) val page.id
 
   content_is : (root : Whole) → root_in world page.id.doc ≡ Some root
-      → content ≡ resolved_page rooms.nodes (too_many root) (setting_of world plan val page)
+      → content ≡ content_of_root rooms world plan val page root
   content_is root there =
       ap (λ found. resolved_page count_limit (root_faults found) (pulled.setting_of world (made_for plan) page.id
-      (kept.page_rules world (ditavals val page.id.filters)))) there
+      (kept.page_rules world names))) there
       ∙ ap (λ (rules : List (List Rule)). resolved_page count_limit (too_many root)
-      (pulled.setting_of world (made_for plan) page.id rules)) (rules_all world (ditavals val page.id.filters))
+      (pulled.setting_of world (made_for plan) page.id rules)) (rules_all world names)
 
   -- in a document with a root
+  pub content_rooted : (line : ℕ) → IsRootAt world page.id.doc line → content ≡ page_content_of world plan val page
+  content_rooted line at = content_is at.root at.there ∙ ap (λ (found : Option Whole).
+      option_map_or (content_of_root rooms world plan val page) found nothing_made) (sym at.there)
+
+  -- and without one
+  pub content_rootless : root_in world page.id.doc ≡ None → nothing_made ≡ page_content_of world plan val page
+  content_rootless none = ap (λ (found : Option Whole).
+      option_map_or (content_of_root rooms world plan val page) found nothing_made) (sym none)
+
+-- at an index
+pub content_there : (world : World) (plan : Plan) (val : Option (List ℕ)) (index : ℕ) (page : PagePlan)
+    → slice_get plan.pages index ≡ Some page
+    → page_content_of world plan val page ≡ page_content rooms world plan val index
+unfolding page_content
+content_there world plan val index page there = ap (λ (found : Option PagePlan).
+    option_map_or (page_content_of world plan val) found nothing_made) (sym there)
+
+pub content_nowhere : (world : World) (plan : Plan) (val : Option (List ℕ)) (index : ℕ)
+    → slice_get plan.pages index ≡ None → nothing_made ≡ page_content rooms world plan val index
+unfolding page_content
+content_nowhere world plan val index there = ap (λ (found : Option PagePlan).
+    option_map_or (page_content_of world plan val) found nothing_made) (sym there)
+
+-- The page
+
+module _ (world : World) (plan : Plan) (val : Option (List ℕ)) (index : ℕ) (page : PagePlan) (behind : List Fault) where
+  -- in a document with a root
   pub page_rooted : (line : ℕ) → IsRootAt world page.id.doc line
-      → page_at rooms world plan index page behind page.id.doc line content
+      → page_at rooms world plan index page behind page.id.doc line (kept.page_rules world (ditavals val page.id.filters))
+      (page_made world (made_for plan) val page.id)
       ≡ page_behind rooms world plan val index page behind
   page_rooted line at =
-      ap (λ name. page_at rooms world plan index page behind name line content) (sym at.doc)
-      ∙ ap (λ n. page_at rooms world plan index page behind at.root.0.doc n content) (sym at.line_is)
-      ∙ ap (page_at rooms world plan index page behind at.root.0.doc at.root.0.line) (content_is at.root at.there)
+      let rules = kept.page_rules world (ditavals val page.id.filters) in
+      let made = page_made world (made_for plan) val page.id in
+      ap (λ name. page_at rooms world plan index page behind name line rules made) (sym at.doc)
+      ∙ ap (λ n. page_at rooms world plan index page behind at.root.0.doc n rules made) (sym at.line_is)
+      ∙ ap (λ (all : List (List Rule)). page_at rooms world plan index page behind at.root.0.doc at.root.0.line all made)
+      (rules_all world (ditavals val page.id.filters))
+      ∙ ap (page_at rooms world plan index page behind at.root.0.doc at.root.0.line (page_rules world val page))
+      (content_is world plan val page at.root at.there)
       ∙ ap (λ (found : Option Whole). option_map_or (page_of_root rooms world plan val index page behind) found no_html)
       (sym at.there)
 
@@ -76,6 +116,39 @@ module _ (world : World) (plan : Plan) (val : Option (List ℕ)) (index : ℕ) (
   page_rootless none =
       ap (λ (found : Option Whole). option_map_or (page_of_root rooms world plan val index page behind) found no_html)
       (sym none)
+
+-- What is made of a page's document
+
+-- without terms
+no_terms : (wanted : Bool) (index : ℕ) → ◌≡◌ {A = List TermEntry} [] (terms_wanted (number_wanted wanted index) End)
+no_terms false index = refl
+no_terms true index = refl
+
+pub made_rooted : (world : World) (work : PageWork) (line : ℕ) (made : PageMade)
+    → IsRootAt world work.page.now.id.doc line → IsMadeAt world work line made → IsPageMade world work made
+made_rooted world work line made at is =
+    let plan = work.ground.plan.now in
+    let val = option_copied work.ground.val in
+    let page = work.page.now in record {
+      html = is.html ∙ page_rooted world plan val work.index page work.behind line at;
+      terms = is.terms ∙ ap (λ (m : Made). terms_wanted (number_wanted work.with_terms work.index) m.nodes)
+          (content_rooted world plan val page line at);
+      content = is.content;
+    }
+
+pub made_rootless : (world : World) (work : PageWork) (made : PageMade) → root_in world work.page.now.id.doc ≡ None
+    → made ≡ nothing work.content → AreKnown world work.ground.plan.now work.content → IsPageMade world work made
+made_rootless world work made none is known =
+    let plan = work.ground.plan.now in
+    let val = option_copied work.ground.val in
+    let page = work.page.now in
+    subst (IsPageMade world work) (sym is) (record {
+      html = page_rootless world plan val work.index page work.behind none;
+      terms = no_terms work.with_terms work.index
+          ∙ ap (λ (m : Made). terms_wanted (number_wanted work.with_terms work.index) m.nodes)
+          (content_rootless world plan val page none);
+      content = known;
+    })
 
 -- The page at an index
 
@@ -94,12 +167,13 @@ page_nowhere world plan val index there = ap (λ (found : Option PagePlan). opti
 
 -- The page, from its body, its links and its title
 pub page_shown : (world : World) (plan : Plan) (index : ℕ) (page : PagePlan) (behind : List Fault) (line : ℕ)
-    (context : Context) (made : BodyMade) (of_nodes hrefs : List PageLink) (html : Html)
-    → IsBodyMade world plan context page index behind made → of_nodes ≡ node_links world plan index
+    (number : Option ℕ) (context : Context) (made : BodyMade) (of_nodes hrefs : List PageLink) (html : Html)
+    → IsBodyMade world plan context page index behind number made → of_nodes ≡ node_links world plan index
     → hrefs ≡ hrefs_once (of_nodes ++ made.links)
     → html ≡ page_html page.id.doc line (title_in world page.id.doc []) made.body hrefs
-    → html ≡ page_at rooms world plan index page behind page.id.doc line (content_of world plan context)
-page_shown world plan index page behind line context made of_nodes hrefs html is nodes once shown =
+    → html ≡ page_at rooms world plan index page behind page.id.doc line (rules_for world context)
+    (content_of world plan context)
+page_shown world plan index page behind line number context made of_nodes hrefs html is nodes once shown =
     let here = here_of world plan page index in
     let content = content_of world plan context in
     let name = page.id.doc in
@@ -109,4 +183,5 @@ page_shown world plan index page behind line context made of_nodes hrefs html is
     ∙ links_once world plan index (element_links here content.nodes) in
     shown
     ∙ ap (λ (body : Html). page_html name line title body hrefs) is.body
-    ∙ ap (λ (all : List PageLink). page_html name line title (body_of here behind content) all) links
+    ∙ ap (λ (all : List PageLink). page_html name line title (body_of here (rules_for world context) behind content) all)
+    links

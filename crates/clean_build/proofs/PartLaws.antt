@@ -1,5 +1,5 @@
 -- The parts of a build as they are put one after another, and the build that they make up.
-use Rattle.std.specs.Prelude.{◌≡◌, ◌+◌, ◌≤◌, ℕ, zero, suc, List, [], ◌∷◌, ◌++◌, Option, Some, Result, Ok, Err, OnOk, length, map, option_map, slice_get, take}
+use Rattle.std.specs.Prelude.{◌≡◌, ◌+◌, ◌≤◌, ℕ, zero, suc, List, [], ◌∷◌, ◌++◌, Option, Some, Result, Ok, Err, length, map, option_map, slice_get, take}
 use Rattle.std.specs.List.{AllByRecursion, flat_map}
 use Rattle.std.proofs.Common.{refl, sym, ap, subst, ◌∙◌, append-nil, arith}
 use Rattle.std.proofs.Math.Logic.{⊎_elim}
@@ -35,7 +35,7 @@ use Rattle.clean_build.proofs.TopicLaws.{AreOfTopics, topics_root}
 
 -- One element more of a list
 
-take_next : {X : Type 0} (xs : List X) (at : ℕ) (x : X) → slice_get xs at ≡ Some x
+pub take_next : {X : Type 0} (xs : List X) (at : ℕ) (x : X) → slice_get xs at ≡ Some x
     → take (at + 1) xs ≡ take at xs ++ x ∷ []
 take_next xs at x is = take_more xs at x (slice_get_within xs at x is)
     ∙ ap (λ y. take at xs ++ y ∷ []) (get_or_from_slice_get xs at x x is)
@@ -44,7 +44,7 @@ map_there : {X Y : Type 0} (f : X → Y) (xs : List X) (at : ℕ) (x : X) → sl
     → slice_get (map f xs) at ≡ Some (f x)
 map_there f xs at x is = slice_get-map f xs at ∙ ap (option_map f) is
 
-placed : {X : Type 0} (from at : ℕ) (xs : List X) (x : X) → slice_get xs at ≡ Some x
+pub placed : {X : Type 0} (from at : ℕ) (xs : List X) (x : X) → slice_get xs at ≡ Some x
     → slice_get (places_from from xs) at ≡ Some (from + at)
 placed from zero [] x is = cc
 placed from (suc at) [] x is = cc
@@ -53,7 +53,7 @@ placed from (suc at) (first ∷ xs) x is =
     let same : from + 1 + at ≡ from + suc at = omega arith in
     placed (from + 1) at xs x is ∙ ap (λ n. Some n) same
 
-count_placed : {X : Type 0} (from : ℕ) (xs : List X) → length (places_from from xs) ≡ length xs
+pub count_placed : {X : Type 0} (from : ℕ) (xs : List X) → length (places_from from xs) ≡ length xs
 count_placed from [] = refl
 count_placed from (first ∷ xs) = ap (λ n. suc n) (count_placed (from + 1) xs)
 
@@ -212,12 +212,6 @@ pub plan_named : (world : World) (name : List ℕ) (val : Option (List ℕ)) (pl
     → plan_of limits world name val ≡ Ok plan → AllByRecursion IsPageName (names_of plan)
 plan_named world name val plan is = pages_named world name val plan is plan.pages 0 (λ at page found.
     let same : 0 + at ≡ at = omega arith in ap (slice_get plan.pages) same ∙ found)
-
--- what two claims on a call give together
-pub on_ok_both : {X E : Type 0} (result : Result X E) (P Q R : Type 0) → (P → Q → R) → OnOk result P → OnOk result Q
-    → OnOk result R
-on_ok_both (Ok x) P Q R both one other = both one other
-on_ok_both (Err e) P Q R both one other = tt
 
 -- there is no build without a plan
 pub stopped : (world : World) (name : List ℕ) (val : Option (List ℕ)) (stop : PlanStop)

@@ -9,12 +9,7 @@ use Rattle.doc_elements.specs.Walk.{element_of}
 use Rattle.map_spec.specs.Included.{root_in}
 use Rattle.map_spec.specs.Written.{Whole, first_sibling, written_in}
 use Rattle.reader_spec.specs.World.{World}
-
-pub record IsRootAt (world : World) (name : List ℕ) (line : ℕ) : Type 0 where
-  pub root : Whole
-  pub there : root_in world name ≡ Some root
-  pub doc : root.0.doc ≡ name
-  pub line_is : root.0.line ≡ line
+use Rattle.clean_build.specs.Made.{IsRootAt}
 
 root_by : (name : List ℕ) (node : Node) (first : Option Whole)
     → root_named name (Some node) ≡ option_map (λ (one : Whole). one.0) first

@@ -6,3 +6,4 @@ pub mod Made
 pub mod Names
 pub mod Single
 pub mod Tables
+pub mod Terms

@@ -1,18 +1,39 @@
 -- Parts of a build that stand alone, in a world (own).
-use Rattle.std.specs.Prelude.{◌≡◌, ◌++◌, ℕ, List, [], Option, slice_get}
-use Rattle.std.specs.Option.{option_copied, option_map_or}
+use Rattle.std.specs.Prelude.{◌≡◌, ◌++◌, ℕ, List, Option, Some, None}
+use Rattle.std.specs.Option.{option_copied, option_to_list}
 use Rattle.dita_doc.specs.declared.fact.Html.{Html}
 use Rattle.dita_doc.specs.declared.plan.Plan.{Plan}
 use Rattle.part_spec.specs.Parts.{contents_part, page_part, rooms}
 use Rattle.reader_spec.specs.World.{World}
-use Rattle.readers.specs.Founded.{homes}
+use Rattle.readers.specs.Founded.{AreAllowed, IsFounded, homes}
 use Rattle.readers.specs.Setting.{Setting}
+use Rattle.readers.specs.Told.{Told}
 use Rattle.clean_build.specs.Ground.{IsReady}
-use Rattle.clean_build.specs.Names.{names_of, names_of_content}
+use Rattle.clean_build.specs.Names.{names_at, names_of, names_of_plan}
+use Rattle.clean_build.specs.Tables.{AreTables}
+use Rattle.clean_build.specs.declared.found.Found.{Found}
 use Rattle.clean_build.specs.declared.ground.Ground.{Ground}
 use Rattle.clean_build.specs.declared.single_parts.Part.{Part}
 use Rattle.clean_build.specs.declared.single_parts.Part.TheVariants as parts
 use Rattle.clean_build.specs.declared.single_parts.PartWork.{PartWork}
+
+-- A plan that is found anew
+
+abbrev pub IsPlanFound : Plan → Option Found → Type 0
+IsPlanFound plan None = ⊥
+IsPlanFound plan (Some found) = found.plan ≡ plan
+
+abbrev pub HasTables : List Told → Option Found → Type 0
+HasTables told None = Unit {0}
+HasTables told (Some found) = AreTables told found.plan found.tables
+
+-- if the documents of these names may be asked about, so may those that the parts of the plan are about
+abbrev pub MayBeAsked : Option (List ℕ) → List (List ℕ) → List Told → List Told → Option Found → Type 0
+MayBeAsked val names old new None = Unit {0}
+MayBeAsked val names old new (Some found) = (roots : List (List ℕ)) → AreAllowed roots old names → IsFounded roots old
+    → AreAllowed roots new (homes found.plan.nodes ++ (option_to_list val ++ names_of_plan found.plan))
+
+-- A part of it
 
 abbrev pub part_html : Part → World → Plan → Option (List ℕ) → Html
 part_html (parts.Page index) world plan val = page_part rooms world plan val index
@@ -28,8 +49,7 @@ about_part work = names_of work.ground
 -- What is asked for as a whole. A page that stands alone finds the links of its plan for itself.
 
 abbrev pub documents_of_alone : Ground → ℕ → List (List ℕ)
-documents_of_alone given index = homes given.plan.now.nodes
-    ++ option_map_or (names_of_content given) (slice_get given.plan.now.pages index) []
+documents_of_alone given index = homes given.plan.now.nodes ++ names_at given index
 
 abbrev pub documents_for : Ground → Part → List (List ℕ)
 documents_for given (parts.Page index) = documents_of_alone given index

@@ -1,6 +1,6 @@
 //! The pages and the faults of a build, gathered one after another.
 
-ghost use Rattle.std.specs.Prelude.{◌≡◌, ◌++◌, [], ◌∷◌, ℕ, List, IfOk, OnOk};
+ghost use Rattle.std.specs.Prelude.{◌≡◌, ◌++◌, [], ◌∷◌, ℕ, List, IfOk, OnOk, nat_le, not};
 ghost use Rattle.clean_build.specs.Gathering as gathering_spec;
 ghost use Rattle.clean_build.specs.Gathering.{AreAsGood, HasGathered, HasPages};
 ghost use Rattle.dita_doc.specs.declared.fact.Html as html_declared;
@@ -93,6 +93,13 @@ impl Gathered {
         };
         self.pages.push((name, Arc::new(alloc, html)?))?;
         Ok(())
+    }
+
+    /// Whether the pages that were put are too large together.
+    pub fn is_too_large(&self) -> bool
+        ensures { result ≡ not (nat_le self.now.total parts_spec.total_limit) }
+    {
+        self.total > TOTAL_LIMIT
     }
 
     /// What the build gives.

@@ -1,5 +1,6 @@
 //! What a build stands on.
 
+ghost use Rattle.std.specs.Arc.{arc_value};
 ghost use Rattle.std.specs.Prelude.{◌≡◌, IfOk};
 ghost use Rattle.std.specs.Option.{option_copied};
 ghost use Rattle.clean_build.specs.Ground as ground_spec;
@@ -7,6 +8,7 @@ ghost use Rattle.clean_build.specs.Ground as ground_spec;
 use dita_doc::{Context, Name, NoMemory, PageId, PagePlan, Plan};
 use plan_nodes::{copy_affixes, copy_names};
 use std::alloc::Global;
+use std::sync::Arc;
 
 /// The map and the DITAVAL of a build, and its plan.
 #[derive(Clone, Copy)]
@@ -17,17 +19,19 @@ pub(crate) struct Ground<'p> {
 }
 
 impl<'p> Ground<'p> {
-    /// What a page of the plan is made for.
-    pub fn context_of(self, alloc: Global, page: &PagePlan) -> Result<Context, NoMemory>
-        ensures { IfOk result (λ context. context ≡ ground_spec.context_for self.entry page.now) }
+    /// What a page of the plan is made for; the questions for the page share it.
+    pub fn context_of(self, alloc: Global, page: &PagePlan) -> Result<Arc<Context>, NoMemory>
+        ensures { IfOk result
+            (λ context. arc_value context ≡ ground_spec.context_for self.entry page.now) }
     {
         let val = copy_val(self.val)?;
-        Ok(Context {
+        let context = Context {
             map: self.map.clone()?,
             val,
             page: copy_id(alloc, &page.id)?,
             name: page.name.clone()?,
-        })
+        };
+        Ok(Arc::new(alloc, context)?)
     }
 }
 

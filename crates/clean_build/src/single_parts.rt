@@ -18,14 +18,13 @@ ghost use Rattle.readers.specs.Founded.{Grows, StaysFounded};
 ghost use Rattle.readers.specs.Told.{Agrees};
 
 use crate::body::no_html;
-use crate::build_tables::BuildTables;
+use crate::found::{Found, find_plan};
 use crate::ground::Ground;
 use crate::over_plan::PlanWork;
 use crate::over_titles::over_titles;
 use crate::works::{PageMade, PageWork};
-use build_plan::{Planned, planned};
 use conref_pull::Tables;
-use dita_doc::{Html, Name, NoMemory, Plan, Stop};
+use dita_doc::{Html, Name, NoMemory, Plan};
 use node_links::NodeLinks;
 use pushed_docs::PushedDocs;
 use readers::{Asker, Titles};
@@ -150,12 +149,9 @@ fn single<T: Titles>(
     ensures stand { T.stand asker.new ≡ T.stand asker.old }
     ensures grows { Grows (T.told asker.old) (T.told asker.new) }
 {
-    let Planned { plan, homes, table } = match planned(alloc, asker, map, val) {
-        Ok(planned) => planned,
-        Err(Stop::Fault(_)) => return Ok(no_html(alloc)),
-        Err(Stop::NoMemory) => return Err(NoMemory),
+    let Some(Found { plan, tables }) = find_plan(alloc, asker, map, val)? else {
+        return Ok(no_html(alloc));
     };
-    let tables = BuildTables::of(alloc, asker, &plan, homes, table)?;
     let mut docs = PushedDocs::new(alloc);
     let ground = Ground {
         map,
@@ -226,6 +222,7 @@ fn page_alone<A: Asker>(
         links: &links,
         content: Tables::new(alloc),
         behind: links.faults_by_row(alloc, plan)?,
+        with_terms: false,
     };
     let PageMade { html, .. } = work.run(alloc, asker)?;
     Ok(html)

@@ -6,6 +6,7 @@ ghost use Rattle.clean_build.specs.Clean as clean_spec;
 ghost use Rattle.clean_build.specs.Gathering as gathering_spec;
 ghost use Rattle.clean_build.specs.Gathering.{HasGathered};
 ghost use Rattle.clean_build.specs.Tables.{AreTables, GoesOn};
+ghost use Rattle.clean_build.specs.Terms as terms_spec;
 ghost use Rattle.key_layer.specs.Ready.{AreReady};
 ghost use Rattle.key_scopes.specs.Made.{IsTableOf};
 ghost use Rattle.map_spec.specs.PlanOf as plan_spec;
@@ -20,10 +21,11 @@ use crate::built::Clean;
 use crate::gathered::Gathered;
 use crate::ground::Ground;
 use crate::over_sources::{Lasting, over_sources};
+use crate::terms::{append_terms, terms_page};
 use crate::works::{ContentsWork, LinksWork, PageMade, PageWork};
 use build_plan::{Planned, planned};
 use conref_pull::Tables;
-use dita_doc::{List, Name, NoMemory, Plan, Sources, Stop, Text, copy_faults};
+use dita_doc::{Html, List, Name, NoMemory, Plan, Sources, Stop, TermEntry, Text, copy_faults};
 use node_links::NodeLinks;
 use plan_nodes::place_of;
 use pushed_docs::PushedDocs;
@@ -45,10 +47,46 @@ pub fn clean(
         ≡ parts_spec.clean_build (world_of sources.now) map.now (option_copied val.entry)) }
     ensures names { IfOk result clean_spec.HasPageNames }
 {
+    let (built, _) = build_of_map(alloc, sources, map, val, false)?;
+    Ok(built)
+}
+
+/// The same build, and the page of its terms. A build without terms has no such page, and neither
+/// has one that is stopped or whose pages are too large together. No page is resolved twice; the
+/// titles of all pages are asked for at the end.
+pub fn clean_with_terms(
+    alloc: Global,
+    sources: &Sources,
+    map: &Name,
+    val: Option<&Name>,
+) -> Result<(Clean, Option<Html>), NoMemory>
+    ensures built { IfOk result (λ pair. clean_spec.clean_seen pair.0
+        ≡ parts_spec.clean_build (world_of sources.now) map.now (option_copied val.entry)) }
+    ensures names { IfOk result (λ pair. clean_spec.HasPageNames pair.0) }
+    ensures terms { IfOk result (λ pair. pair.1
+        ≡ parts_spec.clean_terms (world_of sources.now) map.now (option_copied val.entry)) }
+{
+    build_of_map(alloc, sources, map, val, true)
+}
+
+// The build of a map, and the page of its terms, if it is wanted.
+fn build_of_map(
+    alloc: Global,
+    sources: &Sources,
+    map: &Name,
+    val: Option<&Name>,
+    with_terms: bool,
+) -> Result<(Clean, Option<Html>), NoMemory>
+    ensures built { IfOk result (λ pair. clean_spec.clean_seen pair.0
+        ≡ parts_spec.clean_build (world_of sources.now) map.now (option_copied val.entry)) }
+    ensures names { IfOk result (λ pair. clean_spec.HasPageNames pair.0) }
+    ensures terms { IfOk result (λ pair. pair.1 ≡ terms_spec.page_of_build with_terms
+        (world_of sources.now) map.now (option_copied val.entry)) }
+{
     let mut reader = SourceReader::new(alloc, KnownTitles::new(alloc, sources));
     match planned(alloc, &mut reader, map, val) {
-        Ok(found) => build_of_plan(alloc, reader, found, map, val),
-        Err(Stop::Fault(stop)) => Ok(Clean::Stopped(stop)),
+        Ok(found) => build_of_plan(alloc, reader, found, map, val, with_terms),
+        Err(Stop::Fault(stop)) => Ok((Clean::Stopped(stop), None)),
         Err(Stop::NoMemory) => Err(NoMemory),
     }
 }
@@ -60,14 +98,18 @@ fn build_of_plan(
     found: Planned,
     map: &Name,
     val: Option<&Name>,
-) -> Result<Clean, NoMemory>
+    with_terms: bool,
+) -> Result<(Clean, Option<Html>), NoMemory>
     requires ready { AreReady (told_alone reader.asked) found.plan.nodes found.homes }
     requires scoped { Knows (told_alone reader.asked)
         (λ world. ∥ IsTableOf world found.plan.nodes found.table ∥₁) }
     requires plan { plan_spec.plan_of plan_spec.limits (world_of reader.known.sources.now) map.now
         (option_copied val) ≡ Ok found.plan }
-    ensures { IfOk result (gathering_spec.IsBuilt found.plan (parts_spec.parts_of parts_spec.rooms
-        (world_of reader.entry.known.sources.now) found.plan (option_copied val.entry))) }
+    ensures built { IfOk result (λ pair. gathering_spec.IsBuilt found.plan (parts_spec.parts_of
+        parts_spec.rooms (world_of reader.entry.known.sources.now) found.plan
+        (option_copied val.entry)) pair.0) }
+    ensures terms { IfOk result (λ pair. pair.1 ≡ terms_spec.page_of_plan with_terms
+        (world_of reader.entry.known.sources.now) found.plan (option_copied val.entry)) }
 {
     let mut reader = reader;
     let Planned { plan, homes, table } = found;
@@ -78,7 +120,7 @@ fn build_of_plan(
         plan: &plan,
     };
     let (asked, known) = reader.into_asked();
-    parts_since::<Brand>(alloc, &asked, known, ground, &tables)
+    parts_since::<Brand>(alloc, &asked, known, ground, &tables, with_terms)
 }
 
 // All parts, by tables that are known by what was told before. Which answers these were is said by
@@ -89,15 +131,18 @@ fn parts_since<S: Since>(
     known: KnownTitles<'_>,
     ground: Ground<'_>,
     tables: &BuildTables,
-) -> Result<Clean, NoMemory>
+    with_terms: bool,
+) -> Result<(Clean, Option<Html>), NoMemory>
     requires sources { world_of known.sources.now ≡ S.stand.world }
     requires agreed { Agrees S.stand.world S.told }
     requires tables { AreTables S.told ground.plan.now tables.now }
     requires plan { plan_spec.plan_of plan_spec.limits S.stand.world ground.map.now
         (option_copied ground.val) ≡ Ok ground.plan.now }
-    ensures { IfOk result (gathering_spec.IsBuilt ground.entry.plan.now
+    ensures built { IfOk result (λ pair. gathering_spec.IsBuilt ground.entry.plan.now
         (parts_spec.parts_of parts_spec.rooms S.stand.world ground.entry.plan.now
-        (option_copied ground.entry.val))) }
+        (option_copied ground.entry.val)) pair.0) }
+    ensures terms { IfOk result (λ pair. pair.1 ≡ terms_spec.page_of_plan with_terms
+        S.stand.world ground.entry.plan.now (option_copied ground.entry.val)) }
 {
     let plan = ground.plan;
     let docs = PushedDocs::new(alloc);
@@ -105,8 +150,20 @@ fn parts_since<S: Since>(
     let work = LinksWork { ground };
     let (links, lasting) = over_sources::<S, LinksWork<'_>>(alloc, lasting, plan, tables, work)?;
     let mut gathered = first_faults(alloc, plan, &links)?;
-    put_parts::<S>(alloc, lasting, ground, tables, &links, &mut gathered)?;
-    gathered.finish(alloc)
+    let Put { lasting, terms } = put_parts::<S>(
+        alloc,
+        lasting,
+        ground,
+        tables,
+        &links,
+        &mut gathered,
+        with_terms,
+    )?;
+    let page = terms_page::<S>(
+        alloc, lasting, ground, tables, &gathered, &terms, with_terms,
+    )?;
+    let clean = gathered.finish(alloc)?;
+    Ok((clean, page))
 }
 
 // The faults of a plan and those of its rows, before any page is put. Faults of rows are faults of
@@ -124,15 +181,23 @@ fn first_faults(alloc: Global, plan: &Plan, links: &NodeLinks) -> Result<Gathere
     Ok(gathered)
 }
 
+// The parts of a build were put: what goes on, and the terms of the pages, if they are wanted.
+#[derive(Drop)]
+struct Put<'a> {
+    lasting: Lasting<'a>,
+    terms: List<TermEntry>,
+}
+
 // Puts each page, and the contents page last.
-fn put_parts<S: Since>(
+fn put_parts<'a, S: Since>(
     alloc: Global,
-    lasting: Lasting<'_>,
+    lasting: Lasting<'a>,
     ground: Ground<'_>,
     tables: &BuildTables,
     links: &NodeLinks,
     gathered: &mut Gathered,
-) -> Result<(), NoMemory>
+    with_terms: bool,
+) -> Result<Put<'a>, NoMemory>
     requires agreed { Agrees S.stand.world S.told }
     requires tables { AreTables S.told ground.plan.now tables.now }
     requires goes_on { GoesOn S.stand.world ground.plan.now.documents lasting }
@@ -141,12 +206,17 @@ fn put_parts<S: Since>(
     requires links { AreNodeLinks S.stand.world ground.plan.now links.now }
     requires gathered { HasGathered [] [] (gathering_spec.faults_before ground.plan.now)
         gathered.old }
-    ensures { OnOk result (gathering_spec.HasPartsOf S.stand.world ground.entry.plan.now
+    ensures put { OnOk result (gathering_spec.HasPartsOf S.stand.world ground.entry.plan.now
         (option_copied ground.entry.val) gathered.new) }
+    ensures goes_on { IfOk result
+        (λ put. GoesOn S.stand.world ground.entry.plan.now.documents put.lasting) }
+    ensures terms { IfOk result (λ put. put.terms ≡ terms_spec.terms_of_all with_terms
+        S.stand.world ground.entry.plan.now (option_copied ground.entry.val)) }
 {
     let plan = ground.plan;
     let mut content = Tables::new(alloc);
     let mut lasting = lasting;
+    let mut terms = List::new(alloc);
     for (index, page) in plan.pages.as_slice().iter().enumerate() {
         let work = PageWork {
             ground,
@@ -155,27 +225,31 @@ fn put_parts<S: Since>(
             links,
             content,
             behind: List::new(alloc),
+            with_terms,
         };
         let (made, next) = over_sources::<S, PageWork<'_, '_>>(alloc, lasting, plan, tables, work)?;
         let PageMade {
             html,
+            terms: of_page,
             content: kept,
         } = made;
         content = kept;
         lasting = next;
+        append_terms(&mut terms, of_page)?;
         gathered.put(alloc, page.name.clone()?, html)?;
     }
-    put_contents::<S>(alloc, lasting, ground, tables, gathered)
+    let lasting = put_contents::<S>(alloc, lasting, ground, tables, gathered)?;
+    Ok(Put { lasting, terms })
 }
 
 // Puts the contents page behind all pages.
-fn put_contents<S: Since>(
+fn put_contents<'a, S: Since>(
     alloc: Global,
-    lasting: Lasting<'_>,
+    lasting: Lasting<'a>,
     ground: Ground<'_>,
     tables: &BuildTables,
     gathered: &mut Gathered,
-) -> Result<(), NoMemory>
+) -> Result<Lasting<'a>, NoMemory>
     requires agreed { Agrees S.stand.world S.told }
     requires tables { AreTables S.told ground.plan.now tables.now }
     requires goes_on { GoesOn S.stand.world ground.plan.now.documents lasting }
@@ -185,12 +259,21 @@ fn put_contents<S: Since>(
         (map (λ page. page.name) ground.plan.now.pages)
         (parts_spec.page_parts parts_spec.rooms S.stand.world ground.plan.now
         (option_copied ground.val)) gathered.old }
-    ensures { OnOk result (gathering_spec.HasPartsOf S.stand.world ground.entry.plan.now
+    ensures put { OnOk result (gathering_spec.HasPartsOf S.stand.world ground.entry.plan.now
         (option_copied ground.entry.val) gathered.new) }
+    ensures goes_on { IfOk result
+        (λ lasting. GoesOn S.stand.world ground.entry.plan.now.documents lasting) }
 {
     let work = ContentsWork { ground };
-    let (html, _) = over_sources::<S, ContentsWork<'_>>(alloc, lasting, ground.plan, tables, work)?;
-    gathered.put(alloc, contents_name(alloc)?, html)
+    let (html, lasting) = over_sources::<S, ContentsWork<'_>>(
+        alloc,
+        lasting,
+        ground.plan,
+        tables,
+        work,
+    )?;
+    gathered.put(alloc, contents_name(alloc)?, html)?;
+    Ok(lasting)
 }
 
 // The name of the contents page.

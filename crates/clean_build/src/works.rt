@@ -23,9 +23,9 @@ use crate::body::{BodyMade, no_html, page_body};
 use crate::ground::Ground;
 use crate::hrefs::hrefs_once;
 use crate::over_plan::PlanWork;
+use crate::root::root_line;
 use conref_pull::Tables;
-use dita_doc::{Fault, Html, List, Name, NoMemory, PageLink, PagePlan, Text};
-use doc_elements::root_of;
+use dita_doc::{Fault, Html, List, Name, NoMemory, PageLink, PagePlan, TermEntry, Text};
 use html_page::page_html;
 use node_links::NodeLinks;
 use readers::Asker;
@@ -84,8 +84,8 @@ impl<'p> PlanWork for ContentsWork<'p> {
     }
 }
 
-/// The page at an index, with the faults of its content and, behind them, these. It is empty if its
-/// document is not stored.
+/// The page at an index, with the faults of its content and, behind them, these, and the terms of
+/// its content, if they are wanted. It is empty if its document is not stored.
 #[derive(Drop)]
 pub(crate) struct PageWork<'p, 'b> {
     pub ground: Ground<'p>,
@@ -94,12 +94,14 @@ pub(crate) struct PageWork<'p, 'b> {
     pub links: &'b NodeLinks,
     pub content: Tables,
     pub behind: List<Fault>,
+    pub with_terms: bool,
 }
 
-/// A page, and the tables by which its content was resolved.
+/// A page, the terms of its content, and the tables by which that was resolved.
 #[derive(Drop)]
 pub(crate) struct PageMade {
     pub html: Html,
+    pub terms: List<TermEntry>,
     pub content: Tables,
 }
 
@@ -119,13 +121,10 @@ impl<'p, 'b> PlanWork for PageWork<'p, 'b> {
     ghost follows = { λ work. asking_spec.of_content };
 
     fn run<A: Asker>(self, alloc: Global, asker: &mut A) -> Result<PageMade, NoMemory> {
-        let Some(doc) = asker.doc(alloc, &self.page.id.doc)? else {
+        let Some(line) = root_line(alloc, asker, &self.page.id.doc)? else {
             return Ok(nothing(alloc, self.content));
         };
-        let Some(root) = root_of(&doc) else {
-            return Ok(nothing(alloc, self.content));
-        };
-        rooted(alloc, asker, self, root.line)
+        rooted(alloc, asker, self, line)
     }
 }
 
@@ -135,6 +134,7 @@ fn nothing(alloc: Global, content: Tables) -> PageMade
 {
     PageMade {
         html: no_html(alloc),
+        terms: List::new(alloc),
         content,
     }
 }
@@ -160,15 +160,36 @@ fn rooted<A: Asker>(
     ensures grows { Grows (A.told asker.old) (A.told asker.new) }
 {
     let ground = work.ground;
+    let number = number_wanted(work.with_terms, work.index);
     let BodyMade {
         body,
         links: own,
+        terms,
         content,
-    } = body_on_ground(alloc, asker, ground, work.page, work.content, work.behind)?;
+    } = body_on_ground(
+        alloc,
+        asker,
+        ground,
+        work.page,
+        work.content,
+        work.behind,
+        number,
+    )?;
     let of_nodes = work.links.of_page(alloc, asker, ground.plan, work.index)?;
     let hrefs = joined_once(alloc, of_nodes, own)?;
     let html = titled(alloc, asker, &work.page.id.doc, line, &body, &hrefs)?;
-    Ok(PageMade { html, content })
+    Ok(PageMade {
+        html,
+        terms,
+        content,
+    })
+}
+
+// The page's number, if its terms are wanted.
+fn number_wanted(with_terms: bool, number: u32) -> Option<u32>
+    ensures { result ≡ made_spec.number_wanted with_terms number }
+{
+    if with_terms { Some(number) } else { None }
 }
 
 // The body of a page of this ground's plan, made for the page's own context.
@@ -179,13 +200,14 @@ fn body_on_ground<A: Asker>(
     page: &PagePlan,
     content: Tables,
     behind: List<Fault>,
+    number: Option<u32>,
 ) -> Result<BodyMade, NoMemory>
     ensures known { (world : World) (index : ℕ) → Agrees world (A.told asker.new)
         → IsReady world ground.entry (A.stand asker.old).setting
         → slice_get ground.entry.plan.now.pages index ≡ Some page.now
         → AreKnown world ground.entry.plan.now content
         → IfOk result (IsBodyMade world ground.entry.plan.now
-        (context_for ground.entry page.now) page.now index behind) }
+        (context_for ground.entry page.now) page.now index behind number) }
     ensures founded { StaysFounded (founded_spec.homes (A.stand asker.old).setting.nodes
         ++ page.now.id.doc ∷ ditavals (option_copied ground.entry.val) page.now.id.filters)
         (A.told asker.old) (A.told asker.new) }
@@ -195,7 +217,7 @@ fn body_on_ground<A: Asker>(
     ensures grows { Grows (A.told asker.old) (A.told asker.new) }
 {
     let context = ground.context_of(alloc, page)?;
-    page_body(alloc, asker, content, ground.plan, &context, behind)
+    page_body(alloc, asker, content, ground.plan, &context, behind, number)
 }
 
 // The page of this body with these links, under the title of its document.

@@ -1,1 +1,3 @@
+mod ModeLaws
+mod StayLaws
 mod WordLaws

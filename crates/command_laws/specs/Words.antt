@@ -1,10 +1,13 @@
 -- What the command reads of some kinds of words (own).
-use Rattle.std.specs.Prelude.{◌≡◌, ◌≢◌, ℕ, List, [], ◌∷◌, ◌++◌, codes, true, false}
+use Rattle.std.specs.Prelude.{◌≡◌, ◌≢◌, ◌⊎◌, ℕ, List, [], ◌∷◌, ◌++◌, Some, codes, true, false}
 use Rattle.clap.specs.ValueTests.{is_unsigned_in}
-use Rattle.clap.specs.Walk.{Text}
-use Rattle.command_line.specs.Command.{is_read, out_folder}
+use Rattle.clap.specs.Simple.{matches_of}
+use Rattle.clap.specs.Walk.{Text, first_of}
+use Rattle.command_line.specs.Command.{command, is_read, mode_of, out_folder}
+use Rattle.command_line.specs.declared.modes.Mode.{Mode}
+use Rattle.command_line.specs.declared.modes.Mode.TheVariants.{Clean, Terms}
 
--- the program's name, its mode, and words behind it
+-- the program's name, the mode `clean`, and words behind it
 abbrev pub clean_with : Text → List Text → List Text
 clean_with program words = program ∷ codes "clean" ∷ words
 
@@ -25,6 +28,15 @@ StandsOnce name = (program first second : Text)
 -- behind `--` no word is an option, and the mode stands there already
 abbrev pub ClosesOptions : Type 0
 ClosesOptions = (program word : Text) → is_read (clean_with program (codes "--" ∷ word ∷ [])) ≡ false
+
+-- the words name this mode, by this text
+abbrev pub Names : Text → Mode → List Text → Type 0
+Names text mode words = (first_of (codes "mode") (matches_of command words) ≡ Some text) × (mode_of words ≡ Some mode)
+
+-- words that are read name one of the modes, each by its own name
+abbrev pub NamesMode : Type 0
+NamesMode = (words : List Text) → is_read words ≡ true
+    → Names (codes "clean") Clean words ⊎ Names (codes "terms") Terms words
 
 -- a folder's name is any text that is not empty, and it is the folder
 abbrev pub NamesFolder : Type 0

@@ -38,6 +38,11 @@ pub fn two_hyphens_close()
     ensures { words_spec.ClosesOptions }
 {}
 
+/// Words that are read name a mode by its name: no other text is taken for one of them.
+pub fn mode_is_named()
+    ensures { words_spec.NamesMode }
+{}
+
 /// The value of `--out` is the folder of the pages.
 pub fn folder_is_named()
     ensures { words_spec.NamesFolder }

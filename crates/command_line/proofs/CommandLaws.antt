@@ -18,7 +18,7 @@ use Rattle.clap.proofs.WalkLemmas.{first_value-rows}
 use Rattle.command_line.proofs.AddressFaultLaws.{same_faults}
 use Rattle.command_line.proofs.AddressLaws.{same_rows}
 use Rattle.command_line.proofs.FaultLaws.{is_clear, takes_agrees}
-use Rattle.command_line.specs.Command.{IsCommand, command, command_of, default_folder, is_read, one_of_these, out_folder}
+use Rattle.command_line.specs.Command.{IsCommand, command, command_of, default_folder, is_read, mode_called, mode_of, one_of_these, out_folder}
 
 -- the modes' names, at some addresses
 abbrev Names : Type 0
@@ -71,6 +71,18 @@ unwrapped : (given : Option (Bor Text)) (other : Bor Text)
 unwrapped (Some text) other = refl
 unwrapped None other = refl
 
+-- the value that `get_str` gives for an argument of words that are read, or another text in its place
+value_if_read : (id : Text) (found : Option ArgMatches) (matches : ArgMatches) (words : List Text) (given : Option (Bor Text))
+    (other : Bor Text) → found ≡ Some matches → IfSome found (λ m. rows_of (found_of m) ≡ matches_of command words)
+    → option_map (λ text. text.now) given ≡ first_value (found_of matches) id
+    → (unwrap_or given other).now ≡ unwrap_or (first_of id (matches_of command words)) other.now
+value_if_read id found matches words given other some rows value =
+    let here : rows_of (found_of matches) ≡ matches_of command words =
+    subst (λ o. IfSome o (λ m. rows_of (found_of m) ≡ matches_of command words)) some rows in
+    let first : option_map (λ text. text.now) given ≡ first_of id (matches_of command words) =
+    value ∙ first_value-rows (found_of matches) id ∙ ap (first_of id) here in
+    unwrapped given other ∙ ap (λ (text : Option Text). unwrap_or text other.now) first
+
 if_read : (words : List Text) → true ≡ is_read words
     → unwrap_or (first_of (codes "out") (matches_of command words)) default_folder ≡ out_folder words
 if_read words read = rw (← read) refl
@@ -82,12 +94,24 @@ pub folder_if_read : (found : Option ArgMatches) (matches : ArgMatches) (words :
     → option_map (λ text. text.now) given ≡ first_value (found_of matches) (codes "out") → other.now ≡ default_folder
     → (unwrap_or given other).now ≡ out_folder words
 folder_if_read found matches words given other some read rows value default =
-    let here : rows_of (found_of matches) ≡ matches_of command words =
-    subst (λ o. IfSome o (λ m. rows_of (found_of m) ≡ matches_of command words)) some rows in
-    let is : true ≡ is_read words = ap is_some (sym some) ∙ read in
-    let first : option_map (λ text. text.now) given ≡ first_of (codes "out") (matches_of command words) =
-    value ∙ first_value-rows (found_of matches) (codes "out") ∙ ap (first_of (codes "out")) here in
-    unwrapped given other ∙ ap₂ unwrap_or first default ∙ if_read words is
+    value_if_read (codes "out") found matches words given other some rows value
+    ∙ ap (unwrap_or (first_of (codes "out") (matches_of command words))) default
+    ∙ if_read words (ap is_some (sym some) ∙ read)
+
+named_if_read : (words : List Text) → true ≡ is_read words
+    → Some (mode_called (unwrap_or (first_of (codes "mode") (matches_of command words)) [])) ≡ mode_of words
+named_if_read words read = rw (← read) refl
+
+-- the mode of words that are read is that of the value that `get_str` gives for it
+pub mode_if_read : (found : Option ArgMatches) (matches : ArgMatches) (words : List Text) (given : Option (Bor Text)) (other : Bor Text)
+    → found ≡ Some matches → is_some found ≡ is_read words
+    → IfSome found (λ m. rows_of (found_of m) ≡ matches_of command words)
+    → option_map (λ text. text.now) given ≡ first_value (found_of matches) (codes "mode") → other.now ≡ []
+    → Some (mode_called (unwrap_or given other).now) ≡ mode_of words
+mode_if_read found matches words given other some read rows value none =
+    ap (λ text. Some (mode_called text)) (value_if_read (codes "mode") found matches words given other some rows value
+    ∙ ap (unwrap_or (first_of (codes "mode") (matches_of command words))) none)
+    ∙ named_if_read words (ap is_some (sym some) ∙ read)
 
 -- the folder of words that are not read
 pub folder_if_not : (found : Option ArgMatches) (words : List Text) → found ≡ None → is_some found ≡ is_read words

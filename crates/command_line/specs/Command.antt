@@ -1,5 +1,5 @@
 -- The words of the program: one command of the crate `clap`, with a mode and options (own).
-use Rattle.std.specs.Prelude.{◌≡◌, Bool, List, [], ◌∷◌, Some, fold, map, codes, unwrap_or, if◌then◌else◌, true}
+use Rattle.std.specs.Prelude.{◌≡◌, Bool, List, [], ◌∷◌, Option, Some, None, fold, map, codes, bytes_eq, unwrap_or, if◌then◌else◌, true}
 use Rattle.std.specs.Borrow.{Bor}
 use Rattle.clap.specs.Simple.{App, matches_of, new_app, new_rule, on_top, with_rule}
 use Rattle.clap.specs.Takes.{takes}
@@ -7,6 +7,8 @@ use Rattle.clap.specs.Walk.{Rule, Text, first_of}
 use Rattle.clap.specs.declared.builder.action.ArgAction.TheVariants.{Set}
 use Rattle.clap.specs.declared.builder.value_parser.ValueParser.{ValueParser}
 use Rattle.clap.specs.declared.builder.value_parser.ValueParser.TheVariants as values
+use Rattle.command_line.specs.declared.modes.Mode.{Mode}
+use Rattle.command_line.specs.declared.modes.Mode.TheVariants.{Clean, Terms}
 
 -- texts as references, at no address: what a command reads does not depend on where its own texts lie
 abbrev pub at_no_address : {X : Type 0} → X → Bor X
@@ -17,7 +19,7 @@ one_of_these texts = values.Names (at_no_address (map at_no_address texts))
 
 -- the modes of the program
 abbrev pub modes : List Text
-modes = codes "clean" ∷ []
+modes = codes "clean" ∷ codes "terms" ∷ []
 
 -- an argument of one value
 abbrev pub valued : Text → ValueParser → Rule
@@ -71,6 +73,15 @@ IsCommand app = IsByModes command_of app
 -- the command reads the words, of which the first is the program's name
 abbrev pub is_read : List Text → Bool
 is_read words = takes command words
+
+-- the mode of a name: of those that the command reads, the one that is not `terms` is `clean`
+abbrev pub mode_called : Text → Mode
+mode_called text = if bytes_eq text (codes "terms") then Terms else Clean
+
+-- the mode that the words name, if the command reads them
+abbrev pub mode_of : List Text → Option Mode
+mode_of words = if is_read words then Some (mode_called (unwrap_or (first_of (codes "mode") (matches_of command words)) []))
+    else None
 
 -- the value of `--out`, if the command reads the words
 abbrev pub out_folder : List Text → Text

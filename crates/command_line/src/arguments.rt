@@ -12,7 +12,7 @@ use std::alloc::{AllocError, Global};
 
 const VERSION: &str = "0.1.0";
 
-static MODES: [&str; 1] = ["clean"];
+static MODES: [&str; 2] = ["clean", "terms"];
 
 /// The command of the program: a mode, and the options of all modes. A mode ignores the options that
 /// are not its own.
@@ -76,7 +76,7 @@ fn with_folder<'a>(alloc: Global, command: Command<'a>) -> Result<Command<'a>, A
         (spec.option (codes "out") value_parsers.NonEmptyString spec.default_folder)) }
 {
     let out = option(alloc, "out", "DIR", ValueParser::NonEmptyString, "out").help(
-        "clean: the folder of the pages",
+        "clean and terms: the folder of the pages",
     );
     command.arg(out)
 }
@@ -91,7 +91,9 @@ fn mode<'a>(alloc: Global) -> Arg<'a>
         .action(ArgAction::Set)
         .value_name("MODE")
         .value_parser(MODES.as_slice())
-        .help("clean: answers the script on standard input, on one thread")
+        .help(
+            "clean: answers the script on standard input, on one thread; terms: does the same, and adds a page that lists the index terms of each build",
+        )
 }
 
 // `--name VALUE`, at most once; without it the value is `default`.

@@ -1,12 +1,14 @@
 //! The words of the program, read by one command of the crate `clap`.
 //!
-//! What is used above it: `reads` says whether the command reads the words, and `out_folder` gives
-//! the folder that they name. What words mean is the command's own definition, over the definitions
+//! What is used above it: `mode` gives the mode that the words name, if the command reads them, and
+//! `out_folder` the folder. What words mean is the command's own definition, over the definitions
 //! of `clap`.
 #![tactic(auto)]
 
 mod arguments;
+mod modes;
 mod read;
 
 pub use arguments::command;
-pub use read::{out_folder, reads};
+pub use modes::Mode;
+pub use read::{mode, out_folder};

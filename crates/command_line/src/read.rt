@@ -7,6 +7,7 @@ ghost use Rattle.clap.specs.Walk.{rows_of};
 ghost use Rattle.command_line.specs.Command as spec;
 
 use crate::arguments::command;
+use crate::modes::Mode;
 use clap::ArgMatches;
 use clap::error::ErrorKind;
 use dita_doc::{NoMemory, Text};
@@ -14,12 +15,28 @@ use std::alloc::Global;
 
 const DEFAULT_FOLDER: &str = "out";
 
-/// Whether the command reads the words, of which the first is the program's name. It does not read
-/// `--help` and `--version`: these ask for a text.
-pub fn reads(alloc: Global, words: &[String]) -> Result<bool, NoMemory>
-    ensures { IfOk result (λ read. read ≡ spec.is_read (map string_bytes words.now)) }
+const TERMS: &str = "terms";
+
+/// The mode that the words name, of which the first is the program's name, if the command reads
+/// them. It does not read `--help` and `--version`: these ask for a text.
+pub fn mode(alloc: Global, words: &[String]) -> Result<Option<Mode>, NoMemory>
+    ensures { IfOk result (λ mode. mode ≡ spec.mode_of (map string_bytes words.now)) }
 {
-    Ok(matches(alloc, words)?.is_some())
+    match matches(alloc, words)? {
+        Some(matches) => Ok(Some(called(matches.get_str("mode").unwrap_or("")))),
+        None => Ok(None),
+    }
+}
+
+// The mode of a name that the command reads.
+fn called(name: &str) -> Mode
+    ensures { result ≡ spec.mode_called name.now }
+{
+    if name == TERMS {
+        Mode::Terms
+    } else {
+        Mode::Clean
+    }
 }
 
 /// The folder of the pages: the value of `--out`, and `out` if the words name none or are not read.

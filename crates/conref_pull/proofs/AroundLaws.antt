@@ -1,5 +1,5 @@
 -- An element that is put round what it holds.
-use Rattle.std.specs.Prelude.{◌≡◌, ◌+◌, ◌++◌, ◌≤◌, ℕ, Bool, true, false, List, [], Err, length, take, map, if◌then◌else◌}
+use Rattle.std.specs.Prelude.{◌≡◌, ◌+◌, ◌++◌, ◌≤◌, ℕ, Bool, true, false, List, [], ◌∷◌, Err, length, take, map, if◌then◌else◌}
 use Rattle.std.specs.declared.alloc.Global.{Global}
 use Rattle.std.specs.declared.vec.Vec.{Vec}
 use Rattle.std.proofs.Common.{refl, sym, ap, subst, ◌∙◌, arith, append_assoc, append-nil}
@@ -17,13 +17,13 @@ use Rattle.conref_spec.specs.Content.{Around, Made, Setting, around_within, coun
 use Rattle.conref_pull.specs.Count.{OneMore}
 use Rattle.conref_pull.specs.Judging.{with_attributes}
 use Rattle.conref_pull.specs.Merging.{IsMerged}
-use Rattle.conref_pull.specs.Putting.{built}
+use Rattle.conref_pull.specs.Putting.{built, declared_put}
 use Rattle.conref_pull.specs.Rules.{some_exclude}
 use Rattle.reader_spec.specs.World.{World}
 use Rattle.readers.specs.Setting.{Stand}
 use Rattle.conref_pull.specs.Setting.{IsSamePage, path_within, place_shown}
 use Rattle.conref_pull.specs.Tables.{AreTables, Documents}
-use Rattle.conref_pull.specs.Walking.{Here, IsReady, IsWalked, Walks, among_made, inside_of, kept_made, merged_made}
+use Rattle.conref_pull.specs.Walking.{Here, IsReady, IsWalked, Walks, among_made, inside_of, merged_made, stays_made}
 use Rattle.conref_pull.specs.declared.merge.Merged.{Merged}
 use Rattle.conref_pull.specs.declared.place.Place as kept
 use Rattle.conref_pull.specs.declared.resolver.Resolver.{Resolver}
@@ -51,6 +51,7 @@ pub record Counts (faults : List Fault) (a b : Resolver) : Type 0 where
   pub count : b.count ≡ a.count + 1
   pub appended : b.faults ≡ a.faults ++ faults
   pub nodes : built b ≡ built a
+  pub declared : declared_put b ≡ declared_put a
   pub path : b.path ≡ a.path
 
 pub counts_one : (a b : Resolver) → OneMore a b → Counts [] a b
@@ -58,6 +59,7 @@ counts_one a b one = record {
   count = ap (λ (r : Resolver). r.count) one.state;
   appended = ap (λ (r : Resolver). r.faults) one.state ∙ sym (append-nil a.faults);
   nodes = ap built one.state;
+  declared = ap declared_put one.state;
   path = ap (λ (r : Resolver). r.path) one.state;
 }
 
@@ -67,6 +69,7 @@ counts_judged faults a b c one judged = record {
   count = ap (λ (r : Resolver). r.count) judged ∙ ap (λ (r : Resolver). r.count) one.state;
   appended = ap (λ (r : Resolver). r.faults) judged ∙ ap (λ (r : Resolver). r.faults ++ faults) one.state;
   nodes = ap built judged ∙ ap built one.state;
+  declared = ap declared_put judged ∙ ap declared_put one.state;
   path = ap (λ (r : Resolver). r.path) judged ∙ ap (λ (r : Resolver). r.path) one.state;
 }
 
@@ -74,19 +77,23 @@ pub counts_room : (faults : List Fault) (a b c : Resolver) → OneMore a b → C
 counts_room faults a b c one counts =
     let room = one.room in let count = counts.count in omega (arith, room, count)
 
--- an element was counted and opened, with faults; what it holds was put, and it was closed
-pub record Opens (faults : List Fault) (element : Element) (a c : Resolver) : Type 0 where
+-- an element for which these names are declared was counted and opened, with faults; what it holds was put, and it was
+-- closed
+pub record Opens (faults : List Fault) (names : List (List ℕ)) (element : Element) (a c : Resolver) : Type 0 where
   pub count : c.count ≡ a.count + 1
   pub appended : c.faults ≡ a.faults ++ faults
   pub nodes : built c ≡ opened (built a) element
+  pub declared : declared_put c ≡ declared_put a ++ names ∷ []
   pub path : c.path ≡ a.path
 
-pub opens_by : (faults : List Fault) (element given : Element) (a b c : Resolver) → Counts faults a b
-    → c ≡ record b { maker = c.maker } → built c ≡ opened (built b) given → given ≡ element → Opens faults element a c
-opens_by faults element given a b c counts state into same = record {
+pub opens_by : (faults : List Fault) (names : List (List ℕ)) (element given : Element) (a b c : Resolver)
+    → Counts faults a b → c ≡ record b { maker = c.maker } → built c ≡ opened (built b) given
+    → declared_put c ≡ declared_put b ++ names ∷ [] → given ≡ element → Opens faults names element a c
+opens_by faults names element given a b c counts state into noted same = record {
   count = ap (λ (r : Resolver). r.count) state ∙ counts.count;
   appended = ap (λ (r : Resolver). r.faults) state ∙ counts.appended;
   nodes = into ∙ ap (opened (built b)) same ∙ ap (λ (x : Building). opened x element) counts.nodes;
+  declared = noted ∙ ap (λ (all : List (List (List ℕ))). all ++ names ∷ []) counts.declared;
   path = ap (λ (r : Resolver). r.path) state ∙ counts.path;
 }
 
@@ -94,24 +101,30 @@ pub record Closes (d e : Resolver) : Type 0 where
   pub count : e.count ≡ d.count
   pub faults : e.faults ≡ d.faults
   pub nodes : built e ≡ closed (built d)
+  pub declared : declared_put e ≡ declared_put d
   pub path : e.path ≡ d.path
 
-pub closes_by : (d e : Resolver) → e ≡ record d { maker = e.maker } → built e ≡ closed (built d) → Closes d e
-closes_by d e state into = record {
+pub closes_by : (d e : Resolver) → e ≡ record d { maker = e.maker } → built e ≡ closed (built d)
+    → declared_put e ≡ declared_put d → Closes d e
+closes_by d e state into noted = record {
   count = ap (λ (r : Resolver). r.count) state;
   faults = ap (λ (r : Resolver). r.faults) state;
   nodes = into;
+  declared = noted;
   path = ap (λ (r : Resolver). r.path) state;
 }
 
-pub put_around : (documents : Documents) (links : ℕ) (is_range : Bool) (element : Element) (content : Made)
-    (faults : List Fault) (a c d e : Resolver) (places : PlaceTables) → Opens faults (without_id is_range element) a c
-    → IsWalked documents links content c d places → Closes d e
-    → IsWalked documents links (made_with faults (element_made is_range element content)) a e places
-put_around documents links is_range element content faults a c d e places opens walked close = record {
+pub put_around : (documents : Documents) (links : ℕ) (is_range : Bool) (names : List (List ℕ)) (element : Element)
+    (content : Made) (faults : List Fault) (a c d e : Resolver) (places : PlaceTables)
+    → Opens faults names (without_id is_range element) a c → IsWalked documents links content c d places → Closes d e
+    → IsWalked documents links (made_with faults (element_made is_range names element content)) a e places
+put_around documents links is_range names element content faults a c d e places opens walked close = record {
   put = record {
     nodes = close.nodes
         ∙ ap closed (walked.put.nodes ∙ ap (λ (x : Building). behind x content.nodes) opens.nodes);
+    declared = close.declared ∙ walked.put.declared
+        ∙ ap (λ (all : List (List (List ℕ))). all ++ content.declared) opens.declared
+        ∙ append_assoc (declared_put a) (names ∷ []) content.declared;
     count = (let first = opens.count in let held = walked.put.count in let last = close.count in
         omega (arith, first, held, last));
     room = (let room = walked.put.room in let last = close.count in omega (arith, room, last));
@@ -124,14 +137,14 @@ put_around documents links is_range element content faults a c d e places opens 
 }
 
 -- what it holds is too much
-pub around_not : (stop : Stop TooMany) (documents : Documents) (links : ℕ) (is_range : Bool) (element : Element)
-    (content : Made) (faults : List Fault) (a c d : Resolver) (places : PlaceTables)
-    → Opens faults (without_id is_range element) a c → Walks (Err stop) documents links content c d places
-    → Walks (Err stop) documents links (made_with faults (element_made is_range element content)) a d places
-around_not (stops.Fault fault) documents links is_range element content faults a c d places opens walked =
+pub around_not : (stop : Stop TooMany) (documents : Documents) (links : ℕ) (is_range : Bool) (names : List (List ℕ))
+    (element : Element) (content : Made) (faults : List Fault) (a c d : Resolver) (places : PlaceTables)
+    → Opens faults names (without_id is_range element) a c → Walks (Err stop) documents links content c d places
+    → Walks (Err stop) documents links (made_with faults (element_made is_range names element content)) a d places
+around_not (stops.Fault fault) documents links is_range names element content faults a c d places opens walked =
     let count = opens.count in let much = walked.much in
     record { much = omega (arith, count, much); tables = walked.tables }
-around_not stops.NoMemory documents links is_range element content faults a c d places opens walked = tt
+around_not stops.NoMemory documents links is_range names element content faults a c d places opens walked = tt
 
 -- An element with what it takes
 
@@ -156,18 +169,18 @@ pub merged_gone : (here : Here) (is_range : Bool) (around : Around) (there : Lis
     ≡ merged_made here is_range around there merged inside
 merged_gone here is_range around there merged inside gone =
     ap (λ (test : Bool). made_with (group_faults around.declared merged) (if test
-    then record nothing_made { count = 1 } else kept_made here is_range (declared_there there around) merged inside))
-    (sym gone)
+    then record nothing_made { count = 1 }
+    else stays_made here is_range around.declared (declared_there there around) merged inside)) (sym gone)
 
 pub merged_left : (here : Here) (is_range : Bool) (around : Around) (there : List (List ℕ)) (merged : Element)
     (inside : Written) → goes here.setting around.declared merged ≡ false
     → made_with (group_faults around.declared merged)
-    (kept_made here is_range (declared_there there around) merged inside)
+    (stays_made here is_range around.declared (declared_there there around) merged inside)
     ≡ merged_made here is_range around there merged inside
 merged_left here is_range around there merged inside left =
     ap (λ (test : Bool). made_with (group_faults around.declared merged) (if test
-    then record nothing_made { count = 1 } else kept_made here is_range (declared_there there around) merged inside))
-    (sym left)
+    then record nothing_made { count = 1 }
+    else stays_made here is_range around.declared (declared_there there around) merged inside)) (sym left)
 
 -- it goes also then: it counts, and its faults are appended
 pub put_none : (documents : Documents) (links : ℕ) (faults : List Fault) (a c : Resolver) (places : PlaceTables)
@@ -176,6 +189,7 @@ pub put_none : (documents : Documents) (links : ℕ) (faults : List Fault) (a c 
 put_none documents links faults a c places counts room within tables = record {
   put = record {
     nodes = counts.nodes ∙ sym (behind_end (built a));
+    declared = counts.declared ∙ sym (append-nil (declared_put a));
     count = counts.count;
     room = room;
     faults = counts.appended ∙ ap (λ (fs : List Fault). a.faults ++ fs) (sym (append-nil faults));
@@ -234,31 +248,36 @@ module _ (here : Here) (links : ℕ) (is_range : Bool) (around : Around) (there 
 
   pub merged_stays : (given : Element) (d e f : Resolver) (after : PlaceTables)
       → false ≡ some_exclude b.rules around.declared merged.attributes → d ≡ record c { maker = d.maker }
-      → built d ≡ opened (built c) given → given ≡ without_id is_range (merged_element element target)
+      → built d ≡ opened (built c) given → declared_put d ≡ declared_put c ++ around.declared ∷ []
+      → given ≡ without_id is_range (merged_element element target)
       → IsWalked here.setting.pushed links (among_made (inside_of here) false
       (around_within is_range (merged_element element target) (declared_there there around)) inside) d e after
-      → f ≡ record e { maker = f.maker } → built f ≡ closed (built e)
+      → f ≡ record e { maker = f.maker } → built f ≡ closed (built e) → declared_put f ≡ declared_put e
       → IsWalked here.setting.pushed links (merged_made here is_range around there (merged_element element target) inside) a f
       after
-  merged_stays given d e f after left state into same walked end close =
+  merged_stays given d e f after left state into noted same walked end close kept_names =
       subst (λ (m : Made). IsWalked here.setting.pushed links m a f after)
       (merged_left here is_range around there whole inside (goes_is false left))
-      (put_around here.setting.pushed links is_range whole content (group_faults around.declared whole) a d e f after
-      (opens_by (group_faults around.declared whole) (without_id is_range whole) given a c d merged_count state into same) walked
-      (closes_by e f end close))
+      (put_around here.setting.pushed links is_range around.declared whole content
+      (group_faults around.declared whole) a d e f after
+      (opens_by (group_faults around.declared whole) around.declared (without_id is_range whole) given a c d merged_count
+      state into noted same) walked (closes_by e f end close kept_names))
 
   pub merged_not : (stop : Stop TooMany) (given : Element) (d e : Resolver) (after : PlaceTables)
       → false ≡ some_exclude b.rules around.declared merged.attributes → d ≡ record c { maker = d.maker }
-      → built d ≡ opened (built c) given → given ≡ without_id is_range (merged_element element target)
+      → built d ≡ opened (built c) given → declared_put d ≡ declared_put c ++ around.declared ∷ []
+      → given ≡ without_id is_range (merged_element element target)
       → Walks (Err stop) here.setting.pushed links (among_made (inside_of here) false
       (around_within is_range (merged_element element target) (declared_there there around)) inside) d e after
       → Walks (Err stop) here.setting.pushed links
       (merged_made here is_range around there (merged_element element target) inside) a e after
-  merged_not stop given d e after left state into same walked =
+  merged_not stop given d e after left state into noted same walked =
       walks_as (Err stop) here.setting.pushed links _ _ a e after
       (merged_left here is_range around there whole inside (goes_is false left))
-      (around_not stop here.setting.pushed links is_range whole content (group_faults around.declared whole) a d e after
-      (opens_by (group_faults around.declared whole) (without_id is_range whole) given a c d merged_count state into same) walked)
+      (around_not stop here.setting.pushed links is_range around.declared whole content
+      (group_faults around.declared whole) a d e after
+      (opens_by (group_faults around.declared whole) around.declared (without_id is_range whole) given a c d merged_count
+      state into noted same) walked)
 
 -- the page is ready for what an element holds that was opened
 pub ready_opened : (world : World) (stand : Stand) (links : ℕ) (here : Here) (faults : List Fault)

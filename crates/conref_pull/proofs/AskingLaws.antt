@@ -243,18 +243,31 @@ module _ (nodes : List PlanNode) where
   about_page page ditavals a b founded asks = about_among (page ∷ []) (page ∷ ditavals) a b
       (among_both page [] ditavals (none_among ditavals)) (about_pushed page a b founded asks)
 
+  -- the DITAVALs alone
+  pub about_ditavals : (page : List ℕ) (ditavals : List (List ℕ)) (a b : List Told) → StaysFounded ditavals a b
+      → AsksOnly nothing ditavals a b → Asks nodes (page ∷ ditavals) a b
+  about_ditavals page ditavals a b stays reads =
+      about_among ditavals (page ∷ ditavals) a b (record { each = λ m here. or_right (bytes_eq page m) _ here })
+      (record {
+        founded = stays_among ditavals (homes nodes ++ ditavals) a b
+            (λ m here. among_back (homes nodes) ditavals m here) stays;
+        asks = asks_among of_content nothing ditavals ditavals a b (covers_nothing of_content) (λ m here. here) reads;
+      })
+
   pub about_rules : (page : List ℕ) (ditavals : List (List ℕ)) (a b c : List Told) → Grows a b
       → StaysFounded (page ∷ []) a b → AsksOnly of_pushes (page ∷ []) a b → StaysFounded ditavals b c
       → AsksOnly nothing ditavals b c → Asks nodes (page ∷ ditavals) a c
   about_rules page ditavals a b c grows founded asks stays reads =
       about_after (page ∷ ditavals) a b c grows (about_page page ditavals a b founded asks)
-      (about_among ditavals (page ∷ ditavals) b c
-      (record { each = λ m here. or_right (bytes_eq page m) _ here })
-      (record {
-        founded = stays_among ditavals (homes nodes ++ ditavals) b c
-            (λ m here. among_back (homes nodes) ditavals m here) stays;
-        asks = asks_among of_content nothing ditavals ditavals b c (covers_nothing of_content) (λ m here. here) reads;
-      }))
+      (about_ditavals page ditavals b c stays reads)
+
+  -- the DITAVALs, and then the page's document
+  pub about_rules_first : (page : List ℕ) (ditavals : List (List ℕ)) (a b c : List Told) → Grows a b
+      → StaysFounded ditavals a b → AsksOnly nothing ditavals a b → StaysFounded (page ∷ []) b c
+      → AsksOnly of_pushes (page ∷ []) b c → Asks nodes (page ∷ ditavals) a c
+  about_rules_first page ditavals a b c grows stays reads founded asks =
+      about_after (page ∷ ditavals) a b c grows (about_ditavals page ditavals a b stays reads)
+      (about_page page ditavals b c founded asks)
 
 -- what closes most claims on what is asked about
 pub ruleset following = (growing, about_same, about_doc, about_pushed)

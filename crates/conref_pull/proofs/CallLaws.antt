@@ -17,7 +17,7 @@ use Rattle.conref_spec.specs.Content.{Around, Made, Setting, count_limit, depth_
 use Rattle.reader_spec.specs.World.{World}
 use Rattle.readers.specs.Setting.{Stand}
 use Rattle.conref_pull.specs.Around.{alone_at, around_at, nothing_around}
-use Rattle.conref_pull.specs.Putting.{built}
+use Rattle.conref_pull.specs.Putting.{built, declared_put}
 use Rattle.conref_pull.specs.Resolved.{HasMemory, IsAll, IsDone, IsResolved, too_much}
 use Rattle.conref_pull.specs.Setting.{setting_of}
 use Rattle.conref_pull.specs.Tables.{AreTables, Documents}
@@ -33,20 +33,26 @@ use Rattle.conref_pull.proofs.ResolvedLaws.{end_resolved}
 pub within_room : (fault : List Fault) (made : Made) → made.count ≤ count_limit → made ≡ within count_limit fault made
 within_room fault made room =
     let test : nat_le made.count count_limit ≡ true = grind (arith, nat_tests) in
-    ap (λ (b : Bool). if b then made else record { nodes = End; count = count_limit + 1; faults = fault }) (sym test)
+    ap (λ (b : Bool). if b then made else too_much fault) (sym test)
 
 pub within_not : (fault : List Fault) (made : Made) → count_limit < made.count
     → too_much fault ≡ within count_limit fault made
 within_not fault made full =
     let test : nat_le made.count count_limit ≡ false = grind (arith, nat_tests) in
-    ap (λ (b : Bool). if b then made else record { nodes = End; count = count_limit + 1; faults = fault }) (sym test)
+    ap (λ (b : Bool). if b then made else too_much fault) (sym test)
 
 pub all_resolved : (fault : List Fault) (made : Made) (resolver : Resolver) (resolved : Resolved)
-    → IsAll made resolver → resolved_tree resolved ≡ whole (built resolver) → resolved.count ≡ resolver.count
+    → IsAll made resolver → resolved_tree resolved ≡ whole (built resolver)
+    → resolved.declared ≡ declared_put resolver → resolved.count ≡ resolver.count
     → resolved.faults ≡ resolver.faults → IsResolved resolved (within count_limit fault made)
-all_resolved fault made resolver resolved all nodes count faults =
+all_resolved fault made resolver resolved all nodes declared count faults =
     subst (λ (m : Made). IsResolved resolved m) (within_room fault made all.room)
-    (record { nodes = nodes ∙ all.nodes; count = count ∙ all.count; faults = faults ∙ all.faults })
+    (record {
+      nodes = nodes ∙ all.nodes;
+      declared = declared ∙ all.declared;
+      count = count ∙ all.count;
+      faults = faults ∙ all.faults;
+    })
 
 pub full_resolved : (fault : List Fault) (made : Made) (resolved : Resolved) → count_limit < made.count
     → IsResolved resolved (too_much fault) → IsResolved resolved (within count_limit fault made)
@@ -57,6 +63,7 @@ full_resolved fault made resolved full is =
 
 pub record Begins (resolver : Resolver) : Type 0 where
   pub nodes : built resolver ≡ nothing
+  pub declared : declared_put resolver ≡ []
   pub count : resolver.count ≡ 0
   pub faults : resolver.faults ≡ []
   pub path : resolver.path.items ≡ []
@@ -69,6 +76,7 @@ done_of (Ok done) documents links made old new places begins walked =
     record {
       nodes = ap whole (walked.put.nodes ∙ ap (λ (b : Building). behind b made.nodes) begins.nodes)
           ∙ whole_of_behind made.nodes;
+      declared = walked.put.declared ∙ ap (λ (names : List (List (List ℕ))). names ++ made.declared) begins.declared;
       count = count;
       room = (let room = walked.put.room in omega (arith, room, count));
       faults = walked.put.faults ∙ ap (λ (fs : List Fault). fs ++ made.faults) begins.faults;

@@ -15,7 +15,7 @@ use Rattle.conref_spec.specs.Content.{Around, Followed, Made, Place, Setting, ar
 use Rattle.reader_spec.specs.World.{World}
 use Rattle.readers.specs.Setting.{Stand}
 use Rattle.conref_pull.specs.Linked.{AreLinks, IsFollowed}
-use Rattle.conref_pull.specs.Putting.{built}
+use Rattle.conref_pull.specs.Putting.{built, declared_put}
 use Rattle.conref_pull.specs.Setting.{IsDepth, IsSamePage, documents_in, path_within, place_shown, setting_of}
 use Rattle.conref_pull.specs.Sought.{if_reference, sought_found}
 use Rattle.conref_pull.specs.Step.{Taken, declared_inside, followed_to_all, merged_onto}
@@ -94,6 +94,7 @@ pub judged_tells : (links : ℕ) (faults : List Fault) (a b : Resolver)
     → b ≡ record a { faults = a.faults ++ faults } → Tells faults links a b
 judged_tells links faults a b is = record {
   nodes = ap built is;
+  declared = ap declared_put is;
   count = ap (λ (r : Resolver). r.count) is;
   appended = ap (λ (r : Resolver). r.faults) is;
   path = ap (λ (r : Resolver). path_within r links) is;
@@ -178,6 +179,7 @@ module _ (here : Here) (links end : ℕ) (is_range : Bool) (around : Around) (el
       (walks_with result documents links follows.faults (kept_made here is_range shown element inside) a b c after
       (record {
         nodes = ap built follows.state;
+        declared = ap declared_put follows.state;
         count = ap (λ (r : Resolver). r.count) follows.state;
         appended = ap (λ (r : Resolver). r.faults) follows.state;
         path = follows.kept;
@@ -282,6 +284,7 @@ module _ (here : Here) (links end : ℕ) (is_range : Bool) (around : Around) (el
       (made_beside (merged_there t) (ranges_put here around (t.farthest ∷ t.nearer))) a b d after
       (record {
         nodes = ap built follows.state;
+        declared = ap declared_put follows.state;
         count = ap (λ (r : Resolver). r.count) follows.state;
         appended = ap (λ (r : Resolver). r.faults) follows.state;
         path = follows.kept;

@@ -4,9 +4,9 @@ use Rattle.std.proofs.Common.{refl, sym, ap, ◌∙◌}
 use Rattle.dita_doc.specs.declared.fault.Fault.{Fault}
 use Rattle.map_spec.specs.Judged.{group_faults}
 use Rattle.map_spec.specs.Written.{Element, Written, End, Chars, Node}
-use Rattle.conref_spec.specs.Content.{Around, Followed, Made, Place, Resolve, Setting, around_for, around_within, declared_there, element_made, followed, followed_from, found_by, goes, has_reference, made_beside, made_with, merged_element, nothing_made, resolved_among, resolved_from, sought_by}
+use Rattle.conref_spec.specs.Content.{Around, Followed, Made, Place, Resolve, Setting, around_for, around_within, declared_there, element_made, followed, followed_from, found_by, goes, has_reference, made_beside, made_with, merged_element, nothing_made, resolved_among, resolved_from, sought_by, text_made}
 use Rattle.conref_pull.specs.Step.{Step, Taken, after_step, declared_inside, followed_to_all, merged_onto, step_of, step_to}
-use Rattle.conref_pull.specs.Walking.{Here, among_made, inside_of, kept_made, merged_made, ranges_put, whole_made}
+use Rattle.conref_pull.specs.Walking.{Here, among_made, inside_of, kept_made, merged_made, ranges_put, stays_made, whole_made}
 use Rattle.conref_pull.proofs.PutLaws.{beside_nothing}
 use Rattle.conref_pull.proofs.ResolvedLaws.{by, element_gone, element_left, nothing_taken, something_taken}
 use Rattle.conref_pull.proofs.StepLaws.{follows}
@@ -52,12 +52,13 @@ module _ (here : Here) (is_range : Bool) (around : Around) (element : Element) (
   -- the content of the farthest target, within one target more
   there_made : (path : List Place) (steps : ℕ) (there : List (List ℕ)) (merged : Element) (held : Written)
       → here.steps ≡ suc steps
-      → element_made is_range merged
+      → element_made is_range shown.declared merged
       (resolve false (declared_there there (around_within is_range merged shown)) (here.depth + 1) path held)
-      ≡ kept_made (record here { path = path; steps = steps }) is_range (declared_there there shown) merged held
+      ≡ stays_made (record here { path = path; steps = steps }) is_range shown.declared (declared_there there shown)
+      merged held
   there_made path steps there merged held more =
       let holds : Around = declared_there there (around_within is_range merged shown) in
-      ap (element_made is_range merged)
+      ap (element_made is_range shown.declared merged)
       (ap (λ n. resolved_from n here.setting false holds (here.depth + 1) path held) more
       ∙ resolved_more steps here.setting false holds (here.depth + 1) path held)
 
@@ -81,7 +82,7 @@ module _ (here : Here) (is_range : Bool) (around : Around) (element : Element) (
       ∙ ap (λ (m : Made). made_with faults (made_beside (made_with (group_faults shown.declared merged)
       (if goes here.setting shown.declared merged then record nothing_made { count = 1 } else m)) behind))
       (there_made farthest.path steps there merged farthest.inside more
-      ∙ ap (λ (p : List Place). kept_made (record here { path = p; steps = steps }) is_range
+      ∙ ap (λ (p : List Place). stays_made (record here { path = p; steps = steps }) is_range shown.declared
       (declared_there there shown) merged farthest.inside) at)))
 
 -- it has no reference
@@ -105,9 +106,9 @@ none_followed setting topic depth path element inside none =
 
 -- one node alone
 pub alone_text : (here : Here) (is_range : Bool) (around : Around) (text doc : List ℕ) (made : Made)
-    → made ≡ record { nodes = Chars text doc End; count = 1; faults = [] }
+    → made ≡ text_made text doc
     → made ≡ among_made here is_range around (Chars text doc End)
-alone_text here is_range around text doc made is = is ∙ sym (beside_nothing (record { nodes = Chars text doc End; count = 1; faults = [] }))
+alone_text here is_range around text doc made is = is ∙ sym (beside_nothing (text_made text doc))
 
 pub alone_element : (here : Here) (is_range : Bool) (around : Around) (element : Element) (inside : Written)
     → whole_made here is_range around element inside ≡ among_made here is_range around (Node element inside End)

@@ -4,9 +4,11 @@ use Rattle.std.proofs.Common.{refl, sym, ap, subst, ◌∙◌}
 use Rattle.std.proofs.lemmas.Bool.{false≢true}
 use Rattle.std.proofs.lemmas.Slice.Eq.{bytes_eq-Decides}
 use Rattle.dita_doc.specs.ClassValue.{value_of}
+use Rattle.dita_doc.specs.Tree.{has_href}
 use Rattle.dita_doc.specs.declared.doc.Attribute.{Attribute}
+use Rattle.doc_maker.specs.Building.{href_written}
 use Rattle.map_spec.specs.Written.{Element}
-use Rattle.conref_spec.specs.Content.{has_href, without_id}
+use Rattle.conref_spec.specs.Content.{without_id}
 use Rattle.readers.specs.Told.{Told}
 use Rattle.conref_pull.specs.Hrefs.{AreNamed, HasNamed, MergedNamed}
 use Rattle.conref_pull.specs.Merging.{IsMerged, is_missing, is_taken, own_part, part_of, taking}
@@ -38,6 +40,15 @@ module _ (told : List Told) where
           → (has_href all ≡ false → AreNamed told doc all) → AreNamed told doc (written ∷ all)
       by_test true is absent more = absurd (false≢true (sym (rw is at absent)))
       by_test false is absent more = (λ same. absurd (false≢true (sym is ∙ same)), more (rw is at absent))
+
+  -- the href of an element that has none is joined to none either
+  pub home_named : (doc href_doc : List ℕ) (all : List Attribute) → AreNamed told href_doc all
+      → AreNamed told (href_written all doc href_doc) all
+  home_named doc href_doc all named = by_test (has_href all) refl
+    where
+      by_test : (test : Bool) → has_href all ≡ test → AreNamed told (href_written all doc href_doc) all
+      by_test true is = rw is named
+      by_test false is = rw is (none_named doc all is)
 
   -- an element that has an href takes none
   not_taken : (doc : List ℕ) (own others : List Attribute) → has_href own ≡ true

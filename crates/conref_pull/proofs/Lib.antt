@@ -12,6 +12,7 @@ pub mod FindLaws
 pub mod FollowLaws
 pub mod HrefDocLaws
 pub mod HrefGivenLaws
+pub mod HrefHomeLaws
 pub mod HrefLaws
 pub mod HrefMergeLaws
 pub mod HrefWalkLaws

@@ -1,10 +1,11 @@
 -- An element that is opened, holds what is resolved, and is closed: as it is, or with what it takes.
-use Rattle.std.specs.Prelude.{◌≡◌, ◌++◌, ℕ, Bool, true, false, List, [], Option, Some, Result, Ok, Err, IsErrAnd}
+use Rattle.std.specs.Prelude.{◌≡◌, ◌++◌, ℕ, Bool, true, false, List, [], ◌∷◌, Option, Some, Result, Ok, Err, IsErrAnd}
+use Rattle.std.specs.List.{AllZip, each_same}
 use Rattle.std.proofs.Common.{refl, sym, ap, ◌∙◌}
 use Rattle.dita_doc.specs.declared.doc.Attribute.{Attribute}
 use Rattle.dita_doc.specs.declared.stop.Stop.{Stop}
-use Rattle.doc_maker.specs.Building.{closed, opened}
-use Rattle.doc_maker.specs.Made.{building}
+use Rattle.doc_maker.specs.Building.{closed, href_written, opened}
+use Rattle.doc_maker.specs.Made.{building, declared}
 use Rattle.doc_maker.specs.declared.maker.DocMaker.{DocMaker}
 use Rattle.map_spec.specs.Judged.{group_faults}
 use Rattle.map_spec.specs.Written.{Element, Whole, Written}
@@ -21,35 +22,46 @@ use Rattle.conref_pull.specs.declared.merge.Merged.{Merged}
 use Rattle.conref_pull.specs.declared.resolver.Resolver.{Resolver}
 use Rattle.conref_pull.specs.declared.resolver.TooMany.{TooMany}
 use Rattle.conref_pull.specs.declared.tables.PlaceTables.{PlaceTables}
-use Rattle.conref_pull.proofs.AroundLaws.{Counts, Opens, around_not, closes_by, counts_one, counts_room, element_put_as, home_kept, merged_count, merged_goes, merged_not, merged_stays, opened_named, opens_by, page_judged, page_one, put_around, ready_opened}
+use Rattle.conref_pull.proofs.AroundLaws.{Counts, Opens, around_not, closes_by, counts_one, counts_room, element_put_as, merged_count, merged_goes, merged_not, merged_stays, opened_named, opens_by, page_judged, page_one, put_around, ready_opened}
 use Rattle.conref_pull.proofs.ChainLaws.{shown_inside}
+use Rattle.conref_pull.proofs.HrefHomeLaws.{kept_home, taken_home}
 use Rattle.conref_pull.proofs.WalkLaws.{walks_as, walks_err}
 
 -- the page, with what was made so far
 abbrev pub at_maker : Resolver → DocMaker → Resolver
 at_maker a maker = record a { maker = maker }
 
+-- a copy of the names that are declared for it
+noted_as : (names given : List (List ℕ)) (before after : DocMaker) → AllZip (λ name copy. copy ≡ name) given names
+    → declared after ≡ declared before ++ names ∷ [] → declared after ≡ declared before ++ given ∷ []
+noted_as names given before after copied noted =
+    noted ∙ ap (λ (some : List (List ℕ)). declared before ++ some ∷ []) (each_same given names copied)
+
 -- As it is
 
 module _ {world : World} {stand : Stand} {links : ℕ} {here : Here} {held : Around} {name : List ℕ} {attributes : List Attribute}
     {a b : Resolver} {places : PlaceTables} (is_range : Bool) (around : Around) (element : Element) (inside : Written)
-    (opener : DocMaker) (counted : OneMore a b) (named : name ≡ element.name)
-    (are : attributes ≡ (without_id is_range element).attributes)
+    (opener : DocMaker) (names : List (List ℕ)) (own : element.href_doc ≡ element.doc) (counted : OneMore a b)
+    (named : name ≡ element.name) (are : attributes ≡ (without_id is_range element).attributes)
     (into : building opener ≡ opened (built b) (element_put_as name attributes element.doc element.line
-    element.href_doc))
+    (href_written attributes element.doc element.href_doc)))
+    (copied : AllZip (λ name copy. copy ≡ name) around.declared names)
+    (noted : declared opener ≡ declared b.maker ++ names ∷ [])
     (holds : held ≡ around_within is_range element around) (ready : IsReady world stand links here a places) where
   abbrev c : Resolver
   c = at_maker b opener
 
   abbrev given : Element
-  given = element_put_as name attributes element.doc element.line element.href_doc
+  given = element_put_as name attributes element.doc element.line (href_written attributes element.doc element.href_doc)
 
   counts : Counts [] a b
   counts = counts_one a b counted
 
-  opens : Opens [] (without_id is_range element) a c
-  opens = opens_by [] (without_id is_range element) given a b c counts refl into
-      (opened_named is_range element name attributes element.href_doc named are (home_kept is_range element))
+  opens : Opens [] around.declared (without_id is_range element) a c
+  opens = opens_by [] around.declared (without_id is_range element) given a b c counts refl into
+      (noted_as names around.declared b.maker opener copied noted)
+      (opened_named is_range element name attributes (href_written attributes element.doc element.href_doc) named are
+      (kept_home attributes is_range element own))
 
   now : IsReady world stand links (inside_of here) c places
   now = ready_opened world stand links here [] given a b c places ready (page_one a b counted) counts
@@ -70,10 +82,11 @@ module _ {world : World} {stand : Stand} {links : ℕ} {here : Here} {held : Aro
   pub kept_put : {d : Resolver} {after : PlaceTables} (closer : DocMaker)
       → (IsReady world stand links (inside_of here) (at_maker b opener) places
       → IsWalked here.setting.pushed links (among_made (inside_of here) false held inside) (at_maker b opener) d after)
-      → building closer ≡ closed (built d)
+      → building closer ≡ closed (built d) → declared closer ≡ declared d.maker
       → IsWalked here.setting.pushed links (kept_made here is_range around element inside) a (at_maker d closer) after
-  kept_put {d} {after} closer walked close = put_around here.setting.pushed links is_range element content [] a c d
-      (at_maker d closer) after opens (held_is (Ok tt) d after walked) (closes_by d (at_maker d closer) refl close)
+  kept_put {d} {after} closer walked close still = put_around here.setting.pushed links is_range around.declared element
+      content [] a c d (at_maker d closer) after opens (held_is (Ok tt) d after walked)
+      (closes_by d (at_maker d closer) refl close still)
 
   pub kept_not : (result : Result (Unit {0}) (Stop TooMany)) (stop : Stop TooMany) (d : Resolver) (after : PlaceTables)
       → IsErrAnd result (λ e. e ≡ stop)
@@ -83,7 +96,7 @@ module _ {world : World} {stand : Stand} {links : ℕ} {here : Here} {held : Aro
       → Walks result here.setting.pushed links (kept_made here is_range around element inside) a d after
   kept_not result stop d after is walked =
       walks_err result stop here.setting.pushed links (kept_made here is_range around element inside) a d after is
-      (around_not stop here.setting.pushed links is_range element content [] a c d after opens
+      (around_not stop here.setting.pushed links is_range around.declared element content [] a c d after opens
       (held_is (Err stop) d after walked))
 
 -- With what it takes
@@ -103,14 +116,18 @@ module _ {world : World} {stand : Stand} {links : ℕ} {here : Here} {merged : M
       rules gone ready.within ready.tables
 
 module _ {world : World} {stand : Stand} {links : ℕ} {here : Here} {held : Around} {name : List ℕ} {merged own : Merged}
-    {a b c : Resolver} {places : PlaceTables} (is_range : Bool) (around : Around) (there : List (List ℕ)) (element target : Element)
-    (inside : Written) (opener : DocMaker) (counted : OneMore a b) (is : IsMerged merged
-    (merged_element element target))
+    {a b c : Resolver} {places : PlaceTables} (is_range : Bool) (around : Around) (there : List (List ℕ))
+    (element target : Element) (inside : Written) (opener : DocMaker) (names : List (List ℕ))
+    (at_home : element.href_doc ≡ element.doc) (counted : OneMore a b)
+    (is : IsMerged merged (merged_element element target))
     (judged : c ≡ record b { faults = b.faults ++ group_faults around.declared (with_attributes merged.attributes element) })
     (left : false ≡ some_exclude b.rules around.declared merged.attributes) (named : name ≡ element.name)
     (written : (whole : Element) → IsMerged merged whole → IsMerged own (without_id is_range whole))
     (into : building opener ≡ opened (built c) (element_put_as name own.attributes element.doc element.line
-    own.href_doc)) (holds : held ≡ around_within is_range (merged_element element target) (declared_there there around))
+    (href_written own.attributes element.doc own.href_doc)))
+    (copied : AllZip (λ name copy. copy ≡ name) around.declared names)
+    (noted : declared opener ≡ declared c.maker ++ names ∷ [])
+    (holds : held ≡ around_within is_range (merged_element element target) (declared_there there around))
     (ready : IsReady world stand links here a places) where
   abbrev whole : Element
   whole = merged_element element target
@@ -119,14 +136,23 @@ module _ {world : World} {stand : Stand} {links : ℕ} {here : Here} {held : Aro
   d = at_maker c opener
 
   abbrev put_as : Element
-  put_as = element_put_as name own.attributes element.doc element.line own.href_doc
+  put_as = element_put_as name own.attributes element.doc element.line
+      (href_written own.attributes element.doc own.href_doc)
 
   rules_are : here.setting.rules ≡ b.rules
   rules_are = rules is_range around there element target inside counted is judged ready
 
+  noted_is : declared opener ≡ declared c.maker ++ around.declared ∷ []
+  noted_is = noted_as names around.declared c.maker opener copied noted
+
+  home_is : href_written own.attributes element.doc own.href_doc ≡ (without_id is_range whole).href_doc
+  home_is = ap (λ (all : List Attribute). href_written all element.doc own.href_doc) (written whole is).attributes
+      ∙ ap (href_written (without_id is_range whole).attributes element.doc) (written whole is).href_doc
+      ∙ taken_home is_range element target at_home
+
   put_is : put_as ≡ without_id is_range whole
-  put_is = opened_named is_range whole name own.attributes own.href_doc named (written whole is).attributes
-      (written whole is).href_doc
+  put_is = opened_named is_range whole name own.attributes (href_written own.attributes element.doc own.href_doc) named
+      (written whole is).attributes home_is
 
   counts_all : Counts (group_faults around.declared whole) a c
   counts_all = merged_count here links is_range around there element target inside merged a b c places counted is judged
@@ -153,13 +179,13 @@ module _ {world : World} {stand : Stand} {links : ℕ} {here : Here} {held : Aro
       → ◌≡◌ {A = Option Whole} (Some (first, kept)) (Some (last, inside))
       → (IsReady world stand links (inside_of here) (at_maker c opener) places
       → IsWalked here.setting.pushed links (among_made (inside_of here) false held kept) (at_maker c opener) e after)
-      → building closer ≡ closed (built e)
+      → building closer ≡ closed (built e) → declared closer ≡ declared e.maker
       → IsWalked here.setting.pushed links (merged_made here is_range around there (merged_element element target) inside) a
       (at_maker e closer) after
-  taken_put {first} {last} {kept} {e} {after} closer same walked close =
+  taken_put {first} {last} {kept} {e} {after} closer same walked close still =
       merged_stays here links is_range around there element target inside merged a b c places counted is judged rules_are
-      put_as d e (at_maker e closer) after left refl into put_is (content_taken (Ok tt) kept e after
-      (shown_inside (first, kept) (last, inside) same) walked) refl close
+      put_as d e (at_maker e closer) after left refl into noted_is put_is (content_taken (Ok tt) kept e after
+      (shown_inside (first, kept) (last, inside) same) walked) refl close still
 
   pub taken_not : {first last : Element} {kept : Written} (result : Result (Unit {0}) (Stop TooMany))
       (stop : Stop TooMany) (e : Resolver) (after : PlaceTables) → IsErrAnd result (λ f. f ≡ stop)
@@ -172,5 +198,5 @@ module _ {world : World} {stand : Stand} {links : ℕ} {here : Here} {held : Aro
   taken_not {first} {last} {kept} result stop e after ended same walked =
       walks_err result stop here.setting.pushed links (merged_made here is_range around there whole inside) a e after ended
       (merged_not here links is_range around there element target inside merged a b c places counted is judged rules_are stop
-      put_as d e after left refl into put_is (content_taken (Err stop) kept e after
+      put_as d e after left refl into noted_is put_is (content_taken (Err stop) kept e after
       (shown_inside (first, kept) (last, inside) same) walked))

@@ -30,15 +30,15 @@ module _ (resolve : Resolve) (setting : Setting) (is_range : Bool) (around : Aro
   element_left left = rw left refl
 
   pub nothing_taken : (faults : List Fault) → by (followed_to_all element inside path faults [])
-      ≡ made_with faults (element_made is_range element (own (around_within is_range element here)))
+      ≡ made_with faults (element_made is_range here.declared element (own (around_within is_range element here)))
   nothing_taken faults = ap (made_with faults)
-      (beside_nothing (element_made is_range element (own (around_within is_range element here))))
+      (beside_nothing (element_made is_range here.declared element (own (around_within is_range element here))))
 
   -- what it makes of the farthest target
   abbrev pub made_there : Element → Taken → Made
   made_there merged farthest = made_with (group_faults here.declared merged) (if goes setting here.declared merged
       then record nothing_made { count = 1 }
-      else element_made is_range merged (resolve false
+      else element_made is_range here.declared merged (resolve false
       (declared_there (declared_inside farthest) (around_within is_range merged here)) (depth + 1) farthest.path
       farthest.inside))
 

@@ -10,7 +10,7 @@ use Rattle.dita_doc.specs.declared.doc.Node.{Node}
 use Rattle.dita_doc.specs.declared.stop.Stop.{Stop}
 use Rattle.map_spec.specs.Written as written
 use Rattle.map_spec.specs.Written.{Written, size}
-use Rattle.conref_spec.specs.Content.{Around, Made, Place, count_limit, declared_there, made_beside, nothing_made, resolved_from}
+use Rattle.conref_spec.specs.Content.{Around, Made, Place, count_limit, declared_there, made_beside, nothing_made, resolved_from, text_made}
 use Rattle.reader_spec.specs.World.{World}
 use Rattle.readers.specs.Named.{name_at, named}
 use Rattle.readers.specs.Setting.{Stand}
@@ -108,7 +108,7 @@ module _ (doc : Doc) (here : Here) (links : ℕ) (is_range : Bool) (around : Aro
       let same : node ≡ chars_node text origin line (place + 1) = cc in
       let end : place + 1 ≡ node.end = sym (ap (λ (n : Node). n.end) same) in
       let less : to - place - 1 ≡ to - (place + 1) = omega arith in
-      let one : Made = record { nodes = written.Chars text (name_at doc.origins origin) written.End; count = 1; faults = [] } in
+      let one = text_made text (name_at doc.origins origin) in
       subst (Next (Chars text origin line rest) place) end
       (record {
         others = rest;

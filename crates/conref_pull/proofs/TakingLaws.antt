@@ -6,10 +6,11 @@ use Rattle.std.proofs.lemmas.Bool.{true≢false}
 use Rattle.std.proofs.lemmas.List.Elements.{filter-append}
 use Rattle.std.proofs.lemmas.Slice.Eq.{bytes_eq-Decides}
 use Rattle.dita_doc.specs.ClassValue.{value_of}
+use Rattle.dita_doc.specs.Tree.{has_href}
 use Rattle.dita_doc.specs.declared.doc.Attribute.{Attribute}
 use Rattle.dita_doc.specs.declared.stop.NoMemory.{NoMemory}
 use Rattle.map_spec.specs.Written.{Element}
-use Rattle.conref_spec.specs.Content.{Place, has_href, merged_element, specified}
+use Rattle.conref_spec.specs.Content.{Place, merged_element, specified}
 use Rattle.conref_pull.specs.Linked.{AreLinks, IsLink}
 use Rattle.conref_pull.specs.Merging.{AreAlike, IsMerged, TakesAll, is_given, is_missing, is_specified, is_taken, own_part, part_of, taking}
 use Rattle.conref_pull.specs.Step.{Taken, merged_onto}
@@ -19,10 +20,11 @@ use Rattle.conref_pull.proofs.MergeLaws.{filter_both, missing_taken}
 
 -- Names among attributes
 
-abbrev has : List ℕ → List Attribute → Bool
+abbrev pub has : List ℕ → List Attribute → Bool
 has name all = is_some (value_of name all)
 
-has_append : (name : List ℕ) (front back : List Attribute) → has name (front ++ back) ≡ (has name front || has name back)
+pub has_append : (name : List ℕ) (front back : List Attribute)
+    → has name (front ++ back) ≡ (has name front || has name back)
 has_append name [] back = refl
 has_append name (one ∷ front) back = by_test (bytes_eq one.name name) refl (has_append name front back)
   where
@@ -37,21 +39,27 @@ missing_by : (own : List Attribute) (one : Attribute) (name : List ℕ) → one.
 missing_by own one name is taken none =
     ap (λ (n : List ℕ). is_taken n && not (has n own)) is ∙ rw (taken, none) refl
 
--- a name that an element takes, and has not, stays among those that it has not
-has_left : (own : List Attribute) (name : List ℕ) (all : List Attribute) → is_taken name ≡ true → has name own ≡ false
-    → has name (filter (is_missing own) all) ≡ has name all
-has_left own name [] taken none = refl
-has_left own name (one ∷ all) taken none =
-    by_tests (bytes_eq one.name name) (is_missing own one) refl refl (has_left own name all taken none)
+-- a name that is kept stays
+pub has_kept : (keep : Attribute → Bool) (name : List ℕ) → ((one : Attribute) → one.name ≡ name → keep one ≡ true)
+    → (all : List Attribute) → has name (filter keep all) ≡ has name all
+has_kept keep name keeps [] = refl
+has_kept keep name keeps (one ∷ all) =
+    by_tests (bytes_eq one.name name) (keep one) refl refl (has_kept keep name keeps all)
   where
-    by_tests : (same kept : Bool) → bytes_eq one.name name ≡ same → is_missing own one ≡ kept
-        → has name (filter (is_missing own) all) ≡ has name all
-        → has name (filter (is_missing own) (one ∷ all)) ≡ has name (one ∷ all)
+    by_tests : (same kept : Bool) → bytes_eq one.name name ≡ same → keep one ≡ kept
+        → has name (filter keep all) ≡ has name all
+        → has name (filter keep (one ∷ all)) ≡ has name (one ∷ all)
     by_tests true true s k more = rw (k, s) refl
-    by_tests true false s k more = absurd (true≢false
-        (sym (missing_by own one name ((bytes_eq-Decides one.name name).0 s) taken none) ∙ k))
+    by_tests true false s k more =
+        absurd (true≢false (sym (keeps one ((bytes_eq-Decides one.name name).0 s)) ∙ k))
     by_tests false true s k more = rw (k, s) more
     by_tests false false s k more = rw (k, s) more
+
+-- a name that an element takes, and has not, stays among those that it has not
+pub has_left : (own : List Attribute) (name : List ℕ) (all : List Attribute) → is_taken name ≡ true
+    → has name own ≡ false → has name (filter (is_missing own) all) ≡ has name all
+has_left own name all taken none =
+    has_kept (is_missing own) name (λ one is. missing_by own one name is taken none) all
 
 -- Tests
 
@@ -148,7 +156,7 @@ pub merged_alike : (merged : Merged) (one other : Element) → IsMerged merged o
 merged_alike merged one other is alike =
     record { attributes = is.attributes ∙ alike.attributes; href_doc = is.href_doc ∙ alike.href_doc }
 
-merged_parts : (target more : Element) → (merged_element target more).attributes
+pub merged_parts : (target more : Element) → (merged_element target more).attributes
     ≡ specified target.attributes ++ filter (is_missing (specified target.attributes)) more.attributes
 merged_parts target more = ap (λ (rest : List Attribute). specified target.attributes ++ rest)
     (sym (missing_taken (specified target.attributes) more.attributes))

@@ -10,7 +10,7 @@ use Rattle.dita_doc.specs.declared.fault.Fault.{Fault}
 use Rattle.dita_doc.specs.declared.siblings.Siblings.{Siblings}
 use Rattle.dita_doc.specs.declared.stop.Stop.{Stop}
 use Rattle.doc_elements.specs.Walk.{element_of}
-use Rattle.doc_maker.specs.Building.{Building, closed, opened}
+use Rattle.doc_maker.specs.Building.{Building, closed, element, href_written, opened}
 use Rattle.map_spec.specs.Written as written
 use Rattle.conref_spec.specs.Content.{text_made, without_id}
 use Rattle.readers.specs.Founded.{Grows}
@@ -32,7 +32,7 @@ pub use Rattle.conref_pull.proofs.HrefDocLaws.{origin_named}
 use Rattle.conref_pull.proofs.HrefGivenLaws.{link_named}
 use Rattle.conref_pull.proofs.HrefLaws.{building_later, element_later}
 pub use Rattle.conref_pull.proofs.HrefLaws.{nodes_later}
-use Rattle.conref_pull.proofs.HrefMergeLaws.{by_element, is_shown, shown, without_id_named}
+use Rattle.conref_pull.proofs.HrefMergeLaws.{by_element, home_named, is_shown, shown, without_id_named}
 use Rattle.conref_pull.proofs.HrefWalkLaws.{closed_put, opened_put, puts_named}
 pub use Rattle.conref_pull.proofs.HrefWalkLaws.{maker_counted, same_put}
 pub use Rattle.conref_pull.proofs.PutLaws.{maker_faults, maker_then}
@@ -74,11 +74,15 @@ counted_put {a} {b} {c} {faults} told counted judged put =
     same_put told a c (maker_then a b c (maker_counted a b counted) (maker_faults b c faults judged)) put
 
 -- an element that is opened and closed
-pub around_put : {opener closer : Building} (told more : List Told) (element : written.Element) (a b : Resolver)
-    → opener ≡ opened (built a) element → HasNamed told element → PutNamed told a
-    → (HaveNamedIn told opener → PutNamed more b) → closer ≡ closed (built b) → HaveNamedIn more closer
-around_put {opener} {closer} told more element a b opens named before within closes =
-    closed_put more (built b) closer closes (within (opened_put told (built a) opener element opens named before))
+pub around_put : {opener closer : Building} {name : List ℕ} {attributes : List Attribute} {doc : List ℕ} {line : ℕ}
+    (told more : List Told) (href_doc : List ℕ) (a b : Resolver)
+    → opener ≡ opened (built a) (element name attributes doc line (href_written attributes doc href_doc))
+    → AreNamed told href_doc attributes → PutNamed told a → (HaveNamedIn told opener → PutNamed more b)
+    → closer ≡ closed (built b) → HaveNamedIn more closer
+around_put {opener} {closer} {name} {attributes} {doc} {line} told more href_doc a b opens named before within closes =
+    closed_put more (built b) closer closes (within (opened_put told (built a) opener
+    (element name attributes doc line (href_written attributes doc href_doc)) opens
+    (home_named told doc href_doc attributes named) before))
 
 -- the attributes that are left of an element
 pub left_named : {attributes : List Attribute} (told : List Told) (is_range : Bool) (element : written.Element)

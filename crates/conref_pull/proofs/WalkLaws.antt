@@ -17,7 +17,7 @@ use Rattle.map_spec.specs.Written.{Element, Written}
 use Rattle.conref_spec.specs.Content.{Made, count_limit, depth_limit, made_beside, made_with, nothing_made}
 use Rattle.reader_spec.specs.World.{World}
 use Rattle.readers.specs.Setting.{Stand}
-use Rattle.conref_pull.specs.Putting.{built}
+use Rattle.conref_pull.specs.Putting.{built, declared_put}
 use Rattle.conref_pull.specs.Setting.{IsDepth, IsSamePage, path_within, place_shown, setting_of}
 use Rattle.conref_pull.specs.Tables.{AreTables, Documents}
 use Rattle.conref_pull.specs.Walking.{Here, IsReady, IsWalked, StandsDeep, Walks, inside_of, seen_by}
@@ -139,6 +139,7 @@ walks_not stops.NoMemory documents links first second a b c places one = tt
 -- faults that were appended before
 pub record Tells (faults : List Fault) (links : ℕ) (a b : Resolver) : Type 0 where
   pub nodes : built b ≡ built a
+  pub declared : declared_put b ≡ declared_put a
   pub count : b.count ≡ a.count
   pub appended : b.faults ≡ a.faults ++ faults
   pub path : path_within b links ≡ path_within a links
@@ -149,6 +150,7 @@ pub walks_with : (result : Result (Unit {0}) (Stop TooMany)) (documents : Docume
 walks_with (Ok done) documents links faults made a b c places told walked = record {
   put = record {
     nodes = walked.put.nodes ∙ ap (λ (x : Building). behind x made.nodes) told.nodes;
+    declared = walked.put.declared ∙ ap (λ (names : List (List (List ℕ))). names ++ made.declared) told.declared;
     count = walked.put.count ∙ ap (λ n. n + made.count) told.count;
     room = walked.put.room;
     faults = walked.put.faults ∙ ap (λ (fs : List Fault). fs ++ made.faults) told.appended
@@ -199,14 +201,16 @@ pub beside_all : (first second third : Made)
     → made_beside (made_beside first second) third ≡ made_beside first (made_beside second third)
 beside_all first second third =
     let count : first.count + second.count + third.count ≡ first.count + (second.count + third.count) = omega arith in
-    let f = λ (nodes : Written) (n : ℕ) (faults : List Fault).
-    (let all : Made = record { nodes = nodes; count = n; faults = faults } in all) in
-    ap (λ (nodes : Written). f nodes (first.count + second.count + third.count)
-    ((first.faults ++ second.faults) ++ third.faults)) (beside_beside first.nodes second.nodes third.nodes)
-    ∙ ap (λ n. f (made_beside first (made_beside second third)).nodes n
-    ((first.faults ++ second.faults) ++ third.faults)) count
-    ∙ ap (f (made_beside first (made_beside second third)).nodes (first.count + (second.count + third.count)))
-    (append_assoc first.faults second.faults third.faults)
+    let left = made_beside (made_beside first second) third in
+    let right = made_beside first (made_beside second third) in
+    let f = λ (nodes : Written) (declared : List (List (List ℕ))) (n : ℕ) (faults : List Fault).
+    (let all : Made = record { nodes = nodes; declared = declared; count = n; faults = faults } in all) in
+    ap (λ (nodes : Written). f nodes left.declared left.count left.faults)
+    (beside_beside first.nodes second.nodes third.nodes)
+    ∙ ap (λ (names : List (List (List ℕ))). f right.nodes names left.count left.faults)
+    (append_assoc first.declared second.declared third.declared)
+    ∙ ap (λ n. f right.nodes right.declared n left.faults) count
+    ∙ ap (f right.nodes right.declared right.count) (append_assoc first.faults second.faults third.faults)
 
 pub so_far_begin : (documents : Documents) (links : ℕ) (all : Made) (a : Resolver) (places : PlaceTables)
     → a.count ≤ count_limit → links ≤ length a.path.items → AreTables documents places

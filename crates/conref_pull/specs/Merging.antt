@@ -2,9 +2,10 @@
 use Rattle.std.specs.Prelude.{◌≡◌, ◌&&◌, ◌||◌, ◌++◌, ℕ, Bool, not, List, [], ◌∷◌, bytes_eq, codes, filter, unwrap_or, if◌then◌else◌}
 use Rattle.std.specs.List.{list_any}
 use Rattle.dita_doc.specs.ClassValue.{value_of}
+use Rattle.dita_doc.specs.Tree.{has_href}
 use Rattle.dita_doc.specs.declared.doc.Attribute.{Attribute}
 use Rattle.map_spec.specs.Written.{Element}
-use Rattle.conref_spec.specs.Content.{has_href, is_written_in, names_not_taken, specified, use_target}
+use Rattle.conref_spec.specs.Content.{is_written_in, names_not_taken, specified, use_target}
 use Rattle.conref_pull.specs.Step.{Taken, merged_onto}
 use Rattle.conref_pull.specs.declared.merge.Merged.{Merged}
 

@@ -15,7 +15,7 @@ use Rattle.conref_spec.specs.Content.{Made, count_limit, page_root, resolved_in,
 use Rattle.reader_spec.specs.World.{World}
 use Rattle.readers.specs.Setting as made
 use Rattle.conref_pull.specs.Around.{alone_at, around_at, nothing_around}
-use Rattle.conref_pull.specs.Putting.{built}
+use Rattle.conref_pull.specs.Putting.{built, declared_put}
 use Rattle.conref_pull.specs.Rules.{ditavals, page_rules}
 use Rattle.conref_pull.specs.Setting.{setting_of}
 use Rattle.conref_pull.specs.declared.resolver.Resolver.{Resolver}
@@ -24,6 +24,7 @@ use Rattle.conref_pull.specs.declared.resolver.TooMany.{TooMany}
 -- this content was made
 pub record IsResolved (resolved : Resolved) (made : Made) : Type 0 where
   pub nodes : resolved_tree resolved ≡ made.nodes
+  pub declared : resolved.declared ≡ made.declared
   pub count : resolved.count ≡ made.count
   pub faults : resolved.faults ≡ made.faults
 
@@ -38,6 +39,7 @@ too_many_faults world name = root_faults (option_and_then first_sibling (documen
 -- all that was put
 pub record IsAll (made : Made) (resolver : Resolver) : Type 0 where
   pub nodes : whole (built resolver) ≡ made.nodes
+  pub declared : declared_put resolver ≡ made.declared
   pub count : resolver.count ≡ made.count
   pub room : made.count ≤ count_limit
   pub faults : resolver.faults ≡ made.faults
@@ -62,7 +64,7 @@ HasMemory (Ok done) = Unit {0}
 HasMemory (Err stop) = HasRoom stop
 
 abbrev pub too_much : List Fault → Made
-too_much fault = record { nodes = End; count = count_limit + 1; faults = fault }
+too_much fault = record { nodes = End; declared = []; count = count_limit + 1; faults = fault }
 
 -- the content of a page, in a setting, with the DITAVAL of the build
 abbrev pub page_made : World → made.Setting → Option (List ℕ) → PageId → Made

@@ -47,16 +47,21 @@ whole_made here is_range around element inside =
     element_resolved (resolved_from here.steps here.setting) here.setting is_range around here.depth here.path element
     inside (λ shown. among_made (inside_of here) false shown inside)
 
+-- in the place of an element that stays, for which these names are declared, with this around what it holds
+abbrev pub stays_made : Here → Bool → List (List ℕ) → Around → Element → Written → Made
+stays_made here is_range declared around element inside = element_made is_range declared element
+    (among_made (inside_of here) false (around_within is_range element around) inside)
+
 -- in the place of an element that takes nothing, for which this counts
 abbrev pub kept_made : Here → Bool → Around → Element → Written → Made
-kept_made here is_range around element inside =
-    element_made is_range element (among_made (inside_of here) false (around_within is_range element around) inside)
+kept_made here is_range around element inside = stays_made here is_range around.declared around element inside
 
--- in the place of an element with what it takes, which holds the content of a target, for which these names are declared
+-- in the place of an element with what it takes, which holds the content of a target, for which these names are
+-- declared; for the element itself its own are
 abbrev pub merged_made : Here → Bool → Around → List (List ℕ) → Element → Written → Made
 merged_made here is_range around there merged inside = made_with (group_faults around.declared merged)
     (if goes here.setting around.declared merged then record nothing_made { count = 1 }
-    else kept_made here is_range (declared_there there around) merged inside)
+    else stays_made here is_range around.declared (declared_there there around) merged inside)
 
 -- in the place of the ranges behind the targets that were taken
 abbrev pub ranges_put : Here → Around → List Taken → Made

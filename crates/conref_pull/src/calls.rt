@@ -16,7 +16,7 @@ ghost use Rattle.conref_pull.specs.Asking.{Asks};
 ghost use Rattle.conref_pull.specs.Hrefs.{HaveNamed, PutNamed};
 ghost use Rattle.conref_pull.specs.Resolved as resolved_spec;
 ghost use Rattle.conref_pull.specs.Resolved.{IsResolved, too_many_faults};
-ghost use Rattle.conref_pull.specs.Rules.{AreRules, ditavals};
+ghost use Rattle.conref_pull.specs.Rules.{AreRules, HasAll, ditavals};
 ghost use Rattle.conref_pull.specs.Setting.{documents_in};
 ghost use Rattle.conref_pull.specs.Tables.{AreTables};
 
@@ -156,6 +156,8 @@ pub fn resolve_page_with<A: Asker>(
         → AreTables (documents_in world (A.stand asker.old).setting) tables.old.places
         → OnOk result (AreRules world tables.new.rules
         × AreTables (documents_in world (A.stand asker.old).setting) tables.new.places) }
+    ensures has { OnOk result (HasAll tables.new.rules
+        (ditavals context.now.val context.now.page.filters)) }
     ensures stand { A.stand asker.new ≡ A.stand asker.old }
     ensures founded { StaysFounded (founded_spec.homes (A.stand asker.old).setting.nodes
         ++ context.now.page.doc ∷ ditavals context.now.val context.now.page.filters)
@@ -167,10 +169,10 @@ pub fn resolve_page_with<A: Asker>(
         (A.told asker.new) (named_spec.linked_in (made_spec.resolved_tree resolved))) }
     ensures grows { Grows (A.told asker.old) (A.told asker.new) }
 {
+    tables.rules.read(alloc, asker, context)?;
     let Some(doc) = asker.pushed(alloc, &context.page.doc)? else {
         return Ok(nothing(alloc));
     };
-    tables.rules.read(alloc, asker, context)?;
     let rules = PageRules::of(alloc, &tables.rules, context)?;
     let mut resolver = Resolver::new(alloc, context, rules, DEPTH_LIMIT);
     let declared = List::new(alloc);

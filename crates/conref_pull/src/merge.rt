@@ -2,6 +2,7 @@
 
 ghost use Rattle.std.specs.Prelude.{◌≡◌, ◌&&◌, ℕ, List, [], ◌++◌, not, is_some, filter, IfOk, OnOk, if◌then◌else◌};
 ghost use Rattle.dita_doc.specs.ClassValue as class_value_spec;
+ghost use Rattle.dita_doc.specs.Tree as tree_spec;
 ghost use Rattle.doc_elements.specs.Walk as walk_spec;
 ghost use Rattle.map_spec.specs.Written.{Element, Written};
 ghost use Rattle.conref_spec.specs.Content as content_spec;
@@ -205,7 +206,7 @@ fn merged_from(
 
 // Whether an href is taken from a target.
 fn takes_href(own: &List<Attribute>, taken: &List<Attribute>) -> bool
-    ensures { result ≡ (not (content_spec.has_href own.now) && content_spec.has_href taken.now) }
+    ensures { result ≡ (not (tree_spec.has_href own.now) && tree_spec.has_href taken.now) }
 {
     if has_name(own, "href") {
         return false;

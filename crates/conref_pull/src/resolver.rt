@@ -54,7 +54,7 @@ impl<'a> Resolver<'a> {
     ghost use Rattle.doc_maker.specs.Made.{resolved_tree};
     ghost use Rattle.conref_spec.specs.Content as content_spec;
     ghost use Rattle.readers.specs.Named.{name_at};
-    ghost use Rattle.conref_pull.specs.Putting.{Puts, built};
+    ghost use Rattle.conref_pull.specs.Putting.{Puts, built, declared_put};
     ghost use Rattle.map_spec.specs.Elements as elements_spec;
     ghost use Rattle.conref_pull.specs.Count as count_spec;
     ghost use Rattle.conref_pull.specs.Setting as setting_spec;
@@ -69,6 +69,7 @@ impl<'a> Resolver<'a> {
         ensures rules { result.rules ≡ rules.entry }
         ensures deepest { result.deepest ≡ deepest }
         ensures nodes { built result ≡ nothing }
+        ensures declared { declared_put result ≡ [] }
         ensures count { result.count ≡ 0 }
         ensures faults { result.faults ≡ [] }
         ensures path { result.path.items ≡ [] }
@@ -87,6 +88,7 @@ impl<'a> Resolver<'a> {
 
     pub(crate) fn finish(self) -> Resolved
         ensures content { resolved_tree result ≡ whole (built self.entry) }
+        ensures declared { result.declared ≡ declared_put self.entry }
         ensures count { result.count ≡ self.entry.count }
         ensures faults { result.faults ≡ self.entry.faults }
     {

@@ -129,6 +129,21 @@ impl RuleLists {
         self.lists.insert(name.clone()?, rules)?;
         Ok(())
     }
+
+    // The rules that are kept for the DITAVALs of a page, in their order.
+    pub(crate) fn of_page<'a>(
+        &'a self,
+        alloc: Global,
+        context: &Context,
+    ) -> Result<Vec<&'a List<Rule>>, NoMemory>
+        ensures { IfOk result (λ rules. shown rules.items ≡ rules_spec.all_kept self.now
+            (rules_spec.ditavals context.now.val context.now.page.filters)) }
+    {
+        let mut lists = Vec::new(alloc);
+        push_val(&mut lists, self, context)?;
+        push_filters(&mut lists, self, context.page.filters.as_slice())?;
+        Ok(lists)
+    }
 }
 
 // The rules of the DITAVAL of this name, if a document was found and is one.
@@ -183,9 +198,7 @@ impl<'a> PageRules<'a> {
         ensures { IfOk result (λ rules. rules ≡ rules_spec.all_kept known.now
             (rules_spec.ditavals context.now.val context.now.page.filters)) }
     {
-        let mut lists = Vec::new(alloc);
-        push_val(&mut lists, known, context)?;
-        push_filters(&mut lists, known, context.page.filters.as_slice())?;
+        let lists = known.of_page(alloc, context)?;
         let tables = Vec::new(alloc);
         Ok(PageRules { lists, tables })
     }

@@ -12,7 +12,7 @@ ghost use Rattle.conref_pull.specs.Tables.{Documents};
 
 use crate::ranges::node_of;
 use crate::rules::RuleLists;
-use dita_doc::{Doc, List, Name, NoMemory, Node, NodeKind, Text};
+use dita_doc::{Context, Doc, List, Name, NoMemory, Node, NodeKind, Rule, Text};
 use ditaval_rules::Declarations;
 use std::alloc::Global;
 use std::collections::BTreeMap;
@@ -28,8 +28,10 @@ pub struct Tables {
 }
 
 impl Tables {
+    ghost use Rattle.std.specs.Prelude.{◌≡◌, IfOk};
     ghost use Rattle.reader_spec.specs.World.{World};
     ghost use Rattle.conref_pull.specs.Rules as rules_spec;
+    ghost use Rattle.conref_pull.specs.Shown.{shown};
     ghost use Rattle.conref_pull.specs.Tables as tables_spec;
     ghost use Rattle.conref_pull.specs.Tables.{Documents};
 
@@ -41,6 +43,19 @@ impl Tables {
             rules: RuleLists::new(alloc),
             places: PlaceTables::new(alloc),
         }
+    }
+
+    /// The rules by which a page is judged: those of the build's DITAVAL and of each of its
+    /// filters, as far as they were read. Once the page was resolved by these tables they all are.
+    pub fn rules_of<'a>(
+        &'a self,
+        alloc: Global,
+        context: &Context,
+    ) -> Result<Vec<&'a List<Rule>>, NoMemory>
+        ensures { IfOk result (λ rules. shown rules.items ≡ rules_spec.all_kept self.now.rules
+            (rules_spec.ditavals context.now.val context.now.page.filters)) }
+    {
+        self.rules.of_page(alloc, context)
     }
 }
 

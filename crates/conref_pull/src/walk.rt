@@ -207,8 +207,9 @@ impl<'a> Resolver<'a> {
         let own = Merged::written(self.alloc, origin, node)?;
         let Merged { attributes, .. } = own.without_id(self.alloc, at.is_range)?;
         let name = node.text.clone()?;
+        let names = declared.clone()?;
         self.maker
-            .open(name, attributes, origin, node.line, origin)?;
+            .open(name, attributes, origin, node.line, origin, names)?;
         let within = At {
             topic: topic_within(node, at),
             declared,
@@ -271,8 +272,9 @@ impl<'a> Resolver<'a> {
             href_doc,
         } = merged.without_id(self.alloc, at.is_range)?;
         let name = node.text.clone()?;
+        let own = declared.clone()?;
         self.maker
-            .open(name, attributes, origin, node.line, &href_doc)?;
+            .open(name, attributes, origin, node.line, &href_doc, own)?;
         let within = At {
             topic: topic_taken(node, topic, at.is_range),
             declared: &there,

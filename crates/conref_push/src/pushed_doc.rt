@@ -298,7 +298,7 @@ impl<'a> PushedInto<'a> {
         match other {
             Some(push) => self.put_copy(alloc, maker, push, Some(node)),
             None => {
-                open(maker, node, self.name)?;
+                open(alloc, maker, node, self.name)?;
                 self.put(alloc, maker, inside, place + 1)?;
                 maker.close();
                 Ok(())
@@ -382,7 +382,14 @@ impl<'a> PushedInto<'a> {
         };
         let attributes = attributes_of(alloc, element, replaced)?;
         let from = &push.from;
-        maker.open(element.text.clone()?, attributes, from, element.line, from)?;
+        maker.open(
+            element.text.clone()?,
+            attributes,
+            from,
+            element.line,
+            from,
+            List::new(alloc),
+        )?;
         put_quiet(alloc, maker, from, inside)?;
         maker.close();
         Ok(())
@@ -453,7 +460,7 @@ fn put_quiet(
                 ..
             } => {
                 if !acts(node) {
-                    open(maker, node, name)?;
+                    open(alloc, maker, node, name)?;
                     put_quiet(alloc, maker, name, inside)?;
                     maker.close();
                 }
@@ -464,11 +471,19 @@ fn put_quiet(
 }
 
 // Opens a copy of an element with all its attributes.
-fn open(maker: &mut DocMaker, element: &Node, name: &Name) -> Result<(), NoMemory>
+fn open(alloc: Global, maker: &mut DocMaker, element: &Node, name: &Name) -> Result<(), NoMemory>
     ensures { OnOk result (made_spec.building maker.new
         ≡ building_spec.opened (made_spec.building maker.old)
         (walk_spec.element_of name.now element.now)) }
 {
     let attributes = element.attributes.clone()?;
-    maker.open(element.text.clone()?, attributes, name, element.line, name)
+    let none = List::new(alloc);
+    maker.open(
+        element.text.clone()?,
+        attributes,
+        name,
+        element.line,
+        name,
+        none,
+    )
 }

@@ -5,6 +5,7 @@ use Rattle.std.specs.Prelude.{◌+◌, ◌-◌, ◌==◌, ◌&&◌, ◌||◌, �
 use Rattle.std.specs.List.{list_any}
 use Rattle.std.specs.Option.{option_and_then, option_or}
 use Rattle.dita_doc.specs.ClassValue.{value_of}
+use Rattle.dita_doc.specs.Tree.{has_href}
 use Rattle.dita_doc.specs.declared.content.KeyAnswer.{KeyAnswer}
 use Rattle.dita_doc.specs.declared.content.Rule.{Rule}
 use Rattle.dita_doc.specs.declared.doc.Attribute.{Attribute}
@@ -48,19 +49,22 @@ path_limit = 32
 abbrev pub depth_limit : ℕ
 depth_limit = 256
 
--- What is made: nodes, how many were resolved, and the faults
+-- What is made: nodes, for each of them in document order the names of conditional attributes that are declared for it,
+-- how many were resolved, and the faults
 
 pub record Made : Type 0 where
   pub nodes : Written
+  pub declared : List (List (List ℕ))
   pub count : ℕ
   pub faults : List Fault
 
 abbrev pub nothing_made : Made
-nothing_made = record { nodes = End; count = 0; faults = [] }
+nothing_made = record { nodes = End; declared = []; count = 0; faults = [] }
 
 abbrev pub made_beside : Made → Made → Made
 made_beside first second = record {
   nodes = side_by_side first.nodes second.nodes;
+  declared = first.declared ++ second.declared;
   count = first.count + second.count;
   faults = first.faults ++ second.faults;
 }
@@ -202,9 +206,6 @@ names_not_taken =
 abbrev pub merged : List Attribute → List Attribute → List Attribute
 merged own taken = specified own
     ++ filter (λ (other : Attribute). not (is_written_in (specified own) other)) (without_names names_not_taken taken)
-
-abbrev pub has_href : List Attribute → Bool
-has_href attributes = is_some (value_of (codes "href") attributes)
 
 abbrev pub takes_href : Element → Element → Bool
 takes_href element target = not (has_href (specified element.attributes)) && has_href target.attributes
@@ -360,20 +361,23 @@ ranges_made resolve around depth (range ∷ ranges) =
     made_beside (resolve true (declared_there range.declared around) depth range.path range.nodes)
     (ranges_made resolve around depth ranges)
 
--- an element that stays, with its content
-abbrev pub element_made : Bool → Element → Made → Made
-element_made is_range element content =
-    record content { nodes = Node (without_id is_range element) content.nodes End; count = 1 + content.count }
+-- an element that stays, for which these names are declared, with its content
+abbrev pub element_made : Bool → List (List ℕ) → Element → Made → Made
+element_made is_range declared element content = record content {
+  nodes = Node (without_id is_range element) content.nodes End;
+  declared = declared ∷ content.declared;
+  count = 1 + content.count;
+}
 
 -- what was taken is judged once more, by the names declared for the element itself; the element counts also if it goes
 abbrev pub made_of : Resolve → Setting → Bool → Around → ℕ → (Around → Made) → Followed → Made
 made_of resolve setting is_range here depth own found = if found.has_taken
     then made_with (group_faults here.declared found.element) (if goes setting here.declared found.element
     then record nothing_made { count = 1 }
-    else element_made is_range found.element
+    else element_made is_range here.declared found.element
     (resolve false (declared_there found.declared (around_within is_range found.element here)) (depth + 1) found.path
     found.content))
-    else element_made is_range found.element (own (around_within is_range found.element here))
+    else element_made is_range here.declared found.element (own (around_within is_range found.element here))
 
 -- `own` resolves the content of the element itself, for what is around that
 abbrev pub element_resolved : Resolve → Setting → Bool → Around → ℕ → List Place → Element → Written → (Around → Made) → Made
@@ -384,8 +388,9 @@ element_resolved resolve setting is_range around depth path element inside own =
     else made_with found.faults (made_beside (made_of resolve setting is_range here depth own found)
     (ranges_made resolve around depth found.ranges)))
 
+-- for a text no names are declared
 abbrev pub text_made : List ℕ → List ℕ → Made
-text_made text doc = record { nodes = Chars text doc End; count = 1; faults = [] }
+text_made text doc = record { nodes = Chars text doc End; declared = [] ∷ []; count = 1; faults = [] }
 
 abbrev pub resolved_among : Resolve → Setting → Bool → Around → ℕ → List Place → Written → Made
 resolved_among resolve setting is_range around depth path End = nothing_made
@@ -412,7 +417,8 @@ count_limit = 262144
 -- content of too many nodes is none, with this one fault
 abbrev pub within : ℕ → List Fault → Made → Made
 within limit fault made =
-    if nat_le made.count limit then made else record { nodes = End; count = limit + 1; faults = fault }
+    if nat_le made.count limit then made
+    else record { nodes = End; declared = []; count = limit + 1; faults = fault }
 
 abbrev pub page_root : Setting → Written
 page_root setting = unwrap_or (setting.pushed setting.page) End

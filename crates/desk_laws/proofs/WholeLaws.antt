@@ -7,13 +7,13 @@ use Rattle.std.proofs.lemmas.Bool.Decides.{nat_tests}
 use Rattle.dita_doc.specs.Bytes.{Bytes}
 use Rattle.dita_doc.specs.Lines.{lines_of}
 use Rattle.dita_outside.specs.Pages.{Pages, TakesPages}
-use Rattle.run_spec.specs.CleanRun.{HasForm, clean_run, run_of, read_limit}
+use Rattle.run_spec.specs.CleanRun.{HasForm, run_of, run_over, read_limit}
 use Rattle.run_spec.specs.declared.status.Status.{Status}
 use Rattle.run_spec.specs.declared.status.Status.TheVariants as statuses
 use Rattle.script_text.specs.Script.{Step, script_line, steps_from, script_limit, script_of}
 use Rattle.script_text.specs.declared.fault.ScriptFault.{ScriptFault}
 use Rattle.script_text.proofs.ScriptLaws.{script_short}
-use Rattle.desk_top.specs.Ends.{AnswersWhole, EndsClean, FinishesClean, RunsClean}
+use Rattle.desk_top.specs.Ends.{AnswersWhole, EndsWith, FinishesBy, RunsBy}
 use Rattle.desk_top.specs.Outside.{Outside}
 use Rattle.desk_top.specs.Reads.{Reads}
 use Rattle.desk_laws.specs.SureRun.{NoneFailed}
@@ -39,9 +39,10 @@ cut_script : (bytes : Bytes) → script_of (take (script_limit + 1) bytes) ≡ s
 unfolding script_of
 cut_script bytes = cut_steps script_limit bytes
 
-pub cut_run : (bytes : Bytes) → clean_run (take read_limit bytes) ≡ clean_run bytes
-unfolding clean_run
-cut_run bytes = ap run_of (cut_script bytes)
+pub cut_run : (with_terms : Bool) (bytes : Bytes)
+    → run_over with_terms (take read_limit bytes) ≡ run_over with_terms bytes
+unfolding run_over
+cut_run with_terms bytes = ap (run_of with_terms) (cut_script bytes)
 
 -- What was read
 
@@ -61,36 +62,36 @@ front_read : (held input : Bytes) (new : Option Bytes) → Reads read_limit (Som
 front_read held input None read = absurd read.gave
 front_read held input (Some left) read = front_by read_limit held input left _ read.gave read.within read.whole refl
 
-pub same_run : (old new : Outside) (held input : Bytes) → old.left ≡ Some held
-    → Reads read_limit old.left new.left input → clean_run input ≡ clean_run held
-same_run old new held input tells read =
+pub same_run : (with_terms : Bool) (old new : Outside) (held input : Bytes) → old.left ≡ Some held
+    → Reads read_limit old.left new.left input → run_over with_terms input ≡ run_over with_terms held
+same_run with_terms old new held input tells read =
     let front = front_read held input new.left (subst (λ left. Reads read_limit left new.left input) tells read) in
-    ap clean_run front ∙ cut_run held
+    ap (run_over with_terms) front ∙ cut_run with_terms held
 
 -- a run that answered a source ended as all of its bytes say
-pub ends_as_all : (old new : Outside) (held input : Bytes) (status own : Status) (pages : Pages) (output : Bytes)
-    → old.left ≡ Some held → Reads read_limit old.left new.left input → RunsClean input own pages output
+pub ends_as_all : (with_terms : Bool) (old new : Outside) (held input : Bytes) (status own : Status) (pages : Pages) (output : Bytes)
+    → old.left ≡ Some held → Reads read_limit old.left new.left input → RunsBy with_terms input own pages output
     → own ≡ status → TakesPages old.pages new.pages pages → Appends old.taken new.taken output
-    → EndsAsAll held old new status
-ends_as_all old new held input status own pages output tells read runs is put written =
-    let whole = sym (same_run old new held input tells read) ∙ runs in
+    → EndsAsAll with_terms held old new status
+ends_as_all with_terms old new held input status own pages output tells read runs is put written =
+    let whole = sym (same_run with_terms old new held input tells read) ∙ runs in
     record {
       ends = sym is ∙ sym (ap (λ run. run.status) whole);
       pages = subst (TakesPages old.pages new.pages) (sym (ap (λ run. run.pages) whole)) put;
       output = subst (Appends old.taken new.taken) (sym (ap (λ run. run.output) whole)) written;
     }
 
-pub answered_whole : (old new : Outside) (held : Bytes) (status : Status) → old.left ≡ Some held
-    → AnswersWhole FinishesClean old new status → EndsAsAll held old new status
-answered_whole old new held status tells (run, is, put, written, none) =
-    ends_as_all old new held run.input status run.status run.pages run.output tells run.read run.is.0 is put written
+pub answered_whole : (with_terms : Bool) (old new : Outside) (held : Bytes) (status : Status) → old.left ≡ Some held
+    → AnswersWhole (FinishesBy with_terms) old new status → EndsAsAll with_terms held old new status
+answered_whole with_terms old new held status tells (run, is, put, written, none) =
+    ends_as_all with_terms old new held run.input status run.status run.pages run.output tells run.read run.is.0 is put written
 
 -- A run that is done
 
-done_steps : (found : Result (List Step) ScriptFault) → statuses.Done ≡ (run_of found).status
+done_steps : (with_terms : Bool) (found : Result (List Step) ScriptFault) → statuses.Done ≡ (run_of with_terms found).status
     → (steps : List Step) × (found ≡ Ok steps)
-done_steps (Ok steps) e = (steps, refl)
-done_steps (Err fault) e = absurd cc
+done_steps with_terms (Ok steps) e = (steps, refl)
+done_steps with_terms (Err fault) e = absurd cc
 
 -- a script is read to the end of its source
 record IsReadWhole (held input : Bytes) (new : Option Bytes) : Type 0 where
@@ -106,13 +107,13 @@ read_whole limit held input (Some left) read short =
     let none : left ≡ [] = read.whole (omega arith) in
     record { ended = ap Some none; all = sym (rw none at whole ∙ append-nil input) }
 
-pub done_whole : (old new : Outside) (held : Bytes) → old.left ≡ Some held
-    → AnswersWhole FinishesClean old new statuses.Done → IsDone held old new
-unfolding clean_run
-done_whole old new held tells (run, is, put, written, none) =
-    let all = answered_whole old new held statuses.Done tells (run, is, put, written, none) in
-    let found = done_steps (script_of held) all.ends in
-    let answers = ap run_of found.1 in
+pub done_whole : (with_terms : Bool) (old new : Outside) (held : Bytes) → old.left ≡ Some held
+    → AnswersWhole (FinishesBy with_terms) old new statuses.Done → IsDone with_terms held old new
+unfolding run_over
+done_whole with_terms old new held tells (run, is, put, written, none) =
+    let all = answered_whole with_terms old new held statuses.Done tells (run, is, put, written, none) in
+    let found = done_steps with_terms (script_of held) all.ends in
+    let answers = ap (run_of with_terms) found.1 in
     let read = read_whole script_limit held run.input new.left
     (subst (λ left. Reads read_limit left new.left run.input) tells run.read) (script_short held found.0 found.1) in
     let form = subst HasForm (ap script_of read.all ∙ found.1) run.is.1 in
@@ -128,20 +129,20 @@ done_whole old new held tells (run, is, put, written, none) =
 
 -- By the status
 
-pub answered_all : (old new : Outside) (status : Status) (held : Bytes) → IsAnswered status → old.left ≡ Some held
-    → EndsClean old new status → EndsAsAll held old new status
-answered_all old new status held (inl is) tells ends =
-    rw is (answered_whole old new held statuses.Done tells (rw is at ends))
-answered_all old new status held (inr is) tells ends =
-    rw is (answered_whole old new held statuses.Script tells (rw is at ends))
+pub answered_all : (with_terms : Bool) (old new : Outside) (status : Status) (held : Bytes) → IsAnswered status → old.left ≡ Some held
+    → EndsWith with_terms old new status → EndsAsAll with_terms held old new status
+answered_all with_terms old new status held (inl is) tells ends =
+    rw is (answered_whole with_terms old new held statuses.Done tells (rw is at ends))
+answered_all with_terms old new status held (inr is) tells ends =
+    rw is (answered_whole with_terms old new held statuses.Script tells (rw is at ends))
 
-pub sure_whole : (old new : Outside) (status : Status) (held : Bytes) → NoneFailed old new → old.left ≡ Some held
-    → EndsClean old new status → (status ≡ statuses.NoMemory) ⊎ EndsAsAll held old new status
-sure_whole old new statuses.Done held none tells ends = inr (answered_whole old new held statuses.Done tells ends)
-sure_whole old new statuses.Script held none tells ends = inr (answered_whole old new held statuses.Script tells ends)
-sure_whole old new statuses.NoMemory held none tells ends = inl refl
-sure_whole old new statuses.ReadFault held none tells ends = absurd (none.source ends.0)
-sure_whole old new statuses.OutletFault held none tells ends = absurd (none.outlet ends.0)
-sure_whole old new statuses.WriteFault held none tells ends = absurd (none.sink ends.0)
-sure_whole old new statuses.Words held none tells ends = absurd ends
-sure_whole old new statuses.Port held none tells ends = absurd ends
+pub sure_whole : (with_terms : Bool) (old new : Outside) (status : Status) (held : Bytes) → NoneFailed old new → old.left ≡ Some held
+    → EndsWith with_terms old new status → (status ≡ statuses.NoMemory) ⊎ EndsAsAll with_terms held old new status
+sure_whole with_terms old new statuses.Done held none tells ends = inr (answered_whole with_terms old new held statuses.Done tells ends)
+sure_whole with_terms old new statuses.Script held none tells ends = inr (answered_whole with_terms old new held statuses.Script tells ends)
+sure_whole with_terms old new statuses.NoMemory held none tells ends = inl refl
+sure_whole with_terms old new statuses.ReadFault held none tells ends = absurd (none.source ends.0)
+sure_whole with_terms old new statuses.OutletFault held none tells ends = absurd (none.outlet ends.0)
+sure_whole with_terms old new statuses.WriteFault held none tells ends = absurd (none.sink ends.0)
+sure_whole with_terms old new statuses.Words held none tells ends = absurd ends
+sure_whole with_terms old new statuses.Port held none tells ends = absurd ends

@@ -1,10 +1,10 @@
 -- What a run over a source that tells its bytes comes to.
-use Rattle.std.specs.Prelude.{◌≡◌, ◌⊎◌, [], List, Some, Ok}
+use Rattle.std.specs.Prelude.{◌≡◌, ◌⊎◌, Bool, [], List, Some, Ok}
 use Rattle.std.specs.Io.KnownBytes.{Appends}
 use Rattle.dita_doc.specs.Bytes.{Bytes}
 use Rattle.dita_outside.specs.Pages.{TakesPages}
 use Rattle.run_spec.specs.Answers.{answers_to, pages_of_answers, transcript_of}
-use Rattle.run_spec.specs.CleanRun.{clean_run}
+use Rattle.run_spec.specs.CleanRun.{run_over}
 use Rattle.run_spec.specs.declared.status.Status.{Status}
 use Rattle.run_spec.specs.declared.status.Status.TheVariants as statuses
 use Rattle.script_text.specs.Script.{Step, script_of}
@@ -18,18 +18,18 @@ IsAnswered status = (status ≡ statuses.Done) ⊎ (status ≡ statuses.Script)
 
 -- It ended as all bytes of the source say, however many there are: with their status, all their pages and their whole
 -- output.
-pub record EndsAsAll (held : Bytes) (old new : Outside) (status : Status) : Type 0 where
-  pub ends : status ≡ (clean_run held).status
-  pub pages : TakesPages old.pages new.pages (clean_run held).pages
-  pub output : Appends old.taken new.taken (clean_run held).output
+pub record EndsAsAll (with_terms : Bool) (held : Bytes) (old new : Outside) (status : Status) : Type 0 where
+  pub ends : status ≡ (run_over with_terms held).status
+  pub pages : TakesPages old.pages new.pages (run_over with_terms held).pages
+  pub output : Appends old.taken new.taken (run_over with_terms held).output
 
 -- It is done: the source was read to its end, what it held is a script, the outlet and the sink took the pages and the
 -- transcript of the answers to its steps, and that transcript tells one history.
-pub record IsDone (held : Bytes) (old new : Outside) : Type 0 where
+pub record IsDone (with_terms : Bool) (held : Bytes) (old new : Outside) : Type 0 where
   pub ended : new.left ≡ Some []
   pub steps : List Step
   pub script : script_of held ≡ Ok steps
-  pub pages : TakesPages old.pages new.pages (pages_of_answers (answers_to steps))
+  pub pages : TakesPages old.pages new.pages (pages_of_answers with_terms (answers_to steps))
   pub output : Appends old.taken new.taken (transcript_text (transcript_of (answers_to steps)))
   pub told : IsTold steps
   pub history : IsOneHistory steps

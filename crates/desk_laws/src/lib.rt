@@ -1,10 +1,11 @@
-//! What follows from the contract of a run, as laws: only laws stand on them.
+//! What follows from the contract of a run, as laws: only laws stand on them. They hold of runs with
+//! pages of terms and of runs without.
 //!
 //! Each law is the contract of a function that does nothing, so that the check proves it like any
 //! other.
 #![tactic(auto)]
 
-ghost use Rattle.std.specs.Prelude.{◌≡◌, ◌⊎◌, Some, take};
+ghost use Rattle.std.specs.Prelude.{◌≡◌, ◌⊎◌, Bool, Some, take};
 ghost use Rattle.dita_doc.specs.Bytes.{Bytes};
 ghost use Rattle.desk_laws.specs.OneHistory as one_history_spec;
 ghost use Rattle.desk_laws.specs.SureRun as sure_run_spec;
@@ -18,34 +19,37 @@ ghost use Rattle.run_spec.specs.declared.status.Status.TheVariants as statuses;
 /// Over objects that do not fail, a run is done, rejects its script, or is out of memory. If it is
 /// not out of memory and its source tells its bytes, it ended as all of these say.
 pub fn sure_run()
-    ensures status { (old new : outside_spec.Outside) (status : Status) →
-        sure_run_spec.NoneFailed old new → ends_spec.EndsClean old new status →
+    ensures status { (with_terms : Bool) (old new : outside_spec.Outside) (status : Status) →
+        sure_run_spec.NoneFailed old new → ends_spec.EndsWith with_terms old new status →
         sure_run_spec.IsSure status }
-    ensures whole { (old new : outside_spec.Outside) (status : Status) (held : Bytes) →
-        sure_run_spec.NoneFailed old new → old.left ≡ Some held →
-        ends_spec.EndsClean old new status →
-        (status ≡ statuses.NoMemory) ⊎ whole_run_spec.EndsAsAll held old new status }
+    ensures whole { (with_terms : Bool) (old new : outside_spec.Outside) (status : Status)
+        (held : Bytes) → sure_run_spec.NoneFailed old new → old.left ≡ Some held →
+        ends_spec.EndsWith with_terms old new status →
+        (status ≡ statuses.NoMemory) ⊎ whole_run_spec.EndsAsAll with_terms held old new status }
 {}
 
 /// A run that answered what it read ended as all bytes of its source say, if the source tells them.
 pub fn answered_run()
-    ensures { (old new : outside_spec.Outside) (status : Status) (held : Bytes) →
-        whole_run_spec.IsAnswered status → old.left ≡ Some held →
-        ends_spec.EndsClean old new status → whole_run_spec.EndsAsAll held old new status }
+    ensures { (with_terms : Bool) (old new : outside_spec.Outside) (status : Status)
+        (held : Bytes) → whole_run_spec.IsAnswered status → old.left ≡ Some held →
+        ends_spec.EndsWith with_terms old new status →
+        whole_run_spec.EndsAsAll with_terms held old new status }
 {}
 
 /// No run depends on what stands behind the first byte that is too many for a script.
 pub fn long_sources()
-    ensures { (held : Bytes) → clean_run_spec.clean_run (take clean_run_spec.read_limit held)
-        ≡ clean_run_spec.clean_run held }
+    ensures { (with_terms : Bool) (held : Bytes) →
+        clean_run_spec.run_over with_terms (take clean_run_spec.read_limit held)
+        ≡ clean_run_spec.run_over with_terms held }
 {}
 
 /// A run that is done read its source to the end, and what the source held is a script. The sink
 /// took a transcript, and whoever reads it reads one history: the requests in the script's order,
 /// each answered as the desk answers it at its place.
 pub fn done_run()
-    ensures { (old new : outside_spec.Outside) (held : Bytes) → old.left ≡ Some held →
-        ends_spec.EndsClean old new statuses.Done → whole_run_spec.IsDone held old new }
+    ensures { (with_terms : Bool) (old new : outside_spec.Outside) (held : Bytes) →
+        old.left ≡ Some held → ends_spec.EndsWith with_terms old new statuses.Done →
+        whole_run_spec.IsDone with_terms held old new }
 {}
 
 /// The answers to some steps are one history: the requests in the script's order, each answered as

@@ -1,9 +1,10 @@
 -- One answer: the entry that it leaves, what is shown of it, and what it builds.
-use Rattle.std.proofs.Common.{◌≡◌, ◌+◌, ◌==◌, ℕ, Bool, true, false, List, [], ◌∷◌, ◌++◌, Option, Some, None, Result, Ok, Err, if◌then◌else◌, length, option_map, refl, ap, sym, ◌∙◌, subst, not, ◌&&◌, nat_le, is_some}
+use Rattle.std.proofs.Common.{◌≡◌, ◌+◌, ◌==◌, ℕ, Bool, true, false, List, [], ◌∷◌, ◌++◌, Option, Some, None, Result, Ok, Err, if◌then◌else◌, length, option_map, refl, ap, sym, ◌∙◌, subst, not, ◌&&◌, nat_le, is_some, append-nil, map}
 use Rattle.std.specs.Borrow.{Bor}
 use Rattle.std.specs.List.{All, slice_get}
-use Rattle.std.specs.Option.{option_and_then, option_copied}
+use Rattle.std.specs.Option.{option_and_then, option_copied, option_to_list}
 use Rattle.std.specs.Str.{is_utf8}
+use Rattle.std.proofs.lemmas.List.{map-append}
 use Rattle.std.proofs.lemmas.Option.{same_Some, slice_get_within, get_or_from_slice_get}
 use Rattle.build_spec.specs.Built.{Built}
 use Rattle.dita_doc.specs.Bytes.{Bytes}
@@ -12,11 +13,12 @@ use Rattle.dita_doc.specs.History.{Entry, sources}
 use Rattle.dita_doc.specs.Pyx.{document_of}
 use Rattle.dita_doc.specs.Request.{Edit, Put, PutIf, Remove, Request, Single, Get, Names, Build, Group, IsUtf8Edit, IsUtf8Request}
 use Rattle.dita_doc.specs.Tree.{Content}
+use Rattle.dita_doc.specs.declared.fact.Html.{Html}
 use Rattle.dita_doc.specs.declared.fault.PyxFault.{PyxFault}
 use Rattle.dita_outside.specs.Pages.{Pages, TakesPages, TakesPagesFront}
-use Rattle.part_spec.specs.Parts.{clean_build}
+use Rattle.part_spec.specs.Parts.{clean_build, clean_terms}
 use Rattle.reader_spec.specs.World.{world_of}
-use Rattle.run_spec.specs.Answers.{answer_shown, build_shown, built_by, pages_of_answer}
+use Rattle.run_spec.specs.Answers.{answer_shown, build_shown, built_by, delivered, pages_built, pages_of_answer, pages_wanted, terms_by, terms_page}
 use Rattle.run_spec.proofs.ShownLaws.{begun_built, some_map}
 use Rattle.script_text.specs.Script.{Step}
 use Rattle.transcript_text.specs.Transcript.{BuildShown, EntryShown, entry_shown}
@@ -25,7 +27,7 @@ use Rattle.version_store.specs.Entries.{EditPuts, Puts}
 use Rattle.version_store.proofs.EditLaws.{last_among}
 use Rattle.version_store.specs.Kept.{Kept, answered, stored_now}
 use Rattle.version_store.proofs.HistoryLaws.{from_sources, slice_get-end, slice_get-take}
-use Rattle.desk_top.specs.Builds.{built_at, pages_put_by}
+use Rattle.desk_top.specs.Builds.{built_at, pages_put_at, pages_put_by, terms_at, terms_put}
 use Rattle.desk_top.specs.Runs.{Answers, IsUtf8Entry, TellsBehind, answer_behind}
 use Rattle.desk_top.proofs.RunLaws.{state_push}
 
@@ -71,6 +73,14 @@ built_same state place Names = refl
 built_same state place (Build root val) = refl
 built_same state place (Group edits) = refl
 
+terms_same : (state : State) (place : ℕ) (request : Request)
+    → terms_by (next state place request) request ≡ terms_by state request
+terms_same state place (Single edit) = refl
+terms_same state place (Get name) = refl
+terms_same state place Names = refl
+terms_same state place (Build root val) = refl
+terms_same state place (Group edits) = refl
+
 pub built_new : (old new : Kept) (step : Step) (place number : ℕ) → HasKept old new step place number
     → built_at new place ≡ (answer_behind old.history step).built
 built_new old new step place number kept =
@@ -80,6 +90,16 @@ built_new old new step place number kept =
     (new_history old new step place number kept)
     ∙ ap (λ state. built_by state step.request) (state_push old.history (answer_behind old.history step).entry)
     ∙ built_same (sources old.history (length old.history)) (length old.history) step.request
+
+terms_new : (old new : Kept) (step : Step) (place number : ℕ) → HasKept old new step place number
+    → terms_at new place ≡ (answer_behind old.history step).terms
+terms_new old new step place number kept =
+    ap (option_and_then (λ (entry : Entry). terms_by (stored_now new) entry.request))
+    (entry_there old new step place number kept)
+    ∙ ap (λ (history : List Entry). terms_by (sources history (length history)) step.request)
+    (new_history old new step place number kept)
+    ∙ ap (λ state. terms_by state step.request) (state_push old.history (answer_behind old.history step).entry)
+    ∙ terms_same (sources old.history (length old.history)) (length old.history) step.request
 
 -- the entry says that a build has its place exactly where it is a build
 pub begun_answer : (old new : Kept) (step : Step) (place number : ℕ) (entry : Entry)
@@ -91,25 +111,30 @@ begun_answer old new step place number entry kept there =
     ∙ sym (ap (λ (e : Entry). is_begun e.reply) (entry_is old new step place number entry kept there))
 
 -- the pages that its build puts are those of the answer
-pages_same : (old new : Kept) (step : Step) (place number : ℕ) → HasKept old new step place number
-    → pages_put_by number (built_at new place) ≡ pages_of_answer (answer_behind old.history step)
-pages_same old new step place number kept =
-    ap (pages_put_by number) (built_new old new step place number kept)
-    ∙ ap (λ n. pages_put_by n (answer_behind old.history step).built) kept.counted
-
-pub answer_put : (old new : Kept) (step : Step) (place number : ℕ) (a b : Option Pages)
+pages_same : (with_terms : Bool) (old new : Kept) (step : Step) (place number : ℕ)
     → HasKept old new step place number
-    → TakesPages a b (pages_put_by number (built_at new place))
-    → TakesPages a b (pages_of_answer (answer_behind old.history step))
-answer_put old new step place number a b kept put =
-    subst (TakesPages a b) (pages_same old new step place number kept) put
+    → pages_put_at with_terms number new place ≡ pages_of_answer with_terms (answer_behind old.history step)
+pages_same with_terms old new step place number kept =
+    let answer = answer_behind old.history step in
+    ap (λ built. map (delivered number) (pages_wanted with_terms built (terms_at new place)))
+    (built_new old new step place number kept)
+    ∙ ap (λ terms. map (delivered number) (pages_wanted with_terms answer.built terms))
+    (terms_new old new step place number kept)
+    ∙ ap (λ n. map (delivered n) (pages_wanted with_terms answer.built answer.terms)) kept.counted
 
-pub answer_front : (old new : Kept) (step : Step) (place number : ℕ) (a b : Option Pages)
+pub answer_put : (with_terms : Bool) (old new : Kept) (step : Step) (place number : ℕ) (a b : Option Pages)
     → HasKept old new step place number
-    → TakesPagesFront a b (pages_put_by number (built_at new place))
-    → TakesPagesFront a b (pages_of_answer (answer_behind old.history step))
-answer_front old new step place number a b kept front =
-    subst (TakesPagesFront a b) (pages_same old new step place number kept) front
+    → TakesPages a b (pages_put_at with_terms number new place)
+    → TakesPages a b (pages_of_answer with_terms (answer_behind old.history step))
+answer_put with_terms old new step place number a b kept put =
+    subst (TakesPages a b) (pages_same with_terms old new step place number kept) put
+
+pub answer_front : (with_terms : Bool) (old new : Kept) (step : Step) (place number : ℕ) (a b : Option Pages)
+    → HasKept old new step place number
+    → TakesPagesFront a b (pages_put_at with_terms number new place)
+    → TakesPagesFront a b (pages_of_answer with_terms (answer_behind old.history step))
+answer_front with_terms old new step place number a b kept front =
+    subst (TakesPagesFront a b) (pages_same with_terms old new step place number kept) front
 
 -- Texts
 
@@ -215,11 +240,43 @@ built_is kept place entry state map val given built there asks stored same is =
     ∙ ap Some (sym (is ∙ ap (λ s. clean_build (world_of s) map given) stored
     ∙ ap (clean_build (world_of (stored_now kept)) map) same))
 
-pub front_of_build : (kept : Kept) (place number : ℕ) (built : Built) (a b : Option Pages)
-    → built_at kept place ≡ Some built → TakesPagesFront a b (pages_put_by number (Some built))
-    → TakesPagesFront a b (pages_put_by number (built_at kept place))
-front_of_build kept place number built a b is front =
-    subst (λ (given : Option Built). TakesPagesFront a b (pages_put_by number given)) (sym is) front
+-- and the page of its terms
+pub terms_is : (kept : Kept) (place : ℕ) (entry : Entry) (state : State) (map : List ℕ) (val given : Option (List ℕ))
+    → slice_get kept.history place ≡ Some entry → entry.request ≡ Build map val
+    → state ≡ stored_now kept → given ≡ val
+    → terms_at kept place ≡ option_map terms_page (clean_terms (world_of state) map given)
+terms_is kept place entry state map val given there asks stored same =
+    ap (option_and_then (λ (e : Entry). terms_by (stored_now kept) e.request)) there
+    ∙ ap (terms_by (stored_now kept)) asks
+    ∙ ap (option_map terms_page) (sym (ap (λ s. clean_terms (world_of s) map given) stored
+    ∙ ap (clean_terms (world_of (stored_now kept)) map) same))
+
+-- the pages of a build, and behind them the page of its terms, if pages of terms are wanted
+pub put_is : (with_terms : Bool) (kept : Kept) (place number : ℕ) (built : Built) (of terms : Option Html)
+    → built_at kept place ≡ Some built → terms_at kept place ≡ option_map terms_page of
+    → terms ≡ (if with_terms then of else None)
+    → pages_put_by number (Some built) ++ terms_put number terms ≡ pages_put_at with_terms number kept place
+put_is false kept place number built of terms is there wanted =
+    ap (λ (given : Option Html). pages_put_by number (Some built) ++ terms_put number given) wanted
+    ∙ append-nil (pages_put_by number (Some built))
+    ∙ ap (pages_put_by number) (sym is)
+put_is true kept place number built of terms is there wanted =
+    ap (λ (given : Option Html). pages_put_by number (Some built) ++ terms_put number given) wanted
+    ∙ sym (map-append (delivered number) (pages_built (Some built)) (option_to_list (option_map terms_page of)))
+    ∙ ap (λ given. map (delivered number) (pages_built (Some built) ++ option_to_list given)) (sym there)
+    ∙ ap (λ given. map (delivered number) (pages_built given ++ option_to_list (terms_at kept place))) (sym is)
+
+-- the same of what was made of the sources that a store has
+pub put_whole : (with_terms : Bool) (kept : Kept) (place number : ℕ) (entry : Entry) (state : State) (map : List ℕ)
+    (val given : Option (List ℕ)) (built : Built) (terms : Option Html)
+    → slice_get kept.history place ≡ Some entry → entry.request ≡ Build map val
+    → state ≡ stored_now kept → given ≡ val → built ≡ clean_build (world_of state) map given
+    → terms ≡ (if with_terms then clean_terms (world_of state) map given else None)
+    → pages_put_by number (Some built) ++ terms_put number terms ≡ pages_put_at with_terms number kept place
+put_whole with_terms kept place number entry state map val given built terms there asks stored same is wanted =
+    put_is with_terms kept place number built (clean_terms (world_of state) map given) terms
+    (built_is kept place entry state map val given built there asks stored same is)
+    (terms_is kept place entry state map val given there asks stored same) wanted
 
 -- what is there is shown, and what is shown is there
 pub some_shown : {A B C : Type 0} (f : A → C) (g : B → C) (shown : Option A) (built : Option B)

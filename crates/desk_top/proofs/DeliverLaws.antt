@@ -1,7 +1,8 @@
 -- The pages of a build that were put so far.
-use Rattle.std.proofs.Common.{◌≡◌, ℕ, List, [], ◌++◌, Option, take, drop, map, ap, sym, ◌∙◌, subst, append-nil}
+use Rattle.std.proofs.Common.{◌≡◌, ℕ, List, [], ◌∷◌, ◌++◌, Option, Result, Ok, Err, take, drop, map, refl, ap, sym, ◌∙◌, subst, append-nil}
 use Rattle.std.proofs.lemmas.List.{take-append-drop, map-append}
-use Rattle.dita_outside.specs.Pages.{Pages, TakesPages, TakesPagesFront}
+use Rattle.build_spec.specs.Built.{Page}
+use Rattle.dita_outside.specs.Pages.{Pages, PutsPage, PutsPages, TakesPages, TakesPagesFront}
 use Rattle.clean_build.specs.Clean.{Made, page_seen}
 use Rattle.run_spec.specs.Answers.{delivered}
 use Rattle.desk_top.specs.Builds.{pages_put}
@@ -25,3 +26,9 @@ put_front number i pages a b c before none =
     in
     subst (TakesPagesFront a c) whole (takes_front a c (pages_put number (take i pages))
     (pages_put number (drop i pages)) same)
+
+-- one page alone
+pub one_put : {E : Type 0} (a b : Option Pages) (result : Result (Unit {0}) E) (page : Page) → PutsPage a b result page
+    → PutsPages a b result (page ∷ [])
+one_put a b (Ok done) page put = put
+one_put a b (Err stop) page put = ([], page ∷ [], refl, put)

@@ -1,5 +1,5 @@
 -- What a run tells of its requests, one after another.
-use Rattle.std.proofs.Common.{◌≡◌, ◌+◌, ◌≤◌, ℕ, List, [], ◌∷◌, ◌++◌, Option, Some, None, length, refl, ap, sym, ◌∙◌, arith, append_assoc, append-nil, length-append, subst}
+use Rattle.std.proofs.Common.{◌≡◌, ◌+◌, ◌≤◌, ℕ, Bool, List, [], ◌∷◌, ◌++◌, Option, Some, None, length, refl, ap, sym, ◌∙◌, arith, append_assoc, append-nil, length-append, subst}
 use Rattle.std.specs.List.{flat_map, All}
 use Rattle.std.proofs.lemmas.List.Elements.{All-nil, All-cons, All-tail, All-append}
 use Rattle.std.proofs.lemmas.List.Sums.{sum-map, sum_by-cons}
@@ -81,14 +81,14 @@ shown_more before after (Some entry) rest told all = All-cons IsEntryShown entry
 
 -- the first requests were answered, which are the history, and these are left; what was told before them and what is
 -- told of them is the whole, and all entries are in the form if those of the rest are
-pub record HasAnswered (all : List Step) (history : List Entry) (left : List Step) (text : Bytes)
+pub record HasAnswered (with_terms : Bool) (all : List Step) (history : List Entry) (left : List Step) (text : Bytes)
     (old now : Option Pages) : Type 0 where
   pub counted : length history + length left ≡ length all
   pub told : text ++ answers_text (length history) (answers_behind history left) ≡ head_text
       ++ answers_text 0 (answers_to all)
   pub form : All IsEntryShown (answers_shown (length history) (answers_behind history left))
       → All IsEntryShown (answers_shown 0 (answers_to all))
-  pub taken : HasTaken old now (pages_of_answers (answers_behind history left)) (pages_of_answers (answers_to all))
+  pub taken : HasTaken old now (pages_of_answers with_terms (answers_behind history left)) (pages_of_answers with_terms (answers_to all))
   pub size : history_size history + steps_size left ≤ script_limit
   pub utf8 : All IsUtf8Entry history
   pub rest : All IsUtf8Step left
@@ -102,10 +102,10 @@ steps_size_cons step left =
     sum-map bytes (step ∷ left) ∙ sum_by-cons bytes step left ∙ ap (λ n. bytes step + n) (sym (sum-map bytes left))
 
 -- none was answered
-pub none_answered : (all left : List Step) (history : List Entry) (text : Bytes) (old : Option Pages) → FitsScript all
+pub none_answered : (with_terms : Bool) (all left : List Step) (history : List Entry) (text : Bytes) (old : Option Pages) → FitsScript all
     → left ≡ all → history ≡ [] → text ≡ head_text
-    → HasAnswered all history left text old old
-none_answered all left history text old fits same none head = rw (same, none, head) (record {
+    → HasAnswered with_terms all history left text old old
+none_answered with_terms all left history text old fits same none head = rw (same, none, head) (record {
   counted = omega arith;
   told = refl;
   form = λ shown. shown;
@@ -117,10 +117,10 @@ none_answered all left history text old fits same none head = rw (same, none, he
 })
 
 -- there is room for one that is left
-pub room_left : (all : List Step) (history : List Entry) (step : Step) (left : List Step) (text : Bytes)
+pub room_left : (with_terms : Bool) (all : List Step) (history : List Entry) (step : Step) (left : List Step) (text : Bytes)
     (old now : Option Pages)
-    → FitsScript all → HasAnswered all history (step ∷ left) text old now → HasRoom history step
-room_left all history step left text old now fits before = record {
+    → FitsScript all → HasAnswered with_terms all history (step ∷ left) text old now → HasRoom history step
+room_left with_terms all history step left text old now fits before = record {
   few = omega (arith, before.counted, fits.few);
   edits = before.few 0 step (omega arith);
   size = omega (arith, before.size, steps_size_cons step left);
@@ -129,12 +129,12 @@ room_left all history step left text old now fits before = record {
 }
 
 -- one request more
-pub one_answered : (all : List Step) (history later : List Entry) (step : Step) (left : List Step)
+pub one_answered : (with_terms : Bool) (all : List Step) (history later : List Entry) (step : Step) (left : List Step)
     (text longer : Bytes) (old now new : Option Pages)
-    → HasAnswered all history (step ∷ left) text old now → Answers history later step text longer
-    → TakesPages now new (pages_of_answer (answer_behind history step))
-    → HasAnswered all later left longer old new
-one_answered all history later step left text longer old now new before a put =
+    → HasAnswered with_terms all history (step ∷ left) text old now → Answers history later step text longer
+    → TakesPages now new (pages_of_answer with_terms (answer_behind history step))
+    → HasAnswered with_terms all later left longer old new
+one_answered with_terms all history later step left text longer old now new before a put =
     let entry = (answer_behind history step).entry in
     let rest = answers_from (next (sources history (length history)) (length history) step.request)
     (length history + 1) left in
@@ -145,17 +145,17 @@ one_answered all history later step left text longer old now new before a put =
     let same_shown : answers_shown (length (history ++ entry ∷ [])) more ≡ shown =
     ap (λ (place : ℕ). answers_shown place more) longer_by ∙ ap (answers_shown (length history + 1)) same in
     let this = answer_shown (length history) (answer_behind history step) in
-    subst (λ (h : List Entry). HasAnswered all h left longer old new) (sym a.grown) (record {
+    subst (λ (h : List Entry). HasAnswered with_terms all h left longer old new) (sym a.grown) (record {
       counted = omega (arith, before.counted, longer_by);
       told =
           ap (λ (entries : List EntryShown). longer ++ flat_map entry_text entries) same_shown
           ∙ told_more text longer this shown a.told ∙ before.told;
       form = λ all_shown. before.form (shown_more text longer this shown a.told
           (subst (All IsEntryShown) same_shown all_shown));
-      taken = subst (λ (answers : List Answer). HasTaken old new (pages_of_answers answers)
-          (pages_of_answers (answers_to all))) (sym same)
-          (taken_more old now new (pages_of_answer (answer_behind history step)) (pages_of_answers rest)
-          (pages_of_answers (answers_to all)) before.taken put);
+      taken = subst (λ (answers : List Answer). HasTaken old new (pages_of_answers with_terms answers)
+          (pages_of_answers with_terms (answers_to all))) (sym same)
+          (taken_more old now new (pages_of_answer with_terms (answer_behind history step)) (pages_of_answers with_terms rest)
+          (pages_of_answers with_terms (answers_to all)) before.taken put);
       size = (let more : history_size (history ++ entry ∷ []) ≡ history_size history + text_size step.request =
           size_push history entry in omega (arith, before.size, more, steps_size_cons step left));
       utf8 = All-append IsUtf8Entry history (entry ∷ []) before.utf8
@@ -165,16 +165,16 @@ one_answered all history later step left text longer old now new before a put =
     })
 
 -- the answer to one request more was begun
-pub answer_begun : (all : List Step) (history : List Entry) (step : Step) (left : List Step) (text : Bytes)
+pub answer_begun : (with_terms : Bool) (all : List Step) (history : List Entry) (step : Step) (left : List Step) (text : Bytes)
     (old now new : Option Pages)
-    → HasAnswered all history (step ∷ left) text old now
-    → TakesPagesFront now new (pages_of_answer (answer_behind history step))
-    → TakesPagesFront old new (pages_of_answers (answers_to all))
-answer_begun all history step left text old now new before front =
-    taken_front old now new (pages_of_answer (answer_behind history step))
-    (pages_of_answers (answers_from (next (sources history (length history)) (length history) step.request)
+    → HasAnswered with_terms all history (step ∷ left) text old now
+    → TakesPagesFront now new (pages_of_answer with_terms (answer_behind history step))
+    → TakesPagesFront old new (pages_of_answers with_terms (answers_to all))
+answer_begun with_terms all history step left text old now new before front =
+    taken_front old now new (pages_of_answer with_terms (answer_behind history step))
+    (pages_of_answers with_terms (answers_from (next (sources history (length history)) (length history) step.request)
     (length history + 1) left))
-    (pages_of_answers (answers_to all)) before.taken front
+    (pages_of_answers with_terms (answers_to all)) before.taken front
 
 -- nothing is left
 pub no_more : {A : Type 0} (xs : List A) (size : ℕ) → size ≡ length xs → size ≡ 0 → xs ≡ []
@@ -189,17 +189,17 @@ no_rows entries totals = ap (λ text. text ++ line (end_head totals))
     (sym (append-nil (head_text ++ flat_map entry_text entries)))
 
 -- none is left
-pub none_left : (all : List Step) (history : List Entry) (left : List Step) (text : Bytes) (old now : Option Pages)
-    → left ≡ [] → HasAnswered all history left text old now → HasAnswered all history [] text old now
-none_left all history left text old now none before =
-    subst (λ (left : List Step). HasAnswered all history left text old now) none before
+pub none_left : (with_terms : Bool) (all : List Step) (history : List Entry) (left : List Step) (text : Bytes) (old now : Option Pages)
+    → left ≡ [] → HasAnswered with_terms all history left text old now → HasAnswered with_terms all history [] text old now
+none_left with_terms all history left text old now none before =
+    subst (λ (left : List Step). HasAnswered with_terms all history left text old now) none before
 
 -- all were answered, and the end was told
-pub all_told : (all : List Step) (history : List Entry) (text whole : Bytes) (count : ℕ) (old now : Option Pages)
-    → HasAnswered all history [] text old now → count ≡ length history
+pub all_told : (with_terms : Bool) (all : List Step) (history : List Entry) (text whole : Bytes) (count : ℕ) (old now : Option Pages)
+    → HasAnswered with_terms all history [] text old now → count ≡ length history
     → whole ≡ text ++ line (end_head (record { entries = count; made = 0; dropped = 0 }))
     → whole ≡ transcript_text (transcript_of (answers_to all))
-all_told all history text whole count old now before counts end =
+all_told with_terms all history text whole count old now before counts end =
     let many : count ≡ length (answers_to all) = omega (arith, before.counted, length-answers_from [] 0 all) in
     let told : text ≡ head_text ++ answers_text 0 (answers_to all) = sym (append-nil text) ∙ before.told in
     end ∙ ap (λ (t : Bytes). t ++ line (end_head (record { entries = count; made = 0; dropped = 0 }))) told
@@ -208,9 +208,9 @@ all_told all history text whole count old now before counts end =
     ∙ no_rows (answers_shown 0 (answers_to all)) (record { entries = length (answers_to all); made = 0; dropped = 0 })
 
 -- and the transcript is in the form
-pub all_in_form : (all : List Step) (history : List Entry) (text : Bytes) (old now : Option Pages) → FitsScript all
-    → HasAnswered all history [] text old now → IsTranscript (transcript_of (answers_to all))
-all_in_form all history text old now fits before = record {
+pub all_in_form : (with_terms : Bool) (all : List Step) (history : List Entry) (text : Bytes) (old now : Option Pages) → FitsScript all
+    → HasAnswered with_terms all history [] text old now → IsTranscript (transcript_of (answers_to all))
+all_in_form with_terms all history text old now fits before = record {
   entries = before.form (All-nil IsEntryShown);
   rows = All-nil IsRowShown;
   rising = tt;

@@ -1,12 +1,14 @@
 -- How a run ends, by its status, over what the source, the sink and the outlet tell.
-use Rattle.std.specs.Prelude.{◌≡◌, ◌⊎◌, ℕ, Bool, true, false, [], ◌++◌, Option}
+use Rattle.std.specs.Prelude.{◌≡◌, ◌⊎◌, ℕ, Bool, true, false, [], ◌++◌, Option, IsNone, IsSomeAnd}
 use Rattle.std.specs.Io.KnownBytes.{Keeps, Appends}
+use Rattle.command_line.specs.declared.modes.Mode.{Mode}
+use Rattle.command_line.specs.declared.modes.Mode.TheVariants as modes
 use Rattle.dita_doc.specs.Bytes.{Bytes}
 use Rattle.dita_outside.specs.Cause.{Rose}
 use Rattle.dita_outside.specs.Pages.{Pages, TakesPages, TakesPagesFront}
 use Rattle.run_spec.specs.declared.status.Status.{Status}
 use Rattle.run_spec.specs.declared.status.Status.TheVariants as statuses
-use Rattle.run_spec.specs.CleanRun.{HasForm, clean_run, read_limit}
+use Rattle.run_spec.specs.CleanRun.{HasForm, read_limit, run_over}
 use Rattle.script_text.specs.Script.{script_of}
 use Rattle.desk_top.specs.Outside.{Outside}
 use Rattle.desk_top.specs.Reads.{Reads}
@@ -63,16 +65,29 @@ EndsBy finishes runs old new statuses.NoMemory = TakesNothing old new ⊎ ((run 
 EndsBy finishes runs old new statuses.Words = ⊥
 EndsBy finishes runs old new statuses.Port = ⊥
 
--- the run of the mode `clean`: the bytes alone say how it ends
-abbrev pub RunsClean : RunRelation
-RunsClean input status pages output = clean_run input ≡ record { status = status; pages = pages; output = output }
+-- a run on one thread, with pages of terms or without: the bytes alone say how it ends
+abbrev pub RunsBy : Bool → RunRelation
+RunsBy with_terms input status pages output =
+    run_over with_terms input ≡ record { status = status; pages = pages; output = output }
 
 -- and if it is finished, its transcript is in the form of transcripts
-abbrev pub FinishesClean : RunRelation
-FinishesClean input status pages output = RunsClean input status pages output × HasForm (script_of input)
+abbrev pub FinishesBy : Bool → RunRelation
+FinishesBy with_terms input status pages output = RunsBy with_terms input status pages output × HasForm (script_of input)
 
+abbrev pub EndsWith : Bool → Outside → Outside → Status → Type 0
+EndsWith with_terms old new status = EndsBy (FinishesBy with_terms) (RunsBy with_terms) old new status
+
+-- the run of the mode `clean`
 abbrev pub EndsClean : Outside → Outside → Status → Type 0
-EndsClean old new status = EndsBy FinishesClean RunsClean old new status
+EndsClean old new status = EndsWith false old new status
+
+-- the run of the mode `terms`
+abbrev pub EndsTerms : Outside → Outside → Status → Type 0
+EndsTerms old new status = EndsWith true old new status
+
+abbrev pub EndsMode : Mode → Outside → Outside → Status → Type 0
+EndsMode modes.Clean old new status = EndsClean old new status
+EndsMode modes.Terms old new status = EndsTerms old new status
 
 -- an output was written: whole, by a sink that has not failed, and then the status is that of the run; or its beginning,
 -- because the sink failed or memory ran out
@@ -82,9 +97,9 @@ WritesLast old new before now output status result =
     ⊎ (AppendsFront old new output × ((Rose before now × (result ≡ statuses.WriteFault))
     ⊎ (result ≡ statuses.NoMemory)))
 
--- the end of the program, where the words decide whether a mode is run: words that are not read touch nothing. Else the
--- run of their mode ended so; out of memory, it may not have begun
-abbrev pub EndsProgram : (read : Bool) → (runs : Status → Type 0) → (untouched : Type 0) → Status → Type 0
-EndsProgram read runs untouched statuses.Words = (read ≡ false) × untouched
-EndsProgram read runs untouched statuses.NoMemory = ((read ≡ true) × runs statuses.NoMemory) ⊎ untouched
-EndsProgram read runs untouched status = (read ≡ true) × runs status
+-- the end of the program, where the words name a mode: words that are not read name none, and touch nothing. Else the run of
+-- their mode ended so; out of memory, it may not have begun
+abbrev pub EndsProgram : (mode : Option Mode) → (runs : Mode → Status → Type 0) → (untouched : Type 0) → Status → Type 0
+EndsProgram mode runs untouched statuses.Words = IsNone mode × untouched
+EndsProgram mode runs untouched statuses.NoMemory = IsSomeAnd mode (λ mode. runs mode statuses.NoMemory) ⊎ untouched
+EndsProgram mode runs untouched status = IsSomeAnd mode (λ mode. runs mode status)

@@ -20,18 +20,19 @@ use transcript_text::{write_end, write_entry, write_head};
 use version_store::Store;
 
 /// Answers the steps of a script in order on a new desk, puts the pages of each build into the
-/// outlet, and gives the transcript.
+/// outlet, with the page of its terms if these are wanted, and gives the transcript.
 pub fn answer_all<O: Outlet>(
     alloc: Global,
     script: Script,
+    with_terms: bool,
     outlet: &mut O,
 ) -> Result<List<u8>, Stop<Failed>>
-    ensures text { IfOk result (λ text. text ≡ (clean_run_spec.run_answered
+    ensures text { IfOk result (λ text. text ≡ (clean_run_spec.run_answered with_terms
         (answers_spec.answers_to (read_spec.steps_seen script.steps))).output) }
     ensures form { OnOk result (transcript_spec.IsTranscript (answers_spec.transcript_of
         (answers_spec.answers_to (read_spec.steps_seen script.steps)))) }
     ensures pages { pages_spec.PutsPages (O.pages outlet.old) (O.pages outlet.new) result
-        (clean_run_spec.run_answered
+        (clean_run_spec.run_answered with_terms
         (answers_spec.answers_to (read_spec.steps_seen script.steps))).pages }
     ensures cause { cause_spec.HasCauseOrNoMemory
         (O.faults outlet.old) (O.faults outlet.new) result }
@@ -39,7 +40,9 @@ pub fn answer_all<O: Outlet>(
     let mut store = Store::new(alloc)?;
     let mut text = write_head(alloc)?;
     for (session, request) in script.steps.into_vec() {
-        answer(alloc, &mut store, session, request, outlet, &mut text)?;
+        answer(
+            alloc, &mut store, session, request, with_terms, outlet, &mut text,
+        )?;
     }
     let end = write_end(alloc, store.entries(), 0, 0)?;
     text.append(end.as_slice())?;
@@ -52,6 +55,7 @@ fn answer<O: Outlet>(
     store: &mut Store,
     session: u32,
     request: Request,
+    with_terms: bool,
     outlet: &mut O,
     text: &mut List<u8>,
 ) -> Result<(), Stop<Failed>>
@@ -63,13 +67,13 @@ fn answer<O: Outlet>(
         (read_spec.step_seen (session, request)) text.old text.new) }
     ensures pages { let step = read_spec.step_seen (session, request) in
         pages_spec.PutsPages (O.pages outlet.old) (O.pages outlet.new) result
-        (answers_spec.pages_of_answer (runs_spec.answer_behind store.old.history step)) }
+        (answers_spec.pages_of_answer with_terms (runs_spec.answer_behind store.old.history step)) }
     ensures cause { cause_spec.HasCauseOrNoMemory
         (O.faults outlet.old) (O.faults outlet.new) result }
 {
     let number = store.entries() as u32 + 1;
     let place = keep(alloc, store, session, number, request)?;
-    let built = build(alloc, store, place, number, outlet)?;
+    let built = build(alloc, store, place, number, with_terms, outlet)?;
     let entry = write_entry(alloc, place, store.entry(place), built.as_ref())?;
     text.append(entry.as_slice())?;
     Ok(())

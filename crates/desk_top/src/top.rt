@@ -5,8 +5,8 @@ ghost use Rattle.command_line.specs.Command as command_spec;
 ghost use Rattle.desk_top.specs.Ends as ends_spec;
 ghost use Rattle.desk_top.specs.Outside as outside_spec;
 
-use crate::clean::run_clean;
-use command_line::reads;
+use crate::modes::{run_clean, run_terms};
+use command_line::{Mode, mode};
 use dita_doc::NoMemory;
 use dita_outside::{Outlet, Sink, Source};
 use run_spec::Status;
@@ -25,14 +25,15 @@ pub fn desk_top<S: Source, K: Sink, O: Outlet>(
 ) -> Status
     ensures { let outside = outside_spec.outside_at
         S.left S.faults K.taken K.faults O.pages O.faults in
-        ends_spec.EndsProgram (command_spec.is_read (map string_bytes words.now))
-        (ends_spec.EndsClean (outside source.old sink.old outlet.old)
+        ends_spec.EndsProgram (command_spec.mode_of (map string_bytes words.now))
+        (λ mode. ends_spec.EndsMode mode (outside source.old sink.old outlet.old)
         (outside source.new sink.new outlet.new))
         ((source.new ≡ source.old) × (sink.new ≡ sink.old) × (outlet.new ≡ outlet.old)) result }
 {
-    match reads(alloc, words) {
-        Ok(true) => run_clean(alloc, source, sink, outlet),
-        Ok(false) => Status::Words,
+    match mode(alloc, words) {
+        Ok(Some(Mode::Clean)) => run_clean(alloc, source, sink, outlet),
+        Ok(Some(Mode::Terms)) => run_terms(alloc, source, sink, outlet),
+        Ok(None) => Status::Words,
         Err(NoMemory) => Status::NoMemory,
     }
 }

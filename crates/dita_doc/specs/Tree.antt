@@ -1,7 +1,8 @@
 -- The tree of a document and its preorder. An element has a name, attributes and content; a text has characters.
 -- Each node knows in which of the document's origins, and an element in which line, it was written.
-use Rattle.std.specs.Prelude.{◌≡◌, ◌+◌, ◌-◌, ◌^◌, ℕ, zero, suc, Bool, true, false, List, [], ◌∷◌, ◌++◌, length, take, drop, nat_lt, if◌then◌else◌}
+use Rattle.std.specs.Prelude.{◌≡◌, ◌+◌, ◌-◌, ◌==◌, ◌^◌, ◌&&◌, ◌||◌, ℕ, zero, suc, Bool, true, false, List, [], ◌∷◌, ◌++◌, codes, is_some, length, take, drop, nat_lt, if◌then◌else◌}
 use Rattle.std.specs.List.{list_all}
+use Rattle.dita_doc.specs.ClassValue.{value_of}
 use Rattle.dita_doc.specs.declared.doc.Attribute.{Attribute}
 use Rattle.dita_doc.specs.declared.doc.Node.{Node}
 use Rattle.dita_doc.specs.declared.doc.NodeKind.{NodeKind}
@@ -79,3 +80,12 @@ are_places count places = list_all (λ place. nat_lt place count) places
 
 abbrev pub are_placed : ℕ → List Node → Bool
 are_placed count nodes = list_all (λ (node : Node). nat_lt node.origin count) nodes
+
+abbrev pub has_href : List Attribute → Bool
+has_href attributes = is_some (value_of (codes "href") attributes)
+
+-- each of these nodes that has no href has its own origin beside it
+abbrev pub are_own : List Node → List ℕ → Bool
+are_own [] hrefs = true
+are_own (node ∷ nodes) [] = true
+are_own (node ∷ nodes) (href ∷ hrefs) = (has_href node.attributes || node.origin == href) && are_own nodes hrefs

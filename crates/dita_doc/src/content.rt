@@ -64,16 +64,20 @@ pub struct PushList {
 
 /// Content with its references resolved. Each node has an entry in `hrefs`: the place, in the
 /// document's `origins`, of the document in which the node's href was written, and the node's own
-/// origin if it has no href.
+/// origin if it has no href. Each has one in `declared` too: the names of the conditional attributes
+/// that are declared for it, and none for a text.
 #[derive(Drop)]
 pub struct Resolved {
     pub doc: Doc,
     pub hrefs: List<u32>,
+    pub declared: List<List<Text>>,
     /// How many nodes were resolved.
     pub count: u32,
     pub faults: List<Fault>,
     pub ghost each: { length hrefs ≡ length doc.nodes },
     pub ghost placed: { IsTrue (tree_spec.are_places (length doc.origins) hrefs) },
+    pub ghost own: { IsTrue (tree_spec.are_own doc.nodes hrefs) },
+    pub ghost named: { length declared ≡ length doc.nodes },
 }
 
 /// A flag: the element at `place` of resolved content is shown with this class.

@@ -9,8 +9,8 @@ ghost use Rattle.ditaval_rules.specs.Verdict as spec;
 
 use dita_doc::{Action, Attribute, List, Rule, Text, is_same, split_word};
 
-// The names of the attributes that are conditional in every document.
-const CONDITIONAL: [&str; 6] = [
+/// The names of the attributes that are conditional in every document.
+pub const CONDITIONAL: [&str; 6] = [
     "audience",
     "platform",
     "product",

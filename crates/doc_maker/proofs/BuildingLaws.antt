@@ -1,10 +1,11 @@
 -- Content with a hole: what is put one after the other, and where hrefs were written.
-use Rattle.std.specs.Prelude.{◌≡◌, ◌+◌, ◌<◌, ℕ, List}
+use Rattle.std.specs.Prelude.{◌≡◌, ◌+◌, ◌<◌, ℕ, Bool, true, false, List, if◌then◌else◌}
 use Rattle.std.proofs.Common.{refl, sym, ◌∙◌, ap, ap₂, arith}
 use Rattle.dita_doc.specs.Tree as tree
-use Rattle.dita_doc.specs.Tree.{Content}
+use Rattle.dita_doc.specs.Tree.{Content, has_href}
+use Rattle.dita_doc.specs.declared.doc.Attribute.{Attribute}
 use Rattle.map_spec.specs.Written.{Element, Written, End, Chars, Node, side_by_side, written_in}
-use Rattle.doc_maker.specs.Building.{Building, Top, Within, behind, closed, depth, filled, nothing, opened, own_hrefs, whole}
+use Rattle.doc_maker.specs.Building.{Building, Top, Within, behind, closed, depth, filled, href_written, nothing, opened, own_hrefs, whole}
 
 -- nothing more behind nodes
 pub beside_end : (nodes : Written) → side_by_side nodes End ≡ nodes
@@ -69,6 +70,14 @@ top_of_all (Top content) was same none = ap Top (sym (beside_end content) ∙ sa
 top_of_all (Within outer element content) was same none = absurd (omega arith)
 
 -- Hrefs that were written where their elements were
+
+-- an href of the element's own document is written there, whether there is one or not
+pub href_own : (attributes : List Attribute) (doc : List ℕ) → href_written attributes doc doc ≡ doc
+href_own attributes doc = by_test (has_href attributes)
+  where
+    by_test : (test : Bool) → (if test then doc else doc) ≡ doc
+    by_test true = refl
+    by_test false = refl
 
 pub own_beside : (nodes more : Written)
     → own_hrefs (side_by_side nodes more) ≡ side_by_side (own_hrefs nodes) (own_hrefs more)

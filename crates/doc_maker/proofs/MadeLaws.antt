@@ -1,5 +1,5 @@
 -- Documents in the making: what is put, opened and closed.
-use Rattle.std.specs.Prelude.{◌≡◌, ◌+◌, ◌<◌, ◌≤◌, ℕ, zero, suc, true, List, [], ◌∷◌, ◌++◌, length, take, drop, nat_lt}
+use Rattle.std.specs.Prelude.{◌≡◌, ◌+◌, ◌<◌, ◌≤◌, ◌==◌, ◌||◌, ℕ, zero, suc, true, List, [], ◌∷◌, ◌++◌, length, take, drop, nat_lt}
 use Rattle.std.proofs.Common.{refl, sym, ◌∙◌, ap, subst, arith, append_assoc, length-append, get_or, set}
 use Rattle.std.proofs.lemmas.Bool.{and_parts, ltb-true, lt-ltb, false≢true}
 use Rattle.std.proofs.lemmas.List.{append-nil, take_at, drop_at}
@@ -7,7 +7,7 @@ use Rattle.dita_doc.specs.declared.doc.Node.{Node}
 use Rattle.dita_doc.specs.declared.doc.NodeKind.{NodeKind}
 use Rattle.dita_doc.specs.declared.doc.NodeKind.TheVariants as kinds
 use Rattle.dita_doc.specs.Siblings.{joined}
-use Rattle.dita_doc.specs.Tree.{Content, End, Chars, Element, size_of, nodes_of, content_of, element_node, is_element, ArePreorder, are_placed, are_places}
+use Rattle.dita_doc.specs.Tree.{Content, End, Chars, Element, size_of, nodes_of, content_of, element_node, is_element, ArePreorder, are_own, are_placed, are_places, has_href}
 use Rattle.dita_doc.proofs.TreeLaws.{content_of_nodes, length_nodes, preorder_of_content}
 use Rattle.doc_maker.specs.Made.{AreOpen, begins_element, changed_at, ending, with_end}
 
@@ -278,3 +278,25 @@ places_among_more count more (place ∷ places) grows placed =
     let parts = and_parts (nat_lt place count) (are_places count places) placed in
     let below : place < more = omega (arith, ltb-true place count parts.0) in
     rw (lt-ltb place more below, places_among_more count more places grows parts.1) refl
+
+-- Hrefs that stand where their nodes do
+
+pub own_push : (nodes : List Node) (hrefs : List ℕ) (node : Node) (href : ℕ) → length hrefs ≡ length nodes
+    → are_own nodes hrefs ≡ true → (has_href node.attributes || node.origin == href) ≡ true
+    → are_own (nodes ++ node ∷ []) (hrefs ++ href ∷ []) ≡ true
+own_push [] [] node href each own is = rw is refl
+own_push [] (other ∷ hrefs) node href each own is = absurd (omega arith)
+own_push (first ∷ nodes) [] node href each own is = absurd (omega arith)
+own_push (first ∷ nodes) (other ∷ hrefs) node href each own is =
+    let parts = and_parts (has_href first.attributes || first.origin == other) (are_own nodes hrefs) own in
+    rw (parts.0, own_push nodes hrefs node href (omega arith) parts.1 is) refl
+
+pub own_ended : (end place : ℕ) (nodes : List Node) (hrefs : List ℕ) → are_own nodes hrefs ≡ true
+    → are_own (changed_at place (ending end) nodes) hrefs ≡ true
+own_ended end place [] hrefs own = own
+own_ended end zero (node ∷ nodes) [] own = own
+own_ended end zero (node ∷ nodes) (href ∷ hrefs) own = own
+own_ended end (suc place) (node ∷ nodes) [] own = own
+own_ended end (suc place) (node ∷ nodes) (href ∷ hrefs) own =
+    let parts = and_parts (has_href node.attributes || node.origin == href) (are_own nodes hrefs) own in
+    rw (parts.0, own_ended end place nodes hrefs parts.1) refl

@@ -1,11 +1,12 @@
 -- The maker's fields: what each call makes of them, and what that is as content with a hole.
-use Rattle.std.specs.Prelude.{◌≡◌, ◌+◌, ◌-◌, ◌^◌, ◌<◌, ◌≤◌, ℕ, zero, suc, true, List, [], ◌∷◌, ◌++◌, Result, Ok, Err, Some, OnErr, length, take, nat_lt, reverse, slice_get, unwrap_or}
+use Rattle.std.specs.Prelude.{◌≡◌, ◌+◌, ◌-◌, ◌^◌, ◌<◌, ◌≤◌, ◌==◌, ◌||◌, ℕ, zero, suc, true, List, [], ◌∷◌, ◌++◌, Result, Ok, Err, Some, OnErr, length, take, nat_lt, reverse, slice_get, unwrap_or}
 use Rattle.std.proofs.Common.{refl, sym, ◌∙◌, ap, ap₂, subst, arith, length-append}
 use Rattle.std.proofs.lemmas.Bool.{and_parts, ltb-true}
+use Rattle.std.proofs.lemmas.Bool.Decides.{nat_tests}
 use Rattle.std.proofs.lemmas.List.{append-nil, length-reverse, length_push, reverse-append, take_at}
 use Rattle.std.proofs.lemmas.Option.{slice_get_within}
 use Rattle.dita_doc.specs.Tree as tree
-use Rattle.dita_doc.specs.Tree.{ArePreorder, are_places, chars_node, content_of, element_node, nodes_of, tree_of}
+use Rattle.dita_doc.specs.Tree.{ArePreorder, are_places, chars_node, content_of, element_node, has_href, nodes_of, tree_of}
 use Rattle.dita_doc.specs.declared.doc.Attribute.{Attribute}
 use Rattle.dita_doc.specs.declared.doc.Node.{Node}
 use Rattle.dita_doc.specs.declared.doc.NodeKind.TheVariants as kinds
@@ -14,9 +15,12 @@ use Rattle.readers.specs.Named.{name_at, named}
 use Rattle.doc_maker.specs.Building.{Top, Within, behind, closed, count, depth, own_hrefs}
 use Rattle.doc_maker.specs.Made.{AreOpen, IsMade, Made, building, building_of, element_of, ending, href_home, made_of, with_end, written_from}
 use Rattle.doc_maker.specs.Origins.{Longer}
-use Rattle.doc_maker.proofs.MadeLaws.{length-changed, open_closed, open_element, open_inside, open_leaf, placed_among_more, placed_ended, placed_push, places_among_more, places_push}
+use Rattle.doc_maker.proofs.MadeLaws.{length-changed, open_closed, open_element, open_inside, open_leaf, own_ended, own_push, placed_among_more, placed_ended, placed_push, places_among_more, places_push}
 use Rattle.doc_maker.proofs.OriginLaws.{last_of_pushed, named_still}
 use Rattle.doc_maker.proofs.SeenLaws.{AreAlike, building_alike, building_closed, building_count, building_depth, building_more, building_opened, named_own, top_preorder, top_written}
+
+abbrev Declared : Type 0
+Declared = List (List (List ℕ))
 
 -- Names and hrefs stay
 
@@ -46,8 +50,8 @@ alike names longer hrefs all more grown among is = record {
 }
 
 -- the content is the same with more names and hrefs
-seen_still : (names longer : List (List ℕ)) (nodes : List Node) (hrefs all more opened : List ℕ)
-    → Longer names longer → IsMade (made_of names nodes hrefs opened) → all ≡ hrefs ++ more
+seen_still : {declared : Declared} (names longer : List (List ℕ)) (nodes : List Node) (hrefs all more opened : List ℕ)
+    → Longer names longer → IsMade (made_of names nodes hrefs declared opened) → all ≡ hrefs ++ more
     → building_of longer all nodes (reverse opened) ≡ building_of names hrefs nodes (reverse opened)
 seen_still names longer nodes hrefs all more opened grown made is =
     building_alike names longer hrefs all (length names) (length hrefs)
@@ -58,8 +62,9 @@ longer_length : (names longer : List (List ℕ)) → Longer names longer → len
 longer_length names longer grown = omega (arith, ap length grown.is, length-append names grown.more)
 
 -- there are more names
-pub names_made : (names longer : List (List ℕ)) (nodes : List Node) (hrefs opened : List ℕ) → Longer names longer
-    → IsMade (made_of names nodes hrefs opened) → IsMade (made_of longer nodes hrefs opened)
+pub names_made : {declared : Declared}
+    (names longer : List (List ℕ)) (nodes : List Node) (hrefs opened : List ℕ) → Longer names longer
+    → IsMade (made_of names nodes hrefs declared opened) → IsMade (made_of longer nodes hrefs declared opened)
 names_made names longer nodes hrefs opened grown made =
     let grows = longer_length names longer grown in
     record {
@@ -68,18 +73,23 @@ names_made names longer nodes hrefs opened grown made =
       placed = placed_among_more (length names) (length longer) nodes grows made.placed;
       each = made.each;
       hrefs = places_among_more (length names) (length longer) hrefs grows made.hrefs;
+      own = made.own;
+      named = made.named;
     }
 
-names_seen : (names longer : List (List ℕ)) (nodes : List Node) (hrefs opened : List ℕ) → Longer names longer
-    → IsMade (made_of names nodes hrefs opened)
+names_seen : {declared : Declared}
+    (names longer : List (List ℕ)) (nodes : List Node) (hrefs opened : List ℕ) → Longer names longer
+    → IsMade (made_of names nodes hrefs declared opened)
     → building_of longer hrefs nodes (reverse opened) ≡ building_of names hrefs nodes (reverse opened)
 names_seen names longer nodes hrefs opened grown made =
     seen_still names longer nodes hrefs hrefs [] opened grown made (sym (append-nil hrefs))
 
 -- and so nothing was put
-pub names_still : (names longer : List (List ℕ)) (nodes : List Node) (hrefs opened : List ℕ) (was : Made)
-    → Longer names longer → IsMade (made_of names nodes hrefs opened) → made_of names nodes hrefs opened ≡ was
-    → building (made_of longer nodes hrefs opened) ≡ building was
+pub names_still : {declared : Declared}
+    (names longer : List (List ℕ)) (nodes : List Node) (hrefs opened : List ℕ) (was : Made)
+    → Longer names longer → IsMade (made_of names nodes hrefs declared opened)
+    → made_of names nodes hrefs declared opened ≡ was
+    → building (made_of longer nodes hrefs declared opened) ≡ building was
 names_still names longer nodes hrefs opened was grown made view =
     names_seen names longer nodes hrefs opened grown made ∙ ap building view
 
@@ -90,6 +100,9 @@ on_err (Err stop) holds = holds
 name_there : (names : List (List ℕ)) (place : ℕ) (name : List ℕ) → slice_get names place ≡ Some name
     → name_at names place ≡ name
 name_there names place name is = ap (λ found. unwrap_or found []) is
+
+same_number : (n : ℕ) → (n == n) ≡ true
+same_number n = grind (arith, nat_tests)
 
 -- A text is put
 
@@ -110,25 +123,28 @@ pub chars_put : (nodes now : List Node) (text : List ℕ) (attributes : List Att
 chars_put nodes now text attributes origin end none is =
     is ∙ ap (λ (a : List Attribute). nodes ++ text_node text a origin end ∷ []) none
 
-pub chars_made : (names : List (List ℕ)) (nodes now : List Node) (hrefs all opened : List ℕ)
-    (text doc : List ℕ) (origin end : ℕ) → IsMade (made_of names nodes hrefs opened)
+pub chars_made : {declared : Declared} (names : List (List ℕ)) (nodes now : List Node) (hrefs all opened : List ℕ)
+    (lists : Declared) (text doc : List ℕ) (origin end : ℕ) → IsMade (made_of names nodes hrefs declared opened)
     → slice_get names origin ≡ Some doc → end ≡ length nodes + 1 → end < 2 ^ 32
     → now ≡ nodes ++ chars_node text origin 0 end ∷ [] → all ≡ hrefs ++ origin ∷ []
-    → IsMade (made_of names now all opened)
-chars_made names nodes now hrefs all opened text doc origin end made there at room is are =
+    → lists ≡ declared ++ [] ∷ [] → IsMade (made_of names now all lists opened)
+chars_made {declared} names nodes now hrefs all opened lists text doc origin end made there at room is are listed =
     let node = chars_node text origin 0 end in
     let below = slice_get_within names origin doc there in
-    rw (is, are) (record {
+    rw (is, are, listed) (record {
       tree = open_leaf (tree.Chars text origin 0 tree.End) node nodes (reverse opened)
           (ap (λ e. chars_node text origin 0 e ∷ []) (sym at)) made.tree;
       small = omega (arith, length_push nodes node, at, room);
       placed = placed_push (length names) nodes node made.placed below;
       each = omega (arith, length_push nodes node, length_push hrefs origin, made.each);
       hrefs = places_push (length names) hrefs origin made.hrefs below;
+      own = own_push nodes hrefs node origin made.each made.own (same_number origin);
+      named = omega (arith, length_push nodes node, length_push declared [], made.named);
     })
 
-pub chars_seen : (names longer : List (List ℕ)) (nodes now : List Node) (hrefs all opened : List ℕ)
-    (text doc : List ℕ) (origin end : ℕ) → Longer names longer → IsMade (made_of names nodes hrefs opened)
+pub chars_seen : {declared : Declared}
+    (names longer : List (List ℕ)) (nodes now : List Node) (hrefs all opened : List ℕ)
+    (text doc : List ℕ) (origin end : ℕ) → Longer names longer → IsMade (made_of names nodes hrefs declared opened)
     → slice_get longer origin ≡ Some doc → end ≡ length nodes + 1
     → now ≡ nodes ++ chars_node text origin 0 end ∷ [] → all ≡ hrefs ++ origin ∷ []
     → building_of longer all now (reverse opened)
@@ -148,26 +164,32 @@ places_pushed : (opened places : List ℕ) (place : ℕ) → places ≡ opened +
     → reverse places ≡ place ∷ reverse opened
 places_pushed opened places place is = ap reverse is ∙ reverse-append opened (place ∷ [])
 
-pub open_made : (names : List (List ℕ)) (nodes now : List Node) (hrefs all opened places : List ℕ)
-    (name : List ℕ) (attributes : List Attribute) (origin line end place href : ℕ) (doc home : List ℕ)
-    → IsMade (made_of names nodes hrefs opened) → slice_get names origin ≡ Some doc → slice_get names href ≡ Some home
+pub open_made : {declared : Declared} (names : List (List ℕ)) (nodes now : List Node)
+    (hrefs all opened places : List ℕ) (lists : Declared) (names_there : List (List ℕ)) (name : List ℕ)
+    (attributes : List Attribute) (origin line end place href : ℕ) (doc home : List ℕ)
+    → IsMade (made_of names nodes hrefs declared opened) → slice_get names origin ≡ Some doc
+    → slice_get names href ≡ Some home
     → end ≡ length nodes + 1 → end < 2 ^ 32 → place ≡ length nodes
     → now ≡ nodes ++ element_node name attributes origin line end ∷ [] → all ≡ hrefs ++ href ∷ []
-    → places ≡ opened ++ place ∷ [] → IsMade (made_of names now all places)
-open_made names nodes now hrefs all opened places name attributes origin line end place href doc home made there at_home
-    at room here is are pushed =
+    → places ≡ opened ++ place ∷ [] → (has_href attributes || origin == href) ≡ true
+    → lists ≡ declared ++ names_there ∷ [] → IsMade (made_of names now all lists places)
+open_made {declared} names nodes now hrefs all opened places lists names_there name attributes origin line end place
+    href doc home made there at_home at room here is are pushed own listed =
     let node = element_node name attributes origin line end in
-    rw (is, are, places_pushed opened places place pushed) (record {
+    rw (is, are, places_pushed opened places place pushed, listed) (record {
       tree = open_element node nodes (reverse opened) place here refl made.tree;
       small = omega (arith, length_push nodes node, at, room);
       placed = placed_push (length names) nodes node made.placed (slice_get_within names origin doc there);
       each = omega (arith, length_push nodes node, length_push hrefs href, made.each);
       hrefs = places_push (length names) hrefs href made.hrefs (slice_get_within names href home at_home);
+      own = own_push nodes hrefs node href made.each made.own own;
+      named = omega (arith, length_push nodes node, length_push declared names_there, made.named);
     })
 
-pub open_seen : (names longer : List (List ℕ)) (nodes now : List Node) (hrefs all opened places : List ℕ)
+pub open_seen : {declared : Declared}
+    (names longer : List (List ℕ)) (nodes now : List Node) (hrefs all opened places : List ℕ)
     (name : List ℕ) (attributes : List Attribute) (origin line end place href : ℕ) (doc home : List ℕ)
-    → Longer names longer → IsMade (made_of names nodes hrefs opened)
+    → Longer names longer → IsMade (made_of names nodes hrefs declared opened)
     → slice_get longer origin ≡ Some doc → slice_get longer href ≡ Some home → place ≡ length nodes
     → now ≡ nodes ++ element_node name attributes origin line end ∷ [] → all ≡ hrefs ++ href ∷ []
     → places ≡ opened ++ place ∷ [] → building_of longer all now (reverse places)
@@ -201,9 +223,10 @@ taken_again opened pushed left place count is of_all rest =
 popped : (opened outer : List ℕ) (place : ℕ) → opened ≡ outer ++ place ∷ [] → reverse opened ≡ place ∷ reverse outer
 popped opened outer place is = places_pushed outer opened place is
 
-pub close_made : (names : List (List ℕ)) (nodes : List Node) (hrefs opened outer : List ℕ) (place : ℕ)
-    → IsMade (made_of names nodes hrefs opened) → opened ≡ outer ++ place ∷ []
-    → IsMade (made_of names (with_end place nodes) hrefs outer)
+pub close_made : {declared : Declared}
+    (names : List (List ℕ)) (nodes : List Node) (hrefs opened outer : List ℕ) (place : ℕ)
+    → IsMade (made_of names nodes hrefs declared opened) → opened ≡ outer ++ place ∷ []
+    → IsMade (made_of names (with_end place nodes) hrefs declared outer)
 close_made names nodes hrefs opened outer place made is =
     let still = length-changed nodes place (ending (length nodes)) in
     record {
@@ -213,10 +236,13 @@ close_made names nodes hrefs opened outer place made is =
       placed = placed_ended (length names) (length nodes) place nodes made.placed;
       each = made.each ∙ sym still;
       hrefs = made.hrefs;
+      own = own_ended (length nodes) place nodes hrefs made.own;
+      named = made.named ∙ sym still;
     }
 
-pub close_seen : (names : List (List ℕ)) (nodes : List Node) (hrefs opened outer : List ℕ) (place : ℕ)
-    → IsMade (made_of names nodes hrefs opened) → opened ≡ outer ++ place ∷ []
+pub close_seen : {declared : Declared}
+    (names : List (List ℕ)) (nodes : List Node) (hrefs opened outer : List ℕ) (place : ℕ)
+    → IsMade (made_of names nodes hrefs declared opened) → opened ≡ outer ++ place ∷ []
     → building_of names hrefs (with_end place nodes) (reverse outer)
     ≡ closed (building_of names hrefs nodes (reverse opened))
 close_seen names nodes hrefs opened outer place made is =
@@ -225,8 +251,9 @@ close_seen names nodes hrefs opened outer place made is =
     ∙ ap (λ ps. closed (building_of names hrefs nodes ps)) (sym places)
 
 -- and stands among the nodes
-pub close_inside : (names : List (List ℕ)) (nodes : List Node) (hrefs opened outer : List ℕ) (place : ℕ)
-    → IsMade (made_of names nodes hrefs opened) → opened ≡ outer ++ place ∷ [] → place < length nodes
+pub close_inside : {declared : Declared}
+    (names : List (List ℕ)) (nodes : List Node) (hrefs opened outer : List ℕ) (place : ℕ)
+    → IsMade (made_of names nodes hrefs declared opened) → opened ≡ outer ++ place ∷ [] → place < length nodes
 close_inside names nodes hrefs opened outer place made is =
     open_inside nodes place (reverse outer) (subst (AreOpen nodes) (popped opened outer place is) made.tree)
 
@@ -240,8 +267,8 @@ close_none names nodes hrefs opened outer is none =
 
 -- Counts
 
-pub count_seen : (names : List (List ℕ)) (nodes : List Node) (hrefs opened : List ℕ)
-    → IsMade (made_of names nodes hrefs opened)
+pub count_seen : {declared : Declared} (names : List (List ℕ)) (nodes : List Node) (hrefs opened : List ℕ)
+    → IsMade (made_of names nodes hrefs declared opened)
     → length nodes ≡ count (building_of names hrefs nodes (reverse opened))
 count_seen names nodes hrefs opened made = sym (building_count names hrefs nodes (reverse opened) made.tree)
 
@@ -252,8 +279,9 @@ depth_seen names nodes hrefs opened =
 
 -- All elements are closed
 
-pub finish_tree : (names : List (List ℕ)) (nodes : List Node) (hrefs opened : List ℕ) (content : Written)
-    → IsMade (made_of names nodes hrefs opened) → building_of names hrefs nodes (reverse opened) ≡ Top content
+pub finish_tree : {declared : Declared}
+    (names : List (List ℕ)) (nodes : List Node) (hrefs opened : List ℕ) (content : Written)
+    → IsMade (made_of names nodes hrefs declared opened) → building_of names hrefs nodes (reverse opened) ≡ Top content
     → ArePreorder nodes 0
 finish_tree names nodes hrefs opened content made is =
     top_preorder names hrefs nodes (reverse opened) content made.tree is

@@ -1,6 +1,7 @@
 -- Content with a hole, into which more is put: content at the top, or within an element that is open. Behind what
 -- stands there is the hole, and nothing stands behind it.
-use Rattle.std.specs.Prelude.{◌+◌, ℕ, List}
+use Rattle.std.specs.Prelude.{◌+◌, ℕ, List, if◌then◌else◌}
+use Rattle.dita_doc.specs.Tree.{has_href}
 use Rattle.dita_doc.specs.declared.doc.Attribute.{Attribute}
 use Rattle.map_spec.specs.Written.{Element, Written, End, Chars, Node, side_by_side, size}
 
@@ -21,6 +22,10 @@ behind (Within outer element content) more = Within outer element (side_by_side 
 abbrev pub element : List ℕ → List Attribute → List ℕ → ℕ → List ℕ → Element
 element name attributes doc line href_doc =
     record { name = name; attributes = attributes; doc = doc; line = line; href_doc = href_doc }
+
+-- the document in which the href of an element of these attributes was written: the element's own if it has no href
+abbrev pub href_written : List Attribute → List ℕ → List ℕ → List ℕ
+href_written attributes doc href_doc = if has_href attributes then href_doc else doc
 
 -- an element is opened, and the hole stands in it
 abbrev pub opened : Building → Element → Building

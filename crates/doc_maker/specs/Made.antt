@@ -1,8 +1,9 @@
--- A document in the making: the names of its origins, the nodes that were put, for each the origin of its href, and the
--- places of the elements that are open, the innermost first.
+-- A document in the making: the names of its origins, the nodes that were put, for each the origin of its href and the
+-- names of the conditional attributes that are declared for it, and the places of the elements that are open, the
+-- innermost first.
 use Rattle.std.specs.Prelude.{◌≡◌, ◌+◌, ◌<◌, ℕ, zero, suc, Bool, false, IsTrue, List, [], ◌∷◌, length, take, drop, reverse, slice_get, unwrap_or}
 use Rattle.dita_doc.specs.Tree as tree
-use Rattle.dita_doc.specs.Tree.{Content, ArePreorder, are_placed, are_places, content_of, is_element, node_limit, size_of, tree_of}
+use Rattle.dita_doc.specs.Tree.{Content, ArePreorder, are_own, are_placed, are_places, content_of, is_element, node_limit, size_of, tree_of}
 use Rattle.dita_doc.specs.declared.content.Resolved.{Resolved}
 use Rattle.dita_doc.specs.declared.doc.Node as doc
 use Rattle.map_spec.specs.Written.{Element, Written, End, Chars, Node}
@@ -13,11 +14,18 @@ pub record Made : Type 0 where
   pub names : List (List ℕ)
   pub nodes : List doc.Node
   pub hrefs : List ℕ
+  pub declared : List (List (List ℕ))
   pub opened : List ℕ
 
 -- the same by the places of the open elements with the innermost last
-abbrev pub made_of : List (List ℕ) → List doc.Node → List ℕ → List ℕ → Made
-made_of names nodes hrefs places = record { names = names; nodes = nodes; hrefs = hrefs; opened = reverse places }
+abbrev pub made_of : List (List ℕ) → List doc.Node → List ℕ → List (List (List ℕ)) → List ℕ → Made
+made_of names nodes hrefs declared places = record {
+  names = names;
+  nodes = nodes;
+  hrefs = hrefs;
+  declared = declared;
+  opened = reverse places;
+}
 
 -- the first of some nodes is an element
 abbrev pub begins_element : List doc.Node → Bool
@@ -37,6 +45,8 @@ pub record IsMade (made : Made) : Type 0 where
   pub placed : IsTrue (are_placed (length made.names) made.nodes)
   pub each : length made.hrefs ≡ length made.nodes
   pub hrefs : IsTrue (are_places (length made.names) made.hrefs)
+  pub own : IsTrue (are_own made.nodes made.hrefs)
+  pub named : length made.declared ≡ length made.nodes
 
 -- a change of the node at a place
 abbrev pub changed_at : ℕ → (doc.Node → doc.Node) → List doc.Node → List doc.Node
@@ -100,3 +110,7 @@ building_of names hrefs nodes (place ∷ outer) = Within (building_of names href
 
 abbrev pub building : Made → Building
 building made = building_of made.names made.hrefs made.nodes made.opened
+
+-- for each node that was put, the names that are declared for it
+abbrev pub declared : Made → List (List (List ℕ))
+declared made = made.declared

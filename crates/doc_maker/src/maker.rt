@@ -1,6 +1,7 @@
 //! The maker of documents.
 
-ghost use Rattle.std.specs.Prelude.{◌≡◌, ◌+◌, ◌<◌, ◌^◌, [], ◌∷◌, ◌++◌, length, IfOk, OnErr, OnOk};
+ghost use Rattle.std.specs.Prelude.{◌≡◌, ◌+◌, ◌<◌, ◌==◌, ◌^◌, ◌||◌, ℕ, List, [], ◌∷◌, ◌++◌, Some, length, slice_get, IfOk, IsTrue, OnErr, OnOk};
+ghost use Rattle.dita_doc.specs.Tree as tree_spec;
 ghost use Rattle.doc_maker.specs.Building as spec;
 ghost use Rattle.doc_maker.specs.Made as made_spec;
 ghost use Rattle.doc_maker.specs.Origins as origins_spec;
@@ -21,8 +22,10 @@ const NODE_LIMIT: usize = u32::MAX as usize;
 pub struct DocMaker {
     origins: Origins,
     nodes: Vec<Node>,
-    // For each node the origin in which its href was written.
+    // For each node the origin in which its href was written, its own if it has no href.
     hrefs: Vec<u32>,
+    // For each node the names of the conditional attributes that are declared for it.
+    declared: Vec<List<Text>>,
     // The places of the open elements, the innermost last.
     opened: Vec<u32>,
 }
@@ -32,20 +35,23 @@ impl Model for DocMaker {
 
     ghost Value = { fields_spec.Made };
 
-    ghost view = { λ m. fields_spec.made_of m.origins m.nodes.items m.hrefs.items m.opened.items };
+    ghost view = { λ m. fields_spec.made_of m.origins m.nodes.items m.hrefs.items
+        m.declared.items m.opened.items };
 
-    ghost invariant = { λ m. fields_spec.IsMade
-        (fields_spec.made_of m.origins m.nodes.items m.hrefs.items m.opened.items) };
+    ghost invariant = { λ m. fields_spec.IsMade (fields_spec.made_of m.origins m.nodes.items
+        m.hrefs.items m.declared.items m.opened.items) };
 }
 
 impl DocMaker {
     pub fn new(alloc: Global) -> Self
-        ensures { made_spec.building result ≡ spec.nothing }
+        ensures nothing { made_spec.building result ≡ spec.nothing }
+        ensures declared { made_spec.declared result ≡ [] }
     {
         DocMaker {
             origins: Origins::new(alloc),
             nodes: Vec::new(alloc),
             hrefs: Vec::new(alloc),
+            declared: Vec::new(alloc),
             opened: Vec::new(alloc),
         }
     }
@@ -64,13 +70,16 @@ impl DocMaker {
         self.opened.len()
     }
 
-    /// Puts a text that was written in the document of this name. It is out of memory if there are
-    /// 2^32 - 1 nodes.
+    /// Puts a text that was written in the document of this name. No names are declared for it. It
+    /// is out of memory if there are 2^32 - 1 nodes.
     pub fn put_chars(&mut self, alloc: Global, text: Text, origin: &Name) -> Result<(), NoMemory>
         ensures put { OnOk result (made_spec.building self.new
             ≡ spec.behind (made_spec.building self.old)
             (written_spec.Chars text origin.now written_spec.End)) }
+        ensures declared { OnOk result (made_spec.declared self.new
+            ≡ made_spec.declared self.old ++ [] ∷ []) }
         ensures failed { OnErr result (made_spec.building self.new ≡ made_spec.building self.old) }
+        ensures kept { OnErr result (made_spec.declared self.new ≡ made_spec.declared self.old) }
     {
         let home = self.origins.place(origin)?;
         let end = next_end(self.nodes.len())?;
@@ -82,12 +91,22 @@ impl DocMaker {
             line: 0,
             end,
         };
-        put(&mut self.nodes, &mut self.hrefs, node, home)?;
+        let names = List::new(alloc);
+        put(
+            &mut self.nodes,
+            &mut self.hrefs,
+            &mut self.declared,
+            node,
+            home,
+            names,
+        )?;
         Ok(())
     }
 
     /// Opens an element of this name, which was written in a line of the document `origin`, and its
-    /// href in the document `href_doc`. It is out of memory if there are 2^32 - 1 nodes.
+    /// href in the document `href_doc`, which is not looked at if the element has no href. These
+    /// names of conditional attributes are declared for it. It is out of memory if there are
+    /// 2^32 - 1 nodes.
     pub fn open(
         &mut self,
         name: Text,
@@ -95,16 +114,18 @@ impl DocMaker {
         origin: &Name,
         line: u32,
         href_doc: &Name,
+        declared: List<Text>,
     ) -> Result<(), NoMemory>
         ensures opened { OnOk result (made_spec.building self.new
-            ≡ spec.opened (made_spec.building self.old)
-            (spec.element name attributes origin.now line href_doc.now)) }
+            ≡ spec.opened (made_spec.building self.old) (spec.element name attributes origin.now
+            line (spec.href_written attributes origin.now href_doc.now))) }
+        ensures declared { OnOk result (made_spec.declared self.new
+            ≡ made_spec.declared self.old ++ declared ∷ []) }
         ensures failed { OnErr result (made_spec.building self.new ≡ made_spec.building self.old) }
+        ensures kept { OnErr result (made_spec.declared self.new ≡ made_spec.declared self.old) }
     {
         let home = self.origins.place(origin)?;
-        let href = self.origins.place(href_doc)?;
-        let place = self.nodes.len();
-        let end = next_end(place)?;
+        let end = next_end(self.nodes.len())?;
         let node = Node {
             kind: NodeKind::Element,
             text: name,
@@ -113,8 +134,16 @@ impl DocMaker {
             line,
             end,
         };
+        let href = href_place(&mut self.origins, &node, href_doc)?;
         self.opened.push(end - 1)?;
-        match put(&mut self.nodes, &mut self.hrefs, node, href) {
+        match put(
+            &mut self.nodes,
+            &mut self.hrefs,
+            &mut self.declared,
+            node,
+            href,
+            declared,
+        ) {
             Ok(()) => Ok(()),
             Err(stop) => {
                 self.opened.pop();
@@ -125,7 +154,8 @@ impl DocMaker {
 
     /// Closes the element opened last that is open, if one is. It takes no memory.
     pub fn close(&mut self)
-        ensures { made_spec.building self.new ≡ spec.closed (made_spec.building self.old) }
+        ensures closed { made_spec.building self.new ≡ spec.closed (made_spec.building self.old) }
+        ensures declared { made_spec.declared self.new ≡ made_spec.declared self.old }
     {
         if let Some(place) = self.opened.pop() {
             set_end(&mut self.nodes, place as usize);
@@ -151,6 +181,7 @@ impl DocMaker {
     pub fn finish_resolved(self, count: u32, faults: List<Fault>) -> Resolved
         ensures content { made_spec.resolved_tree result
             ≡ spec.whole (made_spec.building self) }
+        ensures declared { result.declared ≡ made_spec.declared self }
         ensures once { origins_spec.EachOnce result.doc.origins }
         ensures count { result.count ≡ count }
         ensures faults { result.faults ≡ faults }
@@ -161,6 +192,7 @@ impl DocMaker {
             origins,
             nodes,
             hrefs,
+            declared,
             ..
         } = maker;
         Resolved {
@@ -169,14 +201,16 @@ impl DocMaker {
                 nodes: List::from_vec(nodes),
             },
             hrefs: List::from_vec(hrefs),
+            declared: List::from_vec(declared),
             count,
             faults,
         }
     }
 
     fn close_all(&mut self)
-        ensures { made_spec.building self.new
+        ensures top { made_spec.building self.new
             ≡ spec.Top (spec.whole (made_spec.building self.old)) }
+        ensures declared { made_spec.declared self.new ≡ made_spec.declared self.old }
     {
         while self.depth() > 0 {
             self.close();
@@ -195,8 +229,57 @@ fn next_end(count: usize) -> Result<u32, NoMemory>
     Ok(count as u32 + 1)
 }
 
-// Puts a node behind the others, with the origin of its href. Without memory nothing is put.
-fn put(nodes: &mut Vec<Node>, hrefs: &mut Vec<u32>, node: Node, href: u32) -> Result<(), NoMemory>
+// The place of the document in which a node's href was written: that of the node's own if it has no
+// href.
+fn href_place(origins: &mut Origins, node: &Node, href_doc: &Name) -> Result<u32, NoMemory>
+    ensures place { (doc : List ℕ) → slice_get origins.old node.now.origin ≡ Some doc
+        → IfOk result (λ place. slice_get origins.new place
+        ≡ Some (spec.href_written node.now.attributes doc href_doc.now)) }
+    ensures own { IfOk result (λ place. IsTrue (tree_spec.has_href node.now.attributes
+        || node.now.origin == place)) }
+    ensures grows { origins_spec.Longer origins.old origins.new }
+{
+    if node.value_of("href").is_some() {
+        origins.place(href_doc)
+    } else {
+        Ok(node.origin)
+    }
+}
+
+// Puts a node behind the others, with the origin of its href and the names that are declared for
+// it. Without memory nothing is put.
+fn put(
+    nodes: &mut Vec<Node>,
+    hrefs: &mut Vec<u32>,
+    declared: &mut Vec<List<Text>>,
+    node: Node,
+    href: u32,
+    names: List<Text>,
+) -> Result<(), NoMemory>
+    ensures nodes { OnOk result (nodes.new.items ≡ nodes.old.items ++ node ∷ []) }
+    ensures hrefs { OnOk result (hrefs.new.items ≡ hrefs.old.items ++ href ∷ []) }
+    ensures declared { OnOk result (declared.new.items ≡ declared.old.items ++ names ∷ []) }
+    ensures no_nodes { OnErr result (nodes.new.items ≡ nodes.old.items) }
+    ensures no_hrefs { OnErr result (hrefs.new.items ≡ hrefs.old.items) }
+    ensures none_declared { OnErr result (declared.new.items ≡ declared.old.items) }
+{
+    declared.push(names)?;
+    match put_node(nodes, hrefs, node, href) {
+        Ok(()) => Ok(()),
+        Err(stop) => {
+            declared.pop();
+            Err(stop)
+        }
+    }
+}
+
+// The same without the names.
+fn put_node(
+    nodes: &mut Vec<Node>,
+    hrefs: &mut Vec<u32>,
+    node: Node,
+    href: u32,
+) -> Result<(), NoMemory>
     ensures nodes { OnOk result (nodes.new.items ≡ nodes.old.items ++ node ∷ []) }
     ensures hrefs { OnOk result (hrefs.new.items ≡ hrefs.old.items ++ href ∷ []) }
     ensures no_nodes { OnErr result (nodes.new.items ≡ nodes.old.items) }

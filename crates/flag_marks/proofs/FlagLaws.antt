@@ -6,11 +6,8 @@ use Rattle.std.proofs.Common.{refl, ap}
 use Rattle.dita_doc.specs.ClassValue.{value_of, words_of}
 use Rattle.dita_doc.specs.declared.content.Rule.{Rule}
 use Rattle.dita_doc.specs.declared.doc.Attribute.{Attribute}
-use Rattle.dita_doc.specs.declared.doc.Node.{Node}
-use Rattle.dita_doc.specs.declared.doc.NodeKind.{NodeKind}
-use Rattle.dita_doc.specs.declared.doc.NodeKind.TheVariants as kinds
 use Rattle.ditaval_rules.specs.Verdict.{conditional_names, decided, is_default, is_for_attribute, is_for_token, is_grouped, or_else}
-use Rattle.flag_marks.specs.Marks.{at_place, first_of_each, flags, have_flag, is_flag, is_flagging, mark_text, marks_by, marks_from, marks_of_attribute, marks_of_node, marks_of_tokens, marks_of_value}
+use Rattle.flag_marks.specs.Marks.{flags, have_flag, is_flag, is_flagging, mark_text, marks_by, marks_from, marks_of_attribute, marks_of_tokens, marks_of_value}
 
 neither : (a b : Bool) → (a || b) ≡ false → (a ≡ false) × (b ≡ false)
 neither true b none = cc
@@ -75,15 +72,10 @@ lists_none (rules ∷ all) none declared attributes =
     (conditional_names ++ declared))
     (lists_none all each.1 declared attributes)
 
-node_none : (all : List (List Rule)) → list_any have_flag all ≡ false → (place : ℕ) (declared : List (List ℕ))
-    (kind : NodeKind) (attributes : List Attribute) → marks_of_node all place declared kind attributes ≡ []
-node_none all none place declared kinds.Chars attributes = refl
-node_none all none place declared kinds.Element attributes =
-    ap (λ texts. map (at_place place) (first_of_each texts)) (lists_none all none declared attributes)
-
 pub none_from : (all : List (List Rule)) → list_any have_flag all ≡ false → (place : ℕ)
-    (names : List (List (List ℕ))) (nodes : List Node) → marks_from all place names nodes ≡ []
+    (names : List (List (List ℕ))) (nodes : List (Option (List Attribute))) → marks_from all place names nodes ≡ []
 none_from all none place names [] = refl
-none_from all none place [] (node ∷ nodes) = refl
-none_from all none place (declared ∷ names) (node ∷ nodes) =
-    rw (node_none all none place declared node.kind node.attributes) (none_from all none (place + 1) names nodes)
+none_from all none place [] (first ∷ nodes) = refl
+none_from all none place (declared ∷ names) (None ∷ nodes) = none_from all none (place + 1) names nodes
+none_from all none place (declared ∷ names) (Some attributes ∷ nodes) =
+    rw (lists_none all none declared attributes) (none_from all none (place + 1) names nodes)

@@ -1,5 +1,6 @@
 pub mod FlagLaws
 pub mod OnceLaws
 pub mod PlaceLaws
+pub mod ShownLaws
 pub mod TokenLaws
 pub mod WordLaws

@@ -1,5 +1,5 @@
 -- Where the marks of nodes stand.
-use Rattle.std.specs.Prelude.{◌≡◌, ◌+◌, ℕ, suc, true, List, [], ◌∷◌, ◌++◌, map}
+use Rattle.std.specs.Prelude.{◌≡◌, ◌+◌, ℕ, suc, true, List, [], ◌∷◌, ◌++◌, Option, Some, None, map}
 use Rattle.std.specs.List.{All}
 use Rattle.std.proofs.Common.{refl, arith}
 use Rattle.std.proofs.lemmas.List.Elements.{All-append, All-cons, All-head, All-nil, All-tail}
@@ -9,7 +9,7 @@ use Rattle.dita_doc.specs.declared.doc.Attribute.{Attribute}
 use Rattle.dita_doc.specs.declared.doc.Node.{Node}
 use Rattle.dita_doc.specs.declared.doc.NodeKind.{NodeKind}
 use Rattle.dita_doc.specs.declared.doc.NodeKind.TheVariants as kinds
-use Rattle.flag_marks.specs.Marks.{at_place, marks_from, marks_of_element, marks_of_node}
+use Rattle.flag_marks.specs.Marks.{at_place, attributes_at, attributes_of_kind, marks_from, marks_of_element}
 use Rattle.flag_marks.specs.Places.{AreAtElements, RiseFrom, is_element_at, is_element_kind}
 
 -- They rise
@@ -23,19 +23,14 @@ rise_texts : (place : ℕ) (texts : List (List ℕ)) (marks : List Mark) → Ris
 rise_texts place [] marks rise = rise_weaker place marks rise
 rise_texts place (text ∷ texts) marks rise = (omega arith, rise_texts place texts marks rise)
 
-rise_node : (all : List (List Rule)) (place : ℕ) (declared : List (List ℕ)) (kind : NodeKind)
-    (attributes : List Attribute) (marks : List Mark) → RiseFrom (place + 1) marks
-    → RiseFrom place (marks_of_node all place declared kind attributes ++ marks)
-rise_node all place declared kinds.Chars attributes marks rise = rise_weaker place marks rise
-rise_node all place declared kinds.Element attributes marks rise =
-    rise_texts place (marks_of_element all declared attributes) marks rise
-
-rise_from : (all : List (List Rule)) (place : ℕ) (names : List (List (List ℕ))) (nodes : List Node)
-    → RiseFrom place (marks_from all place names nodes)
+rise_from : (all : List (List Rule)) (place : ℕ) (names : List (List (List ℕ)))
+    (nodes : List (Option (List Attribute))) → RiseFrom place (marks_from all place names nodes)
 rise_from all place names [] = tt
-rise_from all place [] (node ∷ nodes) = tt
-rise_from all place (declared ∷ names) (node ∷ nodes) =
-    rise_node all place declared node.kind node.attributes (marks_from all (place + 1) names nodes)
+rise_from all place [] (first ∷ nodes) = tt
+rise_from all place (declared ∷ names) (None ∷ nodes) =
+    rise_weaker place (marks_from all (place + 1) names nodes) (rise_from all (place + 1) names nodes)
+rise_from all place (declared ∷ names) (Some attributes ∷ nodes) =
+    rise_texts place (marks_of_element all declared attributes) (marks_from all (place + 1) names nodes)
     (rise_from all (place + 1) names nodes)
 
 -- They stand at elements
@@ -60,21 +55,23 @@ among_texts place node nodes is (text ∷ texts) =
     All-cons (IsAmong place (node ∷ nodes)) (at_place place text) (map (at_place place) texts)
     (0, omega arith, is) (among_texts place node nodes is texts)
 
-among_node : (all : List (List Rule)) (place : ℕ) (declared : List (List ℕ)) (node : Node) (nodes : List Node)
-    (kind : NodeKind) → node.kind ≡ kind
-    → All (IsAmong place (node ∷ nodes)) (marks_of_node all place declared kind node.attributes)
-among_node all place declared node nodes kinds.Chars is = All-nil (IsAmong place (node ∷ nodes))
-among_node all place declared node nodes kinds.Element is =
-    among_texts place node nodes (rw is refl) (marks_of_element all declared node.attributes)
-
 among_from : (all : List (List Rule)) (place : ℕ) (names : List (List (List ℕ))) (nodes : List Node)
-    → All (IsAmong place nodes) (marks_from all place names nodes)
+    → All (IsAmong place nodes) (marks_from all place names (map attributes_at nodes))
 among_from all place names [] = All-nil (IsAmong place [])
 among_from all place [] (node ∷ nodes) = All-nil (IsAmong place (node ∷ nodes))
-among_from all place (declared ∷ names) (node ∷ nodes) =
-    All-append (IsAmong place (node ∷ nodes)) (marks_of_node all place declared node.kind node.attributes) _
-    (among_node all place declared node nodes node.kind refl)
-    (among_more place node nodes (marks_from all (place + 1) names nodes) (among_from all (place + 1) names nodes))
+among_from all place (declared ∷ names) (node ∷ nodes) = by_kind node.kind refl
+    (among_more place node nodes (marks_from all (place + 1) names (map attributes_at nodes))
+    (among_from all (place + 1) names nodes))
+  where
+    by_kind : (kind : NodeKind) → node.kind ≡ kind
+        → All (IsAmong place (node ∷ nodes)) (marks_from all (place + 1) names (map attributes_at nodes))
+        → All (IsAmong place (node ∷ nodes))
+        (marks_from all place (declared ∷ names) (attributes_of_kind kind node.attributes ∷ map attributes_at nodes))
+    by_kind kinds.Chars is more = more
+    by_kind kinds.Element is more =
+        All-append (IsAmong place (node ∷ nodes))
+        (map (at_place place) (marks_of_element all declared node.attributes)) _
+        (among_texts place node nodes (rw is refl) (marks_of_element all declared node.attributes)) more
 
 each_at : (nodes : List Node) (marks : List Mark) → All (IsAmong 0 nodes) marks
     → All (λ (mark : Mark). is_element_at nodes mark.place ≡ true) marks
@@ -87,8 +84,8 @@ each_at nodes (mark ∷ marks) each =
 
 -- the marks of a body stand at its elements, by rising places
 pub marks_at_elements : (all : List (List Rule)) (names : List (List (List ℕ))) (nodes : List Node)
-    → AreAtElements nodes (marks_from all 0 names nodes)
+    → AreAtElements nodes (marks_from all 0 names (map attributes_at nodes))
 marks_at_elements all names nodes = record {
-  each = each_at nodes (marks_from all 0 names nodes) (among_from all 0 names nodes);
-  rising = rise_from all 0 names nodes;
+  each = each_at nodes (marks_from all 0 names (map attributes_at nodes)) (among_from all 0 names nodes);
+  rising = rise_from all 0 names (map attributes_at nodes);
 }

@@ -1,6 +1,6 @@
 -- The flags of elements (DITA 1.3, "Conditional processing (profiling)", "Flagging"): rules with the action flag mark
 -- the elements that they decide. The form of a mark is our own.
-use Rattle.std.specs.Prelude.{◌+◌, ℕ, Bool, true, false, not, List, [], ◌∷◌, ◌++◌, filter, map, codes, bytes_eq, if◌then◌else◌}
+use Rattle.std.specs.Prelude.{◌+◌, ℕ, Bool, true, false, not, List, [], ◌∷◌, ◌++◌, Option, Some, None, filter, map, codes, bytes_eq, if◌then◌else◌}
 use Rattle.std.specs.List.{flat_map, list_any}
 use Rattle.std.specs.Option.{option_map_or}
 use Rattle.dita_doc.specs.ClassValue.{value_of, words_of}
@@ -60,14 +60,24 @@ marks_of_element all declared attributes = first_of_each (flat_map (marks_by dec
 abbrev pub at_place : ℕ → List ℕ → Mark
 at_place place text = record { place = place; text = text }
 
-abbrev pub marks_of_node : List (List Rule) → ℕ → List (List ℕ) → NodeKind → List Attribute → List Mark
-marks_of_node all place declared kinds.Chars attributes = []
-marks_of_node all place declared kinds.Element attributes =
-    map (at_place place) (marks_of_element all declared attributes)
-
--- the marks of nodes, of which the first stands at this place; each has a list of declared names
-abbrev pub marks_from : List (List Rule) → ℕ → List (List (List ℕ)) → List Node → List Mark
+-- the marks of nodes, of which the first stands at this place; each has a list of declared names, and an element its
+-- attributes
+abbrev pub marks_from : List (List Rule) → ℕ → List (List (List ℕ)) → List (Option (List Attribute)) → List Mark
 marks_from all place names [] = []
-marks_from all place [] (node ∷ nodes) = []
-marks_from all place (declared ∷ names) (node ∷ nodes) =
-    marks_of_node all place declared node.kind node.attributes ++ marks_from all (place + 1) names nodes
+marks_from all place [] (first ∷ nodes) = []
+marks_from all place (declared ∷ names) (None ∷ nodes) = marks_from all (place + 1) names nodes
+marks_from all place (declared ∷ names) (Some attributes ∷ nodes) =
+    map (at_place place) (marks_of_element all declared attributes) ++ marks_from all (place + 1) names nodes
+
+-- the attributes of the nodes of a document, of those that are elements
+abbrev pub attributes_of_kind : NodeKind → List Attribute → Option (List Attribute)
+attributes_of_kind kinds.Chars attributes = None
+attributes_of_kind kinds.Element attributes = Some attributes
+
+abbrev pub attributes_at : Node → Option (List Attribute)
+attributes_at node = attributes_of_kind node.kind node.attributes
+
+-- the marks of one node
+abbrev pub marks_at : List (List Rule) → ℕ → List (List ℕ) → Option (List Attribute) → List Mark
+marks_at all place declared None = []
+marks_at all place declared (Some attributes) = map (at_place place) (marks_of_element all declared attributes)

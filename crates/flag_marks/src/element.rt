@@ -7,18 +7,8 @@ ghost use Rattle.flag_marks.specs.Marks as spec;
 
 use crate::value::push_value;
 use dita_doc::{List, NoMemory, Node, Text};
-use ditaval_rules::RuleTable;
+use ditaval_rules::{CONDITIONAL, RuleTable};
 use std::alloc::Global;
-
-// The names of the attributes that are conditional in every document.
-const CONDITIONAL: [&str; 6] = [
-    "audience",
-    "platform",
-    "product",
-    "otherprops",
-    "props",
-    "deliveryTarget",
-];
 
 /// The texts of the marks of an element, for which these names are declared, by
 /// each table in order; a text can come twice.

@@ -4,6 +4,7 @@ ghost use Rattle.std.specs.Prelude.{◌≡◌, ◌<◌, ◌++◌, ◌^◌, lengt
 ghost use Rattle.std.specs.List.{list_any};
 ghost use Rattle.flag_marks.specs.Marks as spec;
 ghost use Rattle.flag_marks.specs.Places as places_spec;
+ghost use Rattle.flag_marks.specs.Shown as shown_spec;
 
 use crate::element::texts_of;
 use dita_doc::{Action, List, Mark, NoMemory, Node, NodeKind, Resolved, Rule, Text};
@@ -14,12 +15,10 @@ use std::collections::BTreeSet;
 /// The marks of a body, in the order of its elements: `flag-ATT-TOKEN` for each token that a list
 /// of rules flags, by each list in order, each conditional attribute in order and each token in
 /// order, each mark of an element once (DITA 1.3, "Flagging"; the form of a mark is our own).
-/// `declared` has for each node the names of the attributes that are declared for it. A value of
-/// groups gives none.
+/// `declared` has for each node the names of the attributes that are declared for it; those of the
+/// body itself may be passed. A value of groups gives none.
 ///
-/// The rules are made ready once; then each element takes one look at its attributes for each list
-/// of rules and each name, each token a halving of the rules, and each one that is flagged a look
-/// into the set of the element's marks. Where no list has a rule that flags, no node is looked at.
+/// The cost is that of `marks_by`.
 ///
 /// # Errors
 ///
@@ -31,15 +30,52 @@ pub fn marks(
     declared: &List<List<Text>>,
 ) -> Result<List<Mark>, NoMemory>
     requires { length declared.now ≡ length body.now.doc.nodes }
-    ensures value { IfOk result
-        (λ marks. marks ≡ spec.marks_from rules.now 0 declared.now body.now.doc.nodes) }
+    ensures value { IfOk result (λ marks. marks
+        ≡ spec.marks_from rules.now 0 declared.now (map spec.attributes_at body.now.doc.nodes)) }
     ensures places { IfOk result
         (λ marks. places_spec.AreAtElements body.now.doc.nodes marks) }
 {
-    if !has_flag(rules.as_slice()) {
+    let lists = lists_of(alloc, rules.as_slice())?;
+    marks_by(alloc, body, &lists, declared)
+}
+
+// A reference to each list of rules.
+fn lists_of(alloc: Global, rules: &[List<Rule>]) -> Result<Vec<&List<Rule>>, NoMemory>
+    ensures { IfOk result (λ lists. shown_spec.shown lists.items ≡ rules.now) }
+{
+    let mut lists = Vec::new(alloc);
+    for some in rules {
+        lists.push(some)?;
+    }
+    Ok(lists)
+}
+
+/// The same by references to lists of rules.
+///
+/// The rules are made ready once; then each element takes one look at its attributes for each list
+/// of rules and each name, each token a halving of the rules, and each one that is flagged a look
+/// into the set of the element's marks. Where no list has a rule that flags, no node is looked at.
+///
+/// # Errors
+///
+/// Out of memory.
+pub fn marks_by(
+    alloc: Global,
+    body: &Resolved,
+    rules: &[&List<Rule>],
+    declared: &List<List<Text>>,
+) -> Result<List<Mark>, NoMemory>
+    requires { length declared.now ≡ length body.now.doc.nodes }
+    ensures value { IfOk result
+        (λ marks. marks ≡ spec.marks_from (shown_spec.shown rules.now) 0 declared.now
+        (map spec.attributes_at body.now.doc.nodes)) }
+    ensures places { IfOk result
+        (λ marks. places_spec.AreAtElements body.now.doc.nodes marks) }
+{
+    if !has_flag(rules) {
         return Ok(List::new(alloc));
     }
-    let tables = tables_of(alloc, rules.as_slice())?;
+    let tables = tables_of(alloc, rules)?;
     marks_of(
         alloc,
         &tables,
@@ -49,8 +85,8 @@ pub fn marks(
 }
 
 // Whether one of the lists has a rule that flags.
-fn has_flag(rules: &[List<Rule>]) -> bool
-    ensures { result ≡ list_any spec.have_flag rules.now }
+fn has_flag(rules: &[&List<Rule>]) -> bool
+    ensures { result ≡ list_any spec.have_flag (shown_spec.shown rules.now) }
 {
     rules.iter().any(|some| is_flagging(some))
 }
@@ -66,8 +102,8 @@ fn is_flagging(rules: &List<Rule>) -> bool
 }
 
 // A table for each list of rules.
-fn tables_of<'a>(alloc: Global, rules: &'a [List<Rule>]) -> Result<Vec<RuleTable<'a>>, NoMemory>
-    ensures { IfOk result (λ tables. tables.items ≡ rules.now) }
+fn tables_of<'a>(alloc: Global, rules: &[&'a List<Rule>]) -> Result<Vec<RuleTable<'a>>, NoMemory>
+    ensures { IfOk result (λ tables. tables.items ≡ shown_spec.shown rules.now) }
 {
     let mut tables = Vec::new(alloc);
     for some in rules {
@@ -85,7 +121,8 @@ fn marks_of(
 ) -> Result<List<Mark>, NoMemory>
     requires each { length declared.now ≡ length nodes.now }
     requires small { length nodes.now < 2 ^ 32 }
-    ensures { IfOk result (λ marks. marks ≡ spec.marks_from tables.now 0 declared.now nodes.now) }
+    ensures { IfOk result (λ marks. marks
+        ≡ spec.marks_from tables.now 0 declared.now (map spec.attributes_at nodes.now)) }
 {
     let mut marks = List::new(alloc);
     for at in 0..nodes.len() {
@@ -111,7 +148,7 @@ fn push_node(
     node: &Node,
 ) -> Result<(), NoMemory>
     ensures { OnOk result (marks.new ≡ marks.old
-        ++ spec.marks_of_node tables.now place declared.now node.now.kind node.now.attributes) }
+        ++ spec.marks_at tables.now place declared.now (spec.attributes_at node.now)) }
 {
     match node.kind {
         NodeKind::Chars => Ok(()),

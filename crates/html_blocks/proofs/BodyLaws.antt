@@ -4,6 +4,7 @@ use Rattle.std.proofs.Common.{refl, sym, ap, ◌∙◌}
 use Rattle.std.proofs.Math.Path.{fun_ext}
 use Rattle.dita_doc.specs.HtmlEscapes.{escaped}
 use Rattle.dita_doc.specs.declared.content.Anchor.{Anchor}
+use Rattle.dita_doc.specs.declared.content.Mark.{Mark}
 use Rattle.dita_doc.specs.declared.content.Resolved.{Resolved}
 use Rattle.dita_doc.specs.declared.fact.Html.{Html}
 use Rattle.html_blocks.specs.Body.{AreNodesOf, with_own_hrefs}
@@ -12,7 +13,7 @@ use Rattle.html_blocks.proofs.BareLaws.{columns_same}
 use Rattle.map_spec.specs.Elements.{attribute, class_faults, has_types}
 use Rattle.map_spec.specs.Written.{Element, Written, End, Chars, Node, size}
 use Rattle.html_spec.specs.Blocks as blocks
-use Rattle.html_spec.specs.Blocks.{Context, Form, alt_of, attribute_text, body_html, columns_in, content_or_label, element_shown, form_shown, href_at, linked_at, outside, row_for, row_shown, shown, shown_beside, shown_from, shown_with, start_of, within_type}
+use Rattle.html_spec.specs.Blocks.{Context, Form, Overlay, alt_of, attribute_text, body_html, class_at, columns_in, content_or_label, element_shown, form_shown, href_at, linked_at, outside, row_for, row_shown, shown, shown_beside, shown_from, shown_with, start_of, within_type}
 use Rattle.html_spec.specs.Tables.{is_group}
 use Rattle.readers.specs.Named.{named_tree}
 
@@ -47,25 +48,28 @@ own_alt : (element : Element) (inside : Written) → alt_of element (with_own_hr
 own_alt element inside = ap (λ text. unwrap_or (attribute (codes "alt") element) text)
     (text_same (codes "topic/alt") (with_own_hrefs inside) inside (own_bare inside))
 
-module _ (around : Context) (anchors : List Anchor) (place : ℕ) (element : Element) (inside : Written)
+module _ (around : Context) (overlay : Overlay) (place : ℕ) (element : Element) (inside : Written)
     (content : Context → Html) where
   held_same : (context : Context)
-      → content_or_label anchors place (with_own_hrefs inside) (content (columns_in element (with_own_hrefs inside) context))
-      ≡ content_or_label anchors place inside (content (columns_in element inside context))
+      → content_or_label overlay.anchors place (with_own_hrefs inside)
+      (content (columns_in element (with_own_hrefs inside) context))
+      ≡ content_or_label overlay.anchors place inside (content (columns_in element inside context))
   held_same context =
-      own_label anchors place inside (content (columns_in element (with_own_hrefs inside) context))
-      ∙ ap (λ within. content_or_label anchors place inside (content within)) (own_columns element inside context)
+      own_label overlay.anchors place inside (content (columns_in element (with_own_hrefs inside) context))
+      ∙ ap (λ within. content_or_label overlay.anchors place inside (content within))
+      (own_columns element inside context)
 
   form_same : (held : Html) (form : Form)
-      → form_shown around anchors place element (with_own_hrefs inside) held form
-      ≡ form_shown around anchors place element inside held form
+      → form_shown around overlay place element (with_own_hrefs inside) held form
+      ≡ form_shown around overlay place element inside held form
   form_same held (blocks.Tag name class) = refl
   form_same held blocks.Topic = refl
   form_same held blocks.Title = refl
   form_same held blocks.Note = refl
   form_same held blocks.Reference = refl
-  form_same held blocks.Image = ap (λ alt. shown (start_of around false element (codes "img") []
-      (attribute_text (codes "src") (Some (unwrap_or (href_at anchors place) []))
+  form_same held blocks.Image = ap (λ alt. shown (start_of around false element (codes "img")
+      (class_at overlay place [])
+      (attribute_text (codes "src") (Some (unwrap_or (href_at overlay.anchors place) []))
       ++ attribute_text (codes "alt") (Some alt)))) (own_alt element inside)
   form_same held blocks.Cell = refl
   form_same held blocks.SimpleCell = refl
@@ -73,47 +77,57 @@ module _ (around : Context) (anchors : List Anchor) (place : ℕ) (element : Ele
   form_same held blocks.Foreign = refl
 
   row_same : (row : Option (List ℕ × Form))
-      → row_shown around anchors place element (with_own_hrefs inside) content row
-      ≡ row_shown around anchors place element inside content row
-  row_same None = ap (linked_at anchors place) (held_same around)
+      → row_shown around overlay place element (with_own_hrefs inside) content row
+      ≡ row_shown around overlay place element inside content row
+  row_same None = ap (linked_at overlay.anchors place) (held_same around)
   row_same (Some row) =
-      form_same (content_or_label anchors place (with_own_hrefs inside)
+      form_same (content_or_label overlay.anchors place (with_own_hrefs inside)
       (content (columns_in element (with_own_hrefs inside) (within_type row.0 element around)))) row.1
-      ∙ ap (λ held. form_shown around anchors place element inside held row.1) (held_same (within_type row.0 element around))
+      ∙ ap (λ held. form_shown around overlay place element inside held row.1)
+      (held_same (within_type row.0 element around))
 
-  inside_same : element_shown around anchors place element (with_own_hrefs inside) content
-      ≡ element_shown around anchors place element inside content
+  inside_same : element_shown around overlay place element (with_own_hrefs inside) content
+      ≡ element_shown around overlay place element inside content
   inside_same = ap (λ html. if has_types element then html else shown_with (class_faults element) (content around))
       (row_same (row_for element))
 
   -- nor does it to the element itself
-  element_same : element_shown around anchors place (record element { href_doc = element.doc }) (with_own_hrefs inside) content
-      ≡ element_shown around anchors place element inside content
+  element_same : element_shown around overlay place (record element { href_doc = element.doc })
+      (with_own_hrefs inside) content
+      ≡ element_shown around overlay place element inside content
   element_same = inside_same
 
-own_shown : (anchors : List Anchor) (nodes : Written) (around : Context) (place : ℕ)
-    → shown_from around anchors place (with_own_hrefs nodes) ≡ shown_from around anchors place nodes
-own_shown anchors End around place = refl
-own_shown anchors (Chars text doc rest) around place =
-    ap (shown_beside (shown (escaped text))) (own_shown anchors rest around (place + 1))
-own_shown anchors (Node element inside rest) around place =
+own_shown : (overlay : Overlay) (nodes : Written) (around : Context) (place : ℕ)
+    → shown_from around overlay place (with_own_hrefs nodes) ≡ shown_from around overlay place nodes
+own_shown overlay End around place = refl
+own_shown overlay (Chars text doc rest) around place =
+    ap (shown_beside (shown (escaped text))) (own_shown overlay rest around (place + 1))
+own_shown overlay (Node element inside rest) around place =
     let own : Element = record element { href_doc = element.doc } in
     let held = with_own_hrefs inside in
-    let behind = shown_from around anchors (place + 1 + size held) (with_own_hrefs rest) in
-    ap (λ content. shown_beside (element_shown around anchors place own held content) behind)
-    (fun_ext (λ within. own_shown anchors inside within (place + 1)))
+    let behind = shown_from around overlay (place + 1 + size held) (with_own_hrefs rest) in
+    ap (λ content. shown_beside (element_shown around overlay place own held content) behind)
+    (fun_ext (λ within. own_shown overlay inside within (place + 1)))
     ∙ ap (λ html. shown_beside html behind)
-    (element_same around anchors place element inside (λ within. shown_from within anchors (place + 1) inside))
-    ∙ ap (λ n. shown_beside (element_shown around anchors place element inside
-    (λ within. shown_from within anchors (place + 1) inside))
-    (shown_from around anchors (place + 1 + n) (with_own_hrefs rest))) (own_size inside)
-    ∙ ap (shown_beside (element_shown around anchors place element inside
-    (λ within. shown_from within anchors (place + 1) inside)))
-    (own_shown anchors rest around (place + 1 + size inside))
+    (element_same around overlay place element inside (λ within. shown_from within overlay (place + 1) inside))
+    ∙ ap (λ n. shown_beside (element_shown around overlay place element inside
+    (λ within. shown_from within overlay (place + 1) inside))
+    (shown_from around overlay (place + 1 + n) (with_own_hrefs rest))) (own_size inside)
+    ∙ ap (shown_beside (element_shown around overlay place element inside
+    (λ within. shown_from within overlay (place + 1) inside)))
+    (own_shown overlay rest around (place + 1 + size inside))
+
+pub overlays : (one other : Overlay) → one.anchors ≡ other.anchors → one.marks ≡ other.marks → one ≡ other
+overlays one other anchors marks =
+    ap (λ (some : List Anchor). record one { anchors = some }) anchors
+    ∙ ap (λ (some : List Mark). record other { marks = some }) marks
 
 -- what is shown of a body is shown of each content that is its own
-pub body_shown : (body : Resolved) (nodes : Written) (anchors : List Anchor) (html : Html) → AreNodesOf body nodes
-    → html ≡ shown_from outside anchors 0 (named_tree body.doc) → html ≡ body_html anchors nodes
+pub body_shown : (body : Resolved) (nodes : Written) (anchors : List Anchor) (marks : List Mark) (html : Html)
+    → AreNodesOf body nodes
+    → html ≡ shown_from outside (record { anchors = anchors; marks = marks }) 0 (named_tree body.doc)
+    → html ≡ body_html anchors marks nodes
 unfolding body_html
-body_shown body nodes anchors html are is =
-    is ∙ ap (shown_from outside anchors 0) (sym are) ∙ own_shown anchors nodes outside 0
+body_shown body nodes anchors marks html are is =
+    let overlay : Overlay = record { anchors = anchors; marks = marks } in
+    is ∙ ap (shown_from outside overlay 0) (sym are) ∙ own_shown overlay nodes outside 0

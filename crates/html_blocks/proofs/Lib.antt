@@ -2,6 +2,7 @@ pub mod AnchorLaws
 pub mod BareLaws
 pub mod BodyLaws
 pub mod ContextLaws
+pub mod MarkLaws
 pub mod NameLaws
 pub mod NodeLaws
 pub mod OpenLaws

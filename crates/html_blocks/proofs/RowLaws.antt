@@ -13,16 +13,16 @@ use Rattle.map_spec.specs.Elements.{class_faults, has_types}
 use Rattle.map_spec.specs.Written as written
 use Rattle.map_spec.specs.Written.{Element, Written}
 use Rattle.html_spec.specs.Blocks as blocks
-use Rattle.html_spec.specs.Blocks.{Context, Form, attribute_text, content_or_label, context_in, element_shown, end_tag, form_shown, href_at, label_at, linked_by, row_for, shown, shown_from, shown_with, start_tag}
+use Rattle.html_spec.specs.Blocks.{Context, Form, Overlay, attribute_text, content_or_label, context_in, element_shown, end_tag, form_shown, href_at, label_at, linked_by, marks_at, row_for, shown, shown_from, shown_with, start_tag}
 
 -- Content
 
 -- nothing is shown of no content
-pub content_none : (within : Context) (anchors : List Anchor) (place : ℕ) (inside : Written) → is_empty inside ≡ true
-    → shown_from within anchors place inside ≡ shown []
-content_none within anchors place written.End e = refl
-content_none within anchors place (written.Chars text doc rest) e = cc
-content_none within anchors place (written.Node element inside rest) e = cc
+pub content_none : (within : Context) (overlay : Overlay) (place : ℕ) (inside : Written) → is_empty inside ≡ true
+    → shown_from within overlay place inside ≡ shown []
+content_none within overlay place written.End e = refl
+content_none within overlay place (written.Chars text doc rest) e = cc
+content_none within overlay place (written.Node element inside rest) e = cc
 
 abbrev start_link : List ℕ → List ℕ
 start_link to = start_tag (codes "a") (attribute_text (codes "href") (Some to))
@@ -57,15 +57,16 @@ module _ (anchors : List Anchor) (place : ℕ) (label : List ℕ) (content : Htm
 
 -- Forms
 
-module _ (around : Context) (anchors : List Anchor) (place : ℕ) (element : Element) (inside : Written) (content : Html)
-    (href : Option (List ℕ)) (leads : href ≡ href_at anchors place) where
+module _ (around : Context) (overlay : Overlay) (place : ℕ) (element : Element) (inside : Written) (content : Html)
+    (href : Option (List ℕ)) (leads : href ≡ href_at overlay.anchors place) where
   abbrev Named : Form → List ℕ → Type 0
   Named form name = tag_name form href around.around around.depth around.head around.simple_head ≡ Some name
 
   -- a form that has a name stands around its content
   pub form_bytes : (form : Form) (name : List ℕ) → Named form name
-      → (form_shown around anchors place element inside content form).bytes
-      ≡ (start_by around href element name form ++ (linked_by (href_within form href) content).bytes) ++ end_tag name
+      → (form_shown around overlay place element inside content form).bytes
+      ≡ (start_by around href (marks_at overlay.marks place) element name form
+      ++ (linked_by (href_within form href) content).bytes) ++ end_tag name
   form_bytes (blocks.Tag tag class) name e = rw (← same_Some _ _ e, leads) refl
   form_bytes blocks.Topic name e = rw (← same_Some _ _ e, leads) refl
   form_bytes blocks.Title name e = rw (← same_Some _ _ e, leads) refl
@@ -78,7 +79,7 @@ module _ (around : Context) (anchors : List Anchor) (place : ℕ) (element : Ele
   form_bytes blocks.Foreign name e = absurd (none-some _ e)
 
   pub form_faults : (form : Form) (name : List ℕ) → Named form name
-      → (form_shown around anchors place element inside content form).faults
+      → (form_shown around overlay place element inside content form).faults
       ≡ (linked_by (href_within form href) content).faults
   form_faults (blocks.Tag tag class) name e = rw leads refl
   form_faults blocks.Topic name e = rw leads refl
@@ -96,7 +97,8 @@ module _ (around : Context) (anchors : List Anchor) (place : ℕ) (element : Ele
 
   -- one that has none is whole without its content
   pub form_whole : (form : Form) → Nameless form
-      → form_shown around anchors place element inside content form ≡ whole_by around href element inside form
+      → form_shown around overlay place element inside content form
+      ≡ whole_by around href (marks_at overlay.marks place) element inside form
   form_whole (blocks.Tag tag class) e = absurd (none-some _ (sym e))
   form_whole blocks.Topic e = absurd (none-some _ (sym e))
   form_whole blocks.Title e = absurd (none-some _ (sym e))
@@ -110,19 +112,19 @@ module _ (around : Context) (anchors : List Anchor) (place : ℕ) (element : Ele
 
 -- Elements
 
-module _ (around : Context) (anchors : List Anchor) (place : ℕ) (element : Element) (inside : Written)
+module _ (around : Context) (overlay : Overlay) (place : ℕ) (element : Element) (inside : Written)
     (content : Context → Html) where
-  pub untyped_shown : has_types element ≡ false → element_shown around anchors place element inside content
+  pub untyped_shown : has_types element ≡ false → element_shown around overlay place element inside content
       ≡ shown_with (class_faults element) (content around)
   untyped_shown e = rw e refl
 
   pub none_shown : has_types element ≡ true → row_for element ≡ None
-      → element_shown around anchors place element inside content ≡ linked_by (href_at anchors place)
-      (content_or_label anchors place inside (content (context_in element inside None around)))
+      → element_shown around overlay place element inside content ≡ linked_by (href_at overlay.anchors place)
+      (content_or_label overlay.anchors place inside (content (context_in element inside None around)))
   none_shown e row = rw (e, row) refl
 
   pub some_shown : (token : List ℕ) (form : Form) → has_types element ≡ true → row_for element ≡ Some (token, form)
-      → element_shown around anchors place element inside content
-      ≡ form_shown around anchors place element inside (content_or_label anchors place inside
+      → element_shown around overlay place element inside content
+      ≡ form_shown around overlay place element inside (content_or_label overlay.anchors place inside
       (content (context_in element inside (Some (token, form)) around))) form
   some_shown token form e row = rw (e, row) refl

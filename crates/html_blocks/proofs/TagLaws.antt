@@ -3,10 +3,11 @@ use Rattle.std.specs.Prelude.{◌≡◌, ◌++◌, ℕ, Bool, true, false, List,
 use Rattle.std.specs.Borrow.{Bor}
 use Rattle.std.specs.Option.{option_and_then, option_copied, option_map_or}
 use Rattle.std.proofs.Common.{refl, sym, ap, ◌∙◌, append_assoc}
-use Rattle.std.proofs.lemmas.List.{append-nil}
 use Rattle.dita_doc.specs.HtmlEscapes.{escaped_value}
-use Rattle.html_blocks.specs.Opened.{kind_text, note_text}
+use Rattle.html_blocks.specs.Marks.{behind, class_text, class_with}
+use Rattle.html_blocks.specs.Opened.{kind_text, note_begun, note_text}
 use Rattle.html_blocks.specs.Shown.{id_behind, name_begun}
+use Rattle.html_blocks.proofs.MarkLaws.{shown_value}
 use Rattle.map_spec.specs.Elements.{attribute}
 use Rattle.map_spec.specs.Titles.{id_of}
 use Rattle.map_spec.specs.Written.{Element}
@@ -53,6 +54,14 @@ note_by : (kind : Option (List ℕ)) → escaped_value (codes "note"
 note_by None = refl
 note_by (Some []) = refl
 note_by (Some (b ∷ kind)) = refl
+
+pub marked_note : (element : Element) (marks : List (List ℕ))
+    → note_begun (unwrap_or (attribute (codes "type") element) []) ++ (behind marks ++ codes "\"")
+    ≡ class_text (class_with marks (note_class element))
+marked_note element marks =
+    sym (shown_value (note_class element) marks
+    ∙ ap (λ value. codes " class=\"" ++ (value ++ (behind marks ++ codes "\"")))
+    (note_by (attribute (codes "type") element)))
 
 pub note_parts : (element : Element) → note_text (unwrap_or (attribute (codes "type") element) [])
     ≡ attribute_text (codes "class") (if_some_text (note_class element))
@@ -102,13 +111,3 @@ text_last (Ok done) old first second third new a b c d all one two three last sa
     ∙ append_assoc old ((a ++ b) ++ c) d
     ∙ ap (λ bytes. old ++ bytes) same
 text_last (Err error) old first second third new a b c d all one two three last same = tt
-
--- a start tag without a class
-pub image_parts : (around : Context) (element : Element) (name src alt : List ℕ)
-    → ((name_begun name (Some around.topic) (id_of element) ++ src) ++ alt) ++ codes ">"
-    ≡ start_of around false element name [] (src ++ alt)
-image_parts around element name src alt =
-    let begun = name_begun name (Some around.topic) (id_of element) in
-    ap (λ bytes. bytes ++ codes ">") (append_assoc begun src alt)
-    ∙ ap (λ bytes. (bytes ++ (src ++ alt)) ++ codes ">") (sym (append-nil begun))
-    ∙ start_parts around false (Some around.topic) element name [] (src ++ alt) refl

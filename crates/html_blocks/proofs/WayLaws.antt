@@ -3,7 +3,6 @@ use Rattle.std.specs.Prelude.{◌≡◌, ◌+◌, ◌++◌, ℕ, List, []}
 use Rattle.std.proofs.Common.{refl, sym, ap, ◌∙◌, append_assoc, subst}
 use Rattle.std.proofs.lemmas.List.{append-nil}
 use Rattle.dita_doc.specs.HtmlEscapes.{escaped}
-use Rattle.dita_doc.specs.declared.content.Anchor.{Anchor}
 use Rattle.dita_doc.specs.declared.fact.Html.{Html}
 use Rattle.html_blocks.specs.Opened.{HasMore}
 use Rattle.html_blocks.specs.declared.page.Page.{Page}
@@ -11,7 +10,7 @@ use Rattle.html_tables.specs.declared.groups.Groups.{Groups}
 use Rattle.html_tables.specs.Walk.{HasColumns, KeepsGroups}
 use Rattle.map_spec.specs.Written as written
 use Rattle.map_spec.specs.Written.{Element, Written, size}
-use Rattle.html_spec.specs.Blocks.{Context, element_shown, shown, shown_beside, shown_from}
+use Rattle.html_spec.specs.Blocks.{Context, Overlay, element_shown, shown, shown_beside, shown_from}
 
 pub same_groups : (old new : Groups) → new ≡ old → KeepsGroups old new
 same_groups old new same = λ group names has. subst (λ groups. HasColumns groups group names) (sym same) has
@@ -64,21 +63,21 @@ way_more old new next all left some more same has way = record {
       ∙ ap (λ faults. faults ++ more.faults) (sym has.faults);
 }
 
-module _ (around : Context) (anchors : List Anchor) (here : ℕ) (nodes : Written) where
+module _ (around : Context) (overlay : Overlay) (here : ℕ) (nodes : Written) where
   -- an element, and what comes behind it
   pub shown_first : (element : Element) (inside rest : Written) (past : ℕ) → nodes ≡ written.Node element inside rest
-      → past ≡ here + 1 + size inside → shown_from around anchors here nodes
-      ≡ shown_beside (element_shown around anchors here element inside
-      (λ within. shown_from within anchors (here + 1) inside)) (shown_from around anchors past rest)
+      → past ≡ here + 1 + size inside → shown_from around overlay here nodes
+      ≡ shown_beside (element_shown around overlay here element inside
+      (λ within. shown_from within overlay (here + 1) inside)) (shown_from around overlay past rest)
   shown_first element inside rest past first behind = rw (first, behind) refl
 
   pub shown_text : (text doc : List ℕ) (rest : Written) → nodes ≡ written.Chars text doc rest
-      → shown_from around anchors here nodes
-      ≡ shown_beside (shown (escaped text)) (shown_from around anchors (here + 1) rest)
-  shown_text text doc rest first = ap (shown_from around anchors here) first
+      → shown_from around overlay here nodes
+      ≡ shown_beside (shown (escaped text)) (shown_from around overlay (here + 1) rest)
+  shown_text text doc rest first = ap (shown_from around overlay here) first
 
-  pub shown_end : nodes ≡ written.End → shown_from around anchors here nodes ≡ shown []
-  shown_end none = ap (shown_from around anchors here) none
+  pub shown_end : nodes ≡ written.End → shown_from around overlay here nodes ≡ shown []
+  shown_end none = ap (shown_from around overlay here) none
 
 -- all that was written of a new page
 pub html_all : (new page : Page) (html all : Html) → new.text ≡ [] → new.faults ≡ [] → HasMore new page all

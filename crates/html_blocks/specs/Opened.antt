@@ -2,9 +2,9 @@
 use Rattle.std.specs.Prelude.{◌≡◌, ◌+◌, ◌++◌, ℕ, Bool, true, false, List, [], ◌∷◌, Option, Some, None, codes, unwrap_or, if◌then◌else◌}
 use Rattle.std.specs.Option.{option_copied, option_map_or}
 use Rattle.dita_doc.specs.HtmlEscapes.{escaped, escaped_value}
-use Rattle.dita_doc.specs.declared.content.Anchor.{Anchor}
 use Rattle.dita_doc.specs.declared.fact.Html.{Html}
 use Rattle.dita_doc.specs.declared.fault.FaultCode.TheVariants as faults
+use Rattle.html_blocks.specs.Marks.{class_with}
 use Rattle.html_blocks.specs.Shown.{counted}
 use Rattle.html_blocks.specs.Walk.{IsWithin, content_shown}
 use Rattle.html_blocks.specs.declared.element.Element as declared
@@ -16,7 +16,7 @@ use Rattle.map_spec.specs.Titles.{id_of}
 use Rattle.map_spec.specs.Written as written
 use Rattle.map_spec.specs.Written.{Element, Written}
 use Rattle.html_spec.specs.Blocks as blocks
-use Rattle.html_spec.specs.Blocks.{Context, Form, alt_of, attribute_text, end_tag, if_some_text, is_type, note_class, shown, shown_with, spans, start_of, start_tag}
+use Rattle.html_spec.specs.Blocks.{Context, Form, Overlay, alt_of, attribute_text, end_tag, if_some_text, is_type, note_class, shown, shown_with, spans, start_of, start_tag}
 
 -- Where an element stands: what a token changes for those within
 
@@ -65,16 +65,20 @@ more_by context href element blocks.SimpleCell = []
 more_by context href element blocks.Left = []
 more_by context href element blocks.Foreign = []
 
-abbrev pub start_by : Context → Option (List ℕ) → Element → List ℕ → Form → List ℕ
-start_by context href element name form =
-    start_of context (is_topic form) element name (class_by element form) (more_by context href element form)
+abbrev pub start_by : Context → Option (List ℕ) → List (List ℕ) → Element → List ℕ → Form → List ℕ
+start_by context href marks element name form =
+    start_of context (is_topic form) element name (class_with marks (class_by element form))
+    (more_by context href element form)
 
 -- the type of a note, if it says one
 abbrev pub kind_text : List ℕ → List ℕ
 kind_text kind = option_map_or (λ some. codes " " ++ escaped_value some) (if_some_text kind) []
 
+abbrev pub note_begun : List ℕ → List ℕ
+note_begun kind = codes " class=\"note" ++ kind_text kind
+
 abbrev pub note_text : List ℕ → List ℕ
-note_text kind = codes " class=\"note" ++ (kind_text kind ++ codes "\"")
+note_text kind = note_begun kind ++ codes "\""
 
 -- Links around content
 
@@ -108,22 +112,25 @@ content_begun href inside label = link_begun href ++ label_in inside label
 
 -- Elements whose content is not shown
 
-abbrev pub image_by : Context → Option (List ℕ) → Element → Written → List ℕ
-image_by context href element inside = start_of context false element (codes "img") []
-    (attribute_text (codes "src") (Some (unwrap_or href []))
-    ++ attribute_text (codes "alt") (Some (alt_of element inside)))
+abbrev pub file_text : Option (List ℕ) → Element → Written → List ℕ
+file_text href element inside = attribute_text (codes "src") (Some (unwrap_or href []))
+    ++ attribute_text (codes "alt") (Some (alt_of element inside))
 
-abbrev pub whole_by : Context → Option (List ℕ) → Element → Written → Form → Html
-whole_by context href element inside (blocks.Tag name class) = shown []
-whole_by context href element inside blocks.Topic = shown []
-whole_by context href element inside blocks.Title = shown []
-whole_by context href element inside blocks.Note = shown []
-whole_by context href element inside blocks.Reference = shown []
-whole_by context href element inside blocks.Image = shown (image_by context href element inside)
-whole_by context href element inside blocks.Cell = shown []
-whole_by context href element inside blocks.SimpleCell = shown []
-whole_by context href element inside blocks.Left = shown []
-whole_by context href element inside blocks.Foreign =
+abbrev pub image_by : Context → Option (List ℕ) → List (List ℕ) → Element → Written → List ℕ
+image_by context href marks element inside =
+    start_of context false element (codes "img") (class_with marks []) (file_text href element inside)
+
+abbrev pub whole_by : Context → Option (List ℕ) → List (List ℕ) → Element → Written → Form → Html
+whole_by context href marks element inside (blocks.Tag name class) = shown []
+whole_by context href marks element inside blocks.Topic = shown []
+whole_by context href marks element inside blocks.Title = shown []
+whole_by context href marks element inside blocks.Note = shown []
+whole_by context href marks element inside blocks.Reference = shown []
+whole_by context href marks element inside blocks.Image = shown (image_by context href marks element inside)
+whole_by context href marks element inside blocks.Cell = shown []
+whole_by context href marks element inside blocks.SimpleCell = shown []
+whole_by context href marks element inside blocks.Left = shown []
+whole_by context href marks element inside blocks.Foreign =
     shown_with (fault_at element faults.Foreign element.name ∷ []) (shown [])
 
 -- Pages as they grow
@@ -144,16 +151,16 @@ pub record IsBegun (old new : Page) (opened : Opened) (context : Context) (begun
   pub more : HasMore old new (shown begun)
 
 -- an element was opened: with its content and what closes it, it is whole
-pub record IsOpen (old new : Page) (opened : Opened) (anchors : List Anchor) (element : declared.Element) (whole : Html) :
+pub record IsOpen (old new : Page) (opened : Opened) (overlay : Overlay) (element : declared.Element) (whole : Html) :
     Type 0 where
   pub before : Html
   pub context : Context
   pub within : IsWithin new.groups opened.within context
   pub more : HasMore old new before
-  pub bytes : whole.bytes ≡ before.bytes ++ ((content_shown anchors element context).bytes ++ closing opened)
-  pub faults : whole.faults ≡ before.faults ++ (content_shown anchors element context).faults
+  pub bytes : whole.bytes ≡ before.bytes ++ ((content_shown overlay element context).bytes ++ closing opened)
+  pub faults : whole.faults ≡ before.faults ++ (content_shown overlay element context).faults
 
 -- an element was opened, or written whole
-abbrev pub HasOpened : Page → Page → Option Opened → List Anchor → declared.Element → Html → Type 0
-HasOpened old new None anchors element whole = HasMore old new whole
-HasOpened old new (Some opened) anchors element whole = IsOpen old new opened anchors element whole
+abbrev pub HasOpened : Page → Page → Option Opened → Overlay → declared.Element → Html → Type 0
+HasOpened old new None overlay element whole = HasMore old new whole
+HasOpened old new (Some opened) overlay element whole = IsOpen old new opened overlay element whole

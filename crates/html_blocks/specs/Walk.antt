@@ -7,6 +7,8 @@ use Rattle.dita_doc.specs.declared.siblings.Siblings.{Siblings}
 use Rattle.html_blocks.specs.Shown.{around_shown, counted}
 use Rattle.html_blocks.specs.declared.context.Context.{Context}
 use Rattle.html_blocks.specs.declared.element.Element.{Element}
+use Rattle.html_blocks.specs.declared.mark.Marks.{Marks}
+use Rattle.html_blocks.specs.declared.overlay.Overlay.{Overlay}
 use Rattle.html_tables.specs.Walk.{IsContext, content_named, element_named}
 use Rattle.html_tables.specs.declared.groups.Groups.{Groups}
 use Rattle.map_spec.specs.Written as written
@@ -39,11 +41,18 @@ pub record IsWithin (groups : Groups) (context : Context) (around : blocks.Conte
   pub nearest : around_shown context.around ≡ around.around
   pub tables : IsContext groups context.tables around
 
+-- anchors and marks, as the definition has them
+abbrev pub overlaid : List Anchor → Marks → blocks.Overlay
+overlaid anchors marks = record { anchors = anchors; marks = marks.marks.now }
+
+abbrev pub overlay_of : Overlay → blocks.Overlay
+overlay_of overlay = overlaid overlay.links.anchors.now overlay.marks
+
 -- what an element holds, as it is shown where it stands then
-abbrev pub content_shown : List Anchor → Element → blocks.Context → Html
-content_shown anchors element within = shown_from within anchors (element.place + 1) (inside_of element)
+abbrev pub content_shown : blocks.Overlay → Element → blocks.Context → Html
+content_shown overlay element within = shown_from within overlay (element.place + 1) (inside_of element)
 
 -- an element as it is shown with what it holds
-abbrev pub whole_shown : blocks.Context → List Anchor → Element → Html
-whole_shown around anchors element = element_shown around anchors element.place (element_of element)
-    (inside_of element) (content_shown anchors element)
+abbrev pub whole_shown : blocks.Context → blocks.Overlay → Element → Html
+whole_shown around overlay element = element_shown around overlay element.place (element_of element)
+    (inside_of element) (content_shown overlay element)

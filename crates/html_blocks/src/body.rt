@@ -12,21 +12,30 @@ ghost use Rattle.html_spec.specs.Blocks as blocks_spec;
 
 use crate::context::Context;
 use crate::element::Element;
-use crate::link::Links;
+use crate::overlay::Overlay;
 use crate::page::Page;
-use dita_doc::{Anchor, First, Html, List, NoMemory, Node, Resolved, Siblings, Text, append_html};
+use dita_doc::{
+    Anchor, First, Html, List, Mark, NoMemory, Node, Resolved, Siblings, Text, append_html,
+};
 use std::alloc::{AllocError, Global};
 
 /// The HTML of a page's body, and the faults of its elements. Of several anchors at one place the
-/// first counts. Anchors that stand by their places, at most one at each, are searched by halving.
-pub fn body_html(alloc: Global, body: &Resolved, anchors: &List<Anchor>) -> Result<Html, NoMemory>
+/// first counts; of several marks at one place all do, in their order. A mark of a text, or of an
+/// element that has no tag, is not shown. Anchors that stand by their places, at most one at each,
+/// are searched by halving, and so are marks whose places never fall.
+pub fn body_html(
+    alloc: Global,
+    body: &Resolved,
+    anchors: &List<Anchor>,
+    marks: &List<Mark>,
+) -> Result<Html, NoMemory>
     ensures { (nodes : Written) → body_spec.AreNodesOf body.now nodes
-        → IfOk result (λ html. html ≡ blocks_spec.body_html anchors.now nodes) }
+        → IfOk result (λ html. html ≡ blocks_spec.body_html anchors.now marks.now nodes) }
 {
     let mut page = Page::new(alloc);
-    let links = Links::of(anchors.as_slice());
+    let overlay = Overlay::of(anchors.as_slice(), marks.as_slice());
     let siblings = Siblings::of(&body.doc);
-    append_siblings(alloc, &mut page, links, siblings, 0, Context::outside())?;
+    append_siblings(alloc, &mut page, &overlay, siblings, 0, Context::outside())?;
     Ok(page.into_html())
 }
 
@@ -35,7 +44,7 @@ pub fn body_html(alloc: Global, body: &Resolved, anchors: &List<Anchor>) -> Resu
 fn append_siblings(
     alloc: Global,
     page: &mut Page,
-    links: Links<'_>,
+    overlay: &Overlay<'_>,
     siblings: Siblings<'_>,
     place: u32,
     context: Context<'_>,
@@ -45,7 +54,7 @@ fn append_siblings(
     ensures { (around : blocks_spec.Context)
         → walk_spec.IsWithin page.old.groups context.entry around
         → OnOk result (opened_spec.HasMore page.old page.new (blocks_spec.shown_from around
-        links.entry.anchors.now place (walk_spec.content_of siblings.entry))) }
+        (walk_spec.overlay_of overlay.now) place (walk_spec.content_of siblings.entry))) }
 {
     let mut left = siblings;
     let mut here = place;
@@ -68,7 +77,7 @@ fn append_siblings(
                     node,
                     inside,
                 };
-                append_element(alloc, page, links, element, context)?;
+                append_element(alloc, page, overlay, element, context)?;
                 let count = node.end - place;
                 here += count;
                 left = rest;
@@ -82,7 +91,7 @@ fn append_siblings(
 fn append_element(
     alloc: Global,
     page: &mut Page,
-    links: Links<'_>,
+    overlay: &Overlay<'_>,
     element: Element<'_>,
     context: Context<'_>,
 ) -> Result<(), NoMemory>
@@ -91,15 +100,15 @@ fn append_element(
     ensures { (around : blocks_spec.Context)
         → walk_spec.IsWithin page.old.groups context.entry around
         → OnOk result (opened_spec.HasMore page.old page.new
-        (walk_spec.whole_shown around links.entry.anchors.now element.entry)) }
+        (walk_spec.whole_shown around (walk_spec.overlay_of overlay.now) element.entry)) }
 {
-    let opened = page.open(alloc, links, element, context)?;
+    let opened = page.open(alloc, overlay, element, context)?;
     match opened {
         Some(opened) => {
             append_siblings(
                 alloc,
                 page,
-                links,
+                overlay,
                 element.inside,
                 element.place + 1,
                 opened.within,

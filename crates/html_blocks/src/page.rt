@@ -9,8 +9,10 @@ ghost use Rattle.html_forms.specs.Shown.{form_shown_of};
 
 use crate::context::Context;
 use crate::element::Element;
-use crate::link::{Link, Links};
+use crate::link::Link;
+use crate::mark::Marks;
 use crate::names::name_of;
+use crate::overlay::Overlay;
 use crate::start::{append_image, append_start};
 use crate::tags::{append_end, append_link};
 use dita_doc::{Fault, FaultCode, Html, List, NoMemory, Text, append_html, split_word};
@@ -79,25 +81,28 @@ impl Page {
     pub fn open<'a>(
         &mut self,
         alloc: Global,
-        links: Links<'_>,
+        overlay: &Overlay<'_>,
         element: Element<'a>,
         context: Context<'a>,
     ) -> Result<Option<Opened<'a>>, NoMemory>
         ensures { (around : blocks_spec.Context)
             → walk_spec.IsWithin self.old.groups context.entry around
             → IfOk result (λ opened. opened_spec.HasOpened self.old self.new opened
-            links.entry.anchors.now element.entry
-            (walk_spec.whole_shown around links.entry.anchors.now element.entry)) }
+            (walk_spec.overlay_of overlay.now) element.entry
+            (walk_spec.whole_shown around (walk_spec.overlay_of overlay.now) element.entry)) }
     {
         let tokens = tokens_of(element.node);
         if has_no_token(tokens) {
             let untyped = self.open_untyped(alloc, element, context)?;
             return Ok(Some(untyped));
         }
-        let link = links.at(element.place);
+        let link = overlay.links.at(element.place);
+        let marks = &overlay.marks;
         match row_among(tokens) {
             Some((token, form)) => {
-                let opened = self.open_row(alloc, tokens, token, form, element, link, context)?;
+                let opened = self.open_row(
+                    alloc, tokens, token, form, element, link, marks, context,
+                )?;
                 Ok(opened)
             }
             None => {
@@ -114,11 +119,11 @@ impl Page {
         element: Element<'a>,
         context: Context<'a>,
     ) -> Result<Opened<'a>, NoMemory>
-        ensures { (around : blocks_spec.Context) (anchors : List Anchor)
+        ensures { (around : blocks_spec.Context) (overlay : blocks_spec.Overlay)
             → walk_spec.IsWithin self.old.groups context.entry around
             → elements_spec.has_types (walk_spec.element_of element.entry) ≡ false
-            → IfOk result (λ opened. opened_spec.IsOpen self.old self.new opened anchors
-            element.entry (walk_spec.whole_shown around anchors element.entry)) }
+            → IfOk result (λ opened. opened_spec.IsOpen self.old self.new opened overlay
+            element.entry (walk_spec.whole_shown around overlay element.entry)) }
     {
         self.append_class_fault(alloc, element)?;
         Ok(Opened {
@@ -137,6 +142,7 @@ impl Page {
         form: Form,
         element: Element<'a>,
         link: Link<'_>,
+        marks: &Marks<'_>,
         context: Context<'a>,
     ) -> Result<Option<Opened<'a>>, NoMemory>
         ensures { (around : blocks_spec.Context) (anchors : List Anchor)
@@ -147,18 +153,20 @@ impl Page {
             ≡ Some (token.now, form_shown_of form)
             → anchors_spec.IsLinkAt anchors element.entry.place (option_copied link.entry.href)
             link.entry.label.now
-            → IfOk result (λ opened. opened_spec.HasOpened self.old self.new opened anchors
-            element.entry (walk_spec.whole_shown around anchors element.entry)) }
+            → IfOk result (λ opened. opened_spec.HasOpened self.old self.new opened
+            (walk_spec.overlaid anchors marks.now) element.entry
+            (walk_spec.whole_shown around (walk_spec.overlaid anchors marks.now)
+            element.entry)) }
     {
         match name_of(form, link, context) {
             Some(name) => {
                 let opened = self.open_named(
-                    alloc, tokens, token, name, form, element, link, context,
+                    alloc, tokens, token, name, form, element, link, marks, context,
                 )?;
                 Ok(Some(opened))
             }
             None => {
-                self.append_whole(alloc, form, element, link, context)?;
+                self.append_whole(alloc, form, element, link, marks, context)?;
                 Ok(None)
             }
         }
@@ -174,6 +182,7 @@ impl Page {
         form: Form,
         element: Element<'a>,
         link: Link<'_>,
+        marks: &Marks<'_>,
         context: Context<'a>,
     ) -> Result<Opened<'a>, NoMemory>
         ensures begun { (around : blocks_spec.Context)
@@ -183,6 +192,7 @@ impl Page {
             (blocks_spec.context_in (walk_spec.element_of element.entry)
             (walk_spec.inside_of element.entry) (Some (token.now, form_shown_of form)) around)
             (opened_spec.start_by around (option_copied link.entry.href)
+            (blocks_spec.marks_at marks.now.marks.now element.entry.place)
             (walk_spec.element_of element.entry) name.now (form_shown_of form)
             ++ opened_spec.content_begun (opened_spec.href_within (form_shown_of form)
             (option_copied link.entry.href)) (walk_spec.inside_of element.entry)
@@ -199,6 +209,7 @@ impl Page {
             form,
             element,
             link,
+            marks,
             context,
         )?;
         let group = self.enter(alloc, tokens, element, context)?;
@@ -273,16 +284,19 @@ impl Page {
         form: Form,
         element: Element<'_>,
         link: Link<'_>,
+        marks: &Marks<'_>,
         context: Context<'_>,
     ) -> Result<(), NoMemory>
         ensures { (around : blocks_spec.Context) → context.entry.topic.now ≡ around.topic
             → OnOk result (opened_spec.HasMore self.old self.new (opened_spec.whole_by around
-            (option_copied link.entry.href) (walk_spec.element_of element.entry)
-            (walk_spec.inside_of element.entry) (form_shown_of form))) }
+            (option_copied link.entry.href)
+            (blocks_spec.marks_at marks.now.marks.now element.entry.place)
+            (walk_spec.element_of element.entry) (walk_spec.inside_of element.entry)
+            (form_shown_of form))) }
     {
         match form {
             Form::Image => {
-                append_image(alloc, &mut self.text, element, link, context)?;
+                append_image(alloc, &mut self.text, element, link, marks, context)?;
                 Ok(())
             }
             Form::Foreign => self.append_foreign(alloc, element),

@@ -10,11 +10,13 @@ ghost use Rattle.html_tables.specs.Walk.{HasColumns};
 ghost use Rattle.map_spec.specs.Elements as elements_spec;
 ghost use Rattle.html_spec.specs.Blocks as blocks_spec;
 
+use crate::class::append_class;
 use crate::context::Context;
 use crate::element::Element;
 use crate::link::Link;
-use crate::tags::{append_attribute, append_if_some, append_name, append_span};
-use dita_doc::{Node, Siblings, Text, append_html_value};
+use crate::mark::Marks;
+use crate::tags::{append_attribute, append_name, append_span};
+use dita_doc::{Node, Siblings, Text};
 use doc_elements::{first_child, plain_text};
 use html_forms::Form;
 use html_tables::{Groups, rows_spanned};
@@ -29,15 +31,17 @@ pub(crate) fn append_start(
     form: Form,
     element: Element<'_>,
     link: Link<'_>,
+    marks: &Marks<'_>,
     context: Context<'_>,
 ) -> Result<(), AllocError>
     ensures { (around : blocks_spec.Context) → walk_spec.IsWithin groups.now context.entry around
         → OnOk result (out.new ≡ out.old ++ opened_spec.start_by around
-        (option_copied link.entry.href) (walk_spec.element_of element.entry) name.now
-        (form_shown_of form)) }
+        (option_copied link.entry.href)
+        (blocks_spec.marks_at marks.now.marks.now element.entry.place)
+        (walk_spec.element_of element.entry) name.now (form_shown_of form)) }
 {
     append_name(out, name, topic_before(form, context), element.node)?;
-    append_class(out, form, element.node)?;
+    append_class(out, form, element, marks)?;
     append_more(alloc, out, groups, form, element.node, link, context)?;
     out.append(">")
 }
@@ -51,46 +55,6 @@ fn topic_before<'a>(form: Form, context: Context<'a>) -> Option<&'a str>
         Form::Topic => None,
         _ => Some(context.topic),
     }
-}
-
-// Appends the class of an element of this form, if it has one.
-fn append_class(out: &mut Text, form: Form, element: &Node) -> Result<(), AllocError>
-    ensures { (name : List ℕ) → OnOk result (out.new ≡ out.old
-        ++ blocks_spec.attribute_text (codes "class") (blocks_spec.if_some_text
-        (opened_spec.class_by (elements_walk.element_of name element.now) (form_shown_of form)))) }
-{
-    match form {
-        Form::Tag(_, class) => append_if_some(out, "class", class),
-        Form::Note => append_note_class(out, kind_of(element)),
-        _ => Ok(()),
-    }
-}
-
-// The type that a note says; empty if it says none.
-fn kind_of(note: &Node) -> &str
-    ensures { (name : List ℕ) → result.now ≡ unwrap_or (elements_spec.attribute (codes "type")
-        (elements_walk.element_of name note.now)) [] }
-{
-    note.value_of("type").unwrap_or("")
-}
-
-// Appends the class of a note of this type.
-fn append_note_class(out: &mut Text, kind: &str) -> Result<(), AllocError>
-    ensures { OnOk result (out.new ≡ out.old ++ opened_spec.note_text kind.now) }
-{
-    out.append(" class=\"note")?;
-    append_kind(out, kind)?;
-    out.append("\"")
-}
-
-fn append_kind(out: &mut Text, kind: &str) -> Result<(), AllocError>
-    ensures { OnOk result (out.new ≡ out.old ++ opened_spec.kind_text kind.now) }
-{
-    if kind.is_empty() {
-        return Ok(());
-    }
-    out.append(" ")?;
-    append_html_value(out, kind)
 }
 
 // Appends what stands behind the id and the class of an element of this form.
@@ -151,17 +115,34 @@ pub(crate) fn append_image(
     out: &mut Text,
     image: Element<'_>,
     link: Link<'_>,
+    marks: &Marks<'_>,
     context: Context<'_>,
 ) -> Result<(), AllocError>
     ensures { (around : blocks_spec.Context) → context.entry.topic.now ≡ around.topic
         → OnOk result (out.new ≡ out.old ++ opened_spec.image_by around
+        (option_copied link.entry.href)
+        (blocks_spec.marks_at marks.now.marks.now image.entry.place)
+        (walk_spec.element_of image.entry) (walk_spec.inside_of image.entry)) }
+{
+    append_name(out, "img", Some(context.topic), image.node)?;
+    append_class(out, Form::Image, image, marks)?;
+    append_file(alloc, out, image, link)?;
+    out.append(">")
+}
+
+// Appends the file that an image shows, and the text in its place.
+fn append_file(
+    alloc: Global,
+    out: &mut Text,
+    image: Element<'_>,
+    link: Link<'_>,
+) -> Result<(), AllocError>
+    ensures { OnOk result (out.new ≡ out.old ++ opened_spec.file_text
         (option_copied link.entry.href) (walk_spec.element_of image.entry)
         (walk_spec.inside_of image.entry)) }
 {
-    append_name(out, "img", Some(context.topic), image.node)?;
     append_attribute(out, "src", link.href.unwrap_or(""))?;
-    append_alt(alloc, out, image)?;
-    out.append(">")
+    append_alt(alloc, out, image)
 }
 
 fn append_alt(alloc: Global, out: &mut Text, image: Element<'_>) -> Result<(), AllocError>

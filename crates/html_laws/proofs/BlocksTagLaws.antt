@@ -2,11 +2,12 @@
 use Rattle.std.specs.Prelude.{◌≡◌, ◌+◌, ℕ, Bool, true, false, List, [], ◌∷◌, ◌++◌, Option, Some, None, IfSome, filter, map, unwrap_or, codes, if◌then◌else◌}
 use Rattle.std.proofs.Common.{refl, sym, ap, subst, ◌∙◌, append-nil}
 use Rattle.dita_doc.specs.declared.content.Anchor.{Anchor}
+use Rattle.dita_doc.specs.declared.content.Mark.{Mark}
 use Rattle.dita_doc.specs.declared.fact.Html.{Html}
 use Rattle.map_spec.specs.Elements.{attribute, has_types, is_a, is_transparent, is_whole, without_transparent}
 use Rattle.map_spec.specs.Titles.{id_of}
 use Rattle.map_spec.specs.Written.{Element, Whole, Written, End, Chars, Node, side_by_side, siblings, size}
-use Rattle.html_spec.specs.Blocks.{Context, Form, Tag, Topic, Title, Note, Reference, Image, Cell, SimpleCell, Left, Foreign, alt_of, attribute_text, body_html, cell_tag, columns_in, content_or_label, element_shown, form_shown, href_at, id_shown, if_some_text, image_tag, label_at, linked_at, linked_by, note_class, outside, reference_tag, row_for, row_shown, shown_from, spans, tagged, title_tag, within_type}
+use Rattle.html_spec.specs.Blocks.{Context, Form, Tag, Topic, Title, Note, Reference, Image, Cell, SimpleCell, Left, Foreign, Overlay, alt_of, attribute_text, body_html, cell_tag, class_at, columns_in, content_or_label, element_shown, form_shown, href_at, id_shown, if_some_text, image_tag, label_at, linked_at, linked_by, note_class, outside, reference_tag, row_for, row_shown, shown_from, spans, tagged, title_tag, within_type}
 use Rattle.html_spec.specs.Tables.{column_names, is_group}
 use Rattle.html_laws.specs.Markup.{attribute_names, element_names, is_among, void_names}
 use Rattle.html_laws.specs.Tags.{HaveSameTags, with_texts}
@@ -136,21 +137,23 @@ linked_alike (Some href) content other is =
     element_alike (codes "a") attributes attributes content.bytes other.bytes refl
     (same_names attributes (href_known (Some href))) is
 
-image_alike : (context : Context) (anchors : List Anchor) (place : ℕ) (element : Element) (inside within : Written)
-    → HaveSameTags (image_tag context anchors place element inside) (image_tag context anchors place element within)
+image_alike : (context : Context) (overlay : Overlay) (place : ℕ) (element : Element) (inside within : Written)
+    → HaveSameTags (image_tag context overlay place element inside) (image_tag context overlay place element within)
 unfolding void_names attribute_names
-image_alike context anchors place element inside within =
+image_alike context overlay place element inside within =
+    let class = class_at overlay place [] in
     let id = id_shown context false (id_of element) in
-    let front = attribute_text (codes "id") id ++ attribute_text (codes "class") (if_some_text []) in
-    let source = attribute_text (codes "src") (Some (unwrap_or (href_at anchors place) [])) in
+    let front = attribute_text (codes "id") id ++ attribute_text (codes "class") (if_some_text class) in
+    let source = attribute_text (codes "src") (Some (unwrap_or (href_at overlay.anchors place) [])) in
     let first = attribute_text (codes "alt") (Some (alt_of element inside)) in
     let second = attribute_text (codes "alt") (Some (alt_of element within)) in
-    let front_is = same_names (front ++ []) (start_attributes id (if_some_text []) [] no_attributes) in
+    let front_is = same_names (front ++ []) (start_attributes id (if_some_text class) [] no_attributes) in
     void_alike (codes "img") (front ++ (source ++ first)) (front ++ (source ++ second)) refl
     (names_beside front (source ++ first) front (source ++ second)
     (subst (λ bytes. HaveSameNames bytes bytes) (append-nil front) front_is)
     (names_beside source first source second
-    (values_alike (codes "src") (unwrap_or (href_at anchors place) []) (unwrap_or (href_at anchors place) []) refl)
+    (values_alike (codes "src") (unwrap_or (href_at overlay.anchors place) [])
+    (unwrap_or (href_at overlay.anchors place) []) refl)
     (values_alike (codes "alt") (alt_of element inside) (alt_of element within) refl)))
 
 label_alike : (texts : ℕ → List ℕ) (anchors : List Anchor) (place : ℕ) (inside : Written) (content other : Html)
@@ -161,39 +164,47 @@ label_alike texts anchors place End content other is = texts_alike (label_at anc
 label_alike texts anchors place (Chars text doc rest) content other is = is
 label_alike texts anchors place (Node element inside rest) content other is = is
 
-module _ (texts : ℕ → List ℕ) (anchors : List Anchor) where
+module _ (texts : ℕ → List ℕ) (overlay : Overlay) where
   form_alike : (context : Context) (place : ℕ) (element : Element) (inside within : Written) (content other : Html)
       (form : Form) → has_known_name form ≡ true → AreAlike content other
-      → AreAlike (form_shown context anchors place element inside content form)
-      (form_shown context anchors place element within other form)
+      → AreAlike (form_shown context overlay place element inside content form)
+      (form_shown context overlay place element within other form)
   unfolding element_names
   form_alike context place element inside within content other (Tag name class) known is =
-      tagged_alike context false element name class [] (linked_at anchors place content) (linked_at anchors place other)
-      known no_attributes (linked_alike (href_at anchors place) content other is)
+      tagged_alike context false element name (class_at overlay place class) []
+      (linked_at overlay.anchors place content) (linked_at overlay.anchors place other)
+      known no_attributes (linked_alike (href_at overlay.anchors place) content other is)
   form_alike context place element inside within content other Topic known is =
-      tagged_alike context true element (codes "article") [] [] (linked_at anchors place content)
-      (linked_at anchors place other) refl no_attributes (linked_alike (href_at anchors place) content other is)
+      tagged_alike context true element (codes "article") (class_at overlay place []) []
+      (linked_at overlay.anchors place content)
+      (linked_at overlay.anchors place other) refl no_attributes
+      (linked_alike (href_at overlay.anchors place) content other is)
   form_alike context place element inside within content other Title known is =
-      tagged_alike context false element (title_tag context.around context.depth) [] []
-      (linked_at anchors place content) (linked_at anchors place other) (title_name context.around context.depth)
-      no_attributes (linked_alike (href_at anchors place) content other is)
+      tagged_alike context false element (title_tag context.around context.depth) (class_at overlay place []) []
+      (linked_at overlay.anchors place content) (linked_at overlay.anchors place other)
+      (title_name context.around context.depth)
+      no_attributes (linked_alike (href_at overlay.anchors place) content other is)
   form_alike context place element inside within content other Note known is =
-      tagged_alike context false element (codes "div") (note_class element) [] (linked_at anchors place content)
-      (linked_at anchors place other) refl no_attributes (linked_alike (href_at anchors place) content other is)
+      tagged_alike context false element (codes "div") (class_at overlay place (note_class element)) []
+      (linked_at overlay.anchors place content)
+      (linked_at overlay.anchors place other) refl no_attributes
+      (linked_alike (href_at overlay.anchors place) content other is)
   form_alike context place element inside within content other Reference known is =
-      tagged_alike context false element (reference_tag (href_at anchors place)) []
-      (attribute_text (codes "href") (href_at anchors place)) content other (reference_name (href_at anchors place))
-      (href_known (href_at anchors place)) is
+      tagged_alike context false element (reference_tag (href_at overlay.anchors place)) (class_at overlay place [])
+      (attribute_text (codes "href") (href_at overlay.anchors place)) content other
+      (reference_name (href_at overlay.anchors place))
+      (href_known (href_at overlay.anchors place)) is
   form_alike context place element inside within content other Image known is =
-      image_alike context anchors place element inside within
+      image_alike context overlay place element inside within
   form_alike context place element inside within content other Cell known is =
-      tagged_alike context false element (cell_tag context.head) [] (spans context element)
-      (linked_at anchors place content) (linked_at anchors place other) (cell_name context.head)
-      (spans_known context element) (linked_alike (href_at anchors place) content other is)
+      tagged_alike context false element (cell_tag context.head) (class_at overlay place []) (spans context element)
+      (linked_at overlay.anchors place content) (linked_at overlay.anchors place other) (cell_name context.head)
+      (spans_known context element) (linked_alike (href_at overlay.anchors place) content other is)
   form_alike context place element inside within content other SimpleCell known is =
-      tagged_alike context false element (cell_tag context.simple_head) [] [] (linked_at anchors place content)
-      (linked_at anchors place other) (cell_name context.simple_head) no_attributes
-      (linked_alike (href_at anchors place) content other is)
+      tagged_alike context false element (cell_tag context.simple_head) (class_at overlay place []) []
+      (linked_at overlay.anchors place content)
+      (linked_at overlay.anchors place other) (cell_name context.simple_head) no_attributes
+      (linked_alike (href_at overlay.anchors place) content other is)
   form_alike context place element inside within content other Left known is = itself_alike [] markup_none
   form_alike context place element inside within content other Foreign known is = itself_alike [] markup_none
 
@@ -202,14 +213,14 @@ module _ (texts : ℕ → List ℕ) (anchors : List Anchor) where
 
   row_alike : (context : Context) (place : ℕ) (element : Element) (inside : Written) (content other : Context → Html)
       (row : Option (List ℕ × Form)) → IfSome row IsKnownRow → AreAlikeIn content other
-      → AreAlike (row_shown context anchors place element inside content row)
-      (row_shown context anchors place element (with_texts texts (place + 1) inside) other row)
+      → AreAlike (row_shown context overlay place element inside content row)
+      (row_shown context overlay place element (with_texts texts (place + 1) inside) other row)
   row_alike context place element inside content other None known each =
       let here = columns_in element inside context in
       let there = columns_in element (with_texts texts (place + 1) inside) context in
-      linked_alike (href_at anchors place) (content_or_label anchors place inside (content here))
-      (content_or_label anchors place (with_texts texts (place + 1) inside) (other there))
-      (label_alike texts anchors place inside (content here) (other there)
+      linked_alike (href_at overlay.anchors place) (content_or_label overlay.anchors place inside (content here))
+      (content_or_label overlay.anchors place (with_texts texts (place + 1) inside) (other there))
+      (label_alike texts overlay.anchors place inside (content here) (other there)
       (subst (λ (found : Context). AreAlike (content here) (other found))
       (sym (context_same texts (place + 1) element inside context)) (each here)))
   row_alike context place element inside content other (Some row) known each =
@@ -217,45 +228,46 @@ module _ (texts : ℕ → List ℕ) (anchors : List Anchor) where
       let here = columns_in element inside typed in
       let there = columns_in element (with_texts texts (place + 1) inside) typed in
       form_alike context place element inside (with_texts texts (place + 1) inside)
-      (content_or_label anchors place inside (content here))
-      (content_or_label anchors place (with_texts texts (place + 1) inside) (other there)) row.1 known
-      (label_alike texts anchors place inside (content here) (other there)
+      (content_or_label overlay.anchors place inside (content here))
+      (content_or_label overlay.anchors place (with_texts texts (place + 1) inside) (other there)) row.1 known
+      (label_alike texts overlay.anchors place inside (content here) (other there)
       (subst (λ (found : Context). AreAlike (content here) (other found))
       (sym (context_same texts (place + 1) element inside typed)) (each here)))
 
   element_tags : (context : Context) (place : ℕ) (element : Element) (inside : Written) (content other : Context → Html)
       (typed : Bool) → has_types element ≡ typed → AreAlikeIn content other
-      → AreAlike (element_shown context anchors place element inside content)
-      (element_shown context anchors place element (with_texts texts (place + 1) inside) other)
+      → AreAlike (element_shown context overlay place element inside content)
+      (element_shown context overlay place element (with_texts texts (place + 1) inside) other)
   element_tags context place element inside content other true e each =
       rw e (row_alike context place element inside content other (row_for element) (row_known element) each)
   element_tags context place element inside content other false e each = rw e (each context)
 
   nodes_alike : (context : Context) (place : ℕ) (nodes : Written)
-      → AreAlike (shown_from context anchors place nodes)
-      (shown_from context anchors place (with_texts texts place nodes))
+      → AreAlike (shown_from context overlay place nodes)
+      (shown_from context overlay place (with_texts texts place nodes))
   nodes_alike context place End = itself_alike [] markup_none
   nodes_alike context place (Chars text doc rest) =
-      beside_alike _ (shown_from context anchors (place + 1) rest).bytes _
-      (shown_from context anchors (place + 1) (with_texts texts (place + 1) rest)).bytes
+      beside_alike _ (shown_from context overlay (place + 1) rest).bytes _
+      (shown_from context overlay (place + 1) (with_texts texts (place + 1) rest)).bytes
       (texts_alike text (texts place)) (nodes_alike context (place + 1) rest)
   nodes_alike context place (Node element inside rest) =
       let inside_too = with_texts texts (place + 1) inside in
       let next = place + 1 + size inside in
       let rest_too = with_texts texts next rest in
-      let content = λ (within : Context). shown_from within anchors (place + 1) inside in
-      let other = λ (within : Context). shown_from within anchors (place + 1) inside_too in
+      let content = λ (within : Context). shown_from within overlay (place + 1) inside in
+      let other = λ (within : Context). shown_from within overlay (place + 1) inside_too in
       let size_is : size inside_too ≡ size inside = size_same texts (place + 1) inside in
-      let behind = subst (λ count. AreAlike (shown_from context anchors next rest)
-      (shown_from context anchors (place + 1 + count) rest_too)) (sym size_is) (nodes_alike context next rest) in
-      beside_alike (element_shown context anchors place element inside content).bytes
-      (shown_from context anchors next rest).bytes
-      (element_shown context anchors place element inside_too other).bytes
-      (shown_from context anchors (place + 1 + size inside_too) rest_too).bytes
+      let behind = subst (λ count. AreAlike (shown_from context overlay next rest)
+      (shown_from context overlay (place + 1 + count) rest_too)) (sym size_is) (nodes_alike context next rest) in
+      beside_alike (element_shown context overlay place element inside content).bytes
+      (shown_from context overlay next rest).bytes
+      (element_shown context overlay place element inside_too other).bytes
+      (shown_from context overlay (place + 1 + size inside_too) rest_too).bytes
       (element_tags context place element inside content other (has_types element) refl
       (λ within. nodes_alike within (place + 1) inside)) behind
 
-pub body_alike : (texts : ℕ → List ℕ) (anchors : List Anchor) (nodes : Written)
-    → HaveSameTags (body_html anchors nodes).bytes (body_html anchors (with_texts texts 0 nodes)).bytes
+pub body_alike : (texts : ℕ → List ℕ) (anchors : List Anchor) (marks : List Mark) (nodes : Written)
+    → HaveSameTags (body_html anchors marks nodes).bytes (body_html anchors marks (with_texts texts 0 nodes)).bytes
 unfolding body_html
-body_alike texts anchors nodes = nodes_alike texts anchors outside 0 nodes
+body_alike texts anchors marks nodes =
+    nodes_alike texts (record { anchors = anchors; marks = marks }) outside 0 nodes

@@ -1,23 +1,24 @@
 -- The HTML of content in UTF-8 is UTF-8.
-use Rattle.std.specs.Prelude.{◌≡◌, ◌+◌, ℕ, Bool, true, false, List, [], ◌∷◌, ◌++◌, Option, Some, None, IfSome, nat_le, unwrap_or, codes}
+use Rattle.std.specs.Prelude.{◌≡◌, ◌+◌, ℕ, Bool, true, false, List, [], ◌∷◌, ◌++◌, Option, Some, None, IfSome, filter, nat_le, unwrap_or, codes}
 use Rattle.std.specs.Fmt.{decimal}
-use Rattle.std.specs.List.{AllByRecursion}
-use Rattle.std.specs.Option.{option_and_then}
+use Rattle.std.specs.List.{AllByRecursion, flat_map}
+use Rattle.std.specs.Option.{option_and_then, option_to_list}
 use Rattle.std.specs.Str.{IsUtf8}
 use Rattle.std.proofs.Common.{refl}
 use Rattle.std.proofs.lemmas.Str.{IsUtf8-append, IsUtf8-nil}
 use Rattle.dita_doc.specs.HtmlEscapes.{escaped}
 use Rattle.dita_doc.specs.declared.content.Anchor.{Anchor}
+use Rattle.dita_doc.specs.declared.content.Mark.{Mark}
 use Rattle.dita_doc.specs.declared.fact.Html.{Html}
 use Rattle.map_spec.specs.Elements.{attribute, first_child, has_types, text_of}
 use Rattle.map_spec.specs.Titles.{id_of}
 use Rattle.map_spec.specs.Written.{Element, Written, End, Chars, Node, size}
-use Rattle.html_spec.specs.Blocks.{Context, Form, Tag, Topic, Title, Note, Reference, Image, Cell, SimpleCell, Left, Foreign, alt_of, anchor_at, attribute_text, body_html, cell_tag, columns_in, content_or_label, element_shown, end_tag, form_shown, href_at, id_shown, if_some_text, image_tag, is_anchor_at, is_type, label_at, linked_at, linked_by, note_class, outside, reference_tag, row_for, row_shown, shown_from, span_text, spans, start_of, start_tag, tagged, title_tag, within_type}
+use Rattle.html_spec.specs.Blocks.{Context, Form, Tag, Topic, Title, Note, Reference, Image, Cell, SimpleCell, Left, Foreign, Overlay, alt_of, anchor_at, attribute_text, body_html, cell_tag, class_at, columns_in, content_or_label, element_shown, end_tag, form_shown, href_at, id_shown, if_some_text, image_tag, is_anchor_at, is_mark_at, is_type, label_at, linked_at, linked_by, marks_at, note_class, outside, reference_tag, row_for, row_shown, shown_from, span_text, spaced, spans, start_of, start_tag, tagged, title_tag, within_type}
 use Rattle.html_spec.specs.Tables.{column_names, columns_of, is_group, rows_of}
-use Rattle.html_laws.specs.Utf8.{IsUtf8Anchor, IsUtf8Content}
+use Rattle.html_laws.specs.Utf8.{IsUtf8Anchor, IsUtf8Content, IsUtf8Mark}
 use Rattle.html_laws.proofs.BlocksLaws.{cell_name, reference_name}
 use Rattle.html_laws.proofs.ContentUtf8Laws.{HasUtf8Values, utf8_attribute_of, utf8_child, utf8_id, utf8_text_of}
-use Rattle.html_laws.proofs.EachLaws.{chosen, of_and_then, of_found, of_map_or, of_option}
+use Rattle.html_laws.proofs.EachLaws.{chosen, of_and_then, of_both, of_found, of_kept, of_map_or, of_mapped, of_option}
 use Rattle.html_laws.proofs.FormLaws.{title_name}
 use Rattle.html_laws.proofs.FormUtf8Laws.{IsUtf8Row, IsUtf8Form, row_utf8}
 use Rattle.html_laws.proofs.TextUtf8Laws.{utf8_attribute, utf8_codes, utf8_decimal, utf8_end, utf8_escaped, utf8_name, utf8_start, utf8_three}
@@ -79,6 +80,35 @@ module _ (anchors : List Anchor) (all : AllByRecursion IsUtf8Anchor anchors) whe
   utf8_content place (Chars text doc rest) content within = within
   utf8_content place (Node element inside rest) content within = within
 
+-- Marks
+
+utf8_listed : (class : List ℕ) → IsUtf8 class → AllByRecursion IsUtf8 (option_to_list (if_some_text class))
+utf8_listed [] is = tt
+utf8_listed (b ∷ class) is = (is, tt)
+
+utf8_others : (texts : List (List ℕ)) → AllByRecursion IsUtf8 texts
+    → IsUtf8 (flat_map (λ other. codes " " ++ other) texts)
+utf8_others [] all = IsUtf8-nil
+utf8_others (text ∷ texts) all =
+    utf8_three (codes " ") text (flat_map (λ other. codes " " ++ other) texts) (utf8_codes (codes " ") refl) all.0
+    (utf8_others texts all.1)
+
+utf8_spaced : (texts : List (List ℕ)) → AllByRecursion IsUtf8 texts → IsUtf8 (spaced texts)
+utf8_spaced [] all = IsUtf8-nil
+utf8_spaced (text ∷ texts) all =
+    IsUtf8-append text (flat_map (λ other. codes " " ++ other) texts) all.0 (utf8_others texts all.1)
+
+abbrev IsUtf8Overlay : Overlay → Type 0
+IsUtf8Overlay overlay = AllByRecursion IsUtf8Anchor overlay.anchors × AllByRecursion IsUtf8Mark overlay.marks
+
+utf8_class : (overlay : Overlay) → AllByRecursion IsUtf8Mark overlay.marks → (place : ℕ) (class : List ℕ)
+    → IsUtf8 class → IsUtf8 (class_at overlay place class)
+utf8_class overlay all place class is =
+    utf8_spaced (option_to_list (if_some_text class) ++ marks_at overlay.marks place)
+    (of_both IsUtf8 (option_to_list (if_some_text class)) (marks_at overlay.marks place) (utf8_listed class is)
+    (of_mapped IsUtf8Mark IsUtf8 (λ (mark : Mark). mark.text) (filter (is_mark_at place) overlay.marks)
+    (λ mark one. one) (of_kept IsUtf8Mark (is_mark_at place) overlay.marks all)))
+
 -- Elements
 
 utf8_href_text : (href : Option (List ℕ)) → IfSome href IsUtf8 → IsUtf8 (attribute_text (codes "href") href)
@@ -117,31 +147,34 @@ utf8_alt element inside values all =
     (utf8_attribute_of (codes "alt") element values)
     (utf8_text_of (first_child (codes "topic/alt") inside) (utf8_child (codes "topic/alt") inside all))
 
-utf8_image : (context : Context) (anchors : List Anchor) (place : ℕ) (element : Element) (inside : Written)
-    → IsUtf8 context.topic → HasUtf8Values element → IsUtf8Content inside → AllByRecursion IsUtf8Anchor anchors
-    → IsUtf8 (image_tag context anchors place element inside)
-utf8_image context anchors place element inside topic values all known =
-    let source = Some (unwrap_or (href_at anchors place) []) in
+utf8_image : (context : Context) (overlay : Overlay) (place : ℕ) (element : Element) (inside : Written)
+    → IsUtf8 context.topic → HasUtf8Values element → IsUtf8Content inside → IsUtf8Overlay overlay
+    → IsUtf8 (image_tag context overlay place element inside)
+utf8_image context overlay place element inside topic values all known =
+    let source = Some (unwrap_or (href_at overlay.anchors place) []) in
     let other = Some (alt_of element inside) in
-    utf8_start_of context false element (codes "img") []
+    utf8_start_of context false element (codes "img") (class_at overlay place [])
     (attribute_text (codes "src") source ++ attribute_text (codes "alt") other) topic values
-    (utf8_codes (codes "img") refl) IsUtf8-nil
+    (utf8_codes (codes "img") refl) (utf8_class overlay known.1 place [] IsUtf8-nil)
     (IsUtf8-append (attribute_text (codes "src") source) (attribute_text (codes "alt") other)
     (utf8_attribute (codes "src") source (utf8_codes (codes "src") refl)
-    (of_option IsUtf8 (href_at anchors place) [] (utf8_href anchors known place) IsUtf8-nil))
+    (of_option IsUtf8 (href_at overlay.anchors place) [] (utf8_href overlay.anchors known.0 place) IsUtf8-nil))
     (utf8_attribute (codes "alt") other (utf8_codes (codes "alt") refl) (utf8_alt element inside values all)))
 
-module _ (context : Context) (anchors : List Anchor) (place : ℕ) (element : Element) (inside : Written)
-    (content : Html) (topic : IsUtf8 context.topic) (known : AllByRecursion IsUtf8Anchor anchors)
+module _ (context : Context) (overlay : Overlay) (place : ℕ) (element : Element) (inside : Written)
+    (content : Html) (topic : IsUtf8 context.topic) (known : IsUtf8Overlay overlay)
     (values : HasUtf8Values element) (all : IsUtf8Content inside) (within : IsUtf8 content.bytes) where
-  around_link : (is_topic : Bool) (name class more : List ℕ) → IsUtf8 name → IsUtf8 class → IsUtf8 more
-      → IsUtf8 (tagged context is_topic element name class more (linked_at anchors place content)).bytes
+  around_link : (is_topic : Bool) (name class more : List ℕ) → IsUtf8 name → IsUtf8 class → IsUtf8 more → IsUtf8
+      (tagged context is_topic element name (class_at overlay place class) more
+      (linked_at overlay.anchors place content)).bytes
   around_link is_topic name class more named classed others =
-      utf8_tagged context is_topic element name class more (linked_at anchors place content) topic values named classed
-      others (utf8_linked (href_at anchors place) content (utf8_href anchors known place) within)
+      utf8_tagged context is_topic element name (class_at overlay place class) more
+      (linked_at overlay.anchors place content) topic values named (utf8_class overlay known.1 place class classed)
+      others
+      (utf8_linked (href_at overlay.anchors place) content (utf8_href overlay.anchors known.0 place) within)
 
   utf8_form : (form : Form) → IsUtf8Form form
-      → IsUtf8 (form_shown context anchors place element inside content form).bytes
+      → IsUtf8 (form_shown context overlay place element inside content form).bytes
   utf8_form (Tag name class) is = around_link false name class [] is.0 is.1 IsUtf8-nil
   utf8_form Topic is =
       around_link true (codes "article") [] [] (utf8_codes (codes "article") refl) IsUtf8-nil IsUtf8-nil
@@ -153,11 +186,12 @@ module _ (context : Context) (anchors : List Anchor) (place : ℕ) (element : El
       around_link false (codes "div") (note_class element) [] (utf8_codes (codes "div") refl) (utf8_note element values)
       IsUtf8-nil
   utf8_form Reference is =
-      utf8_tagged context false element (reference_tag (href_at anchors place)) []
-      (attribute_text (codes "href") (href_at anchors place)) content topic values
-      (utf8_name (reference_tag (href_at anchors place)) (reference_name (href_at anchors place))) IsUtf8-nil
-      (utf8_href_text (href_at anchors place) (utf8_href anchors known place)) within
-  utf8_form Image is = utf8_image context anchors place element inside topic values all known
+      utf8_tagged context false element (reference_tag (href_at overlay.anchors place)) (class_at overlay place [])
+      (attribute_text (codes "href") (href_at overlay.anchors place)) content topic values
+      (utf8_name (reference_tag (href_at overlay.anchors place)) (reference_name (href_at overlay.anchors place)))
+      (utf8_class overlay known.1 place [] IsUtf8-nil)
+      (utf8_href_text (href_at overlay.anchors place) (utf8_href overlay.anchors known.0 place)) within
+  utf8_form Image is = utf8_image context overlay place element inside topic values all known
   utf8_form Cell is =
       around_link false (cell_tag context.head) [] (spans context element)
       (utf8_name (cell_tag context.head) (cell_name context.head)) IsUtf8-nil (utf8_spans context element)
@@ -186,53 +220,55 @@ within_topic token element context values topic =
 abbrev IsUtf8Within : (Context → Html) → Type 0
 IsUtf8Within content = (within : Context) → HasUtf8Topic within → IsUtf8 (content within).bytes
 
-utf8_row : (context : Context) (anchors : List Anchor) (place : ℕ) (element : Element) (inside : Written)
+utf8_row : (context : Context) (overlay : Overlay) (place : ℕ) (element : Element) (inside : Written)
     (content : Context → Html) (row : Option (List ℕ × Form)) → IfSome row IsUtf8Row → HasUtf8Topic context
-    → AllByRecursion IsUtf8Anchor anchors → HasUtf8Values element → IsUtf8Content inside → IsUtf8Within content
-    → IsUtf8 (row_shown context anchors place element inside content row).bytes
-utf8_row context anchors place element inside content None is topic known values all each =
+    → IsUtf8Overlay overlay → HasUtf8Values element → IsUtf8Content inside → IsUtf8Within content
+    → IsUtf8 (row_shown context overlay place element inside content row).bytes
+utf8_row context overlay place element inside content None is topic known values all each =
     let context_in = columns_in element inside context in
-    utf8_linked (href_at anchors place) (content_or_label anchors place inside (content context_in))
-    (utf8_href anchors known place)
-    (utf8_content anchors known place inside (content context_in)
+    utf8_linked (href_at overlay.anchors place) (content_or_label overlay.anchors place inside (content context_in))
+    (utf8_href overlay.anchors known.0 place)
+    (utf8_content overlay.anchors known.0 place inside (content context_in)
     (each context_in (columns_topic element inside context topic)))
-utf8_row context anchors place element inside content (Some row) is topic known values all each =
+utf8_row context overlay place element inside content (Some row) is topic known values all each =
     let context_in = columns_in element inside (within_type row.0 element context) in
-    utf8_form context anchors place element inside (content_or_label anchors place inside (content context_in)) topic
+    utf8_form context overlay place element inside (content_or_label overlay.anchors place inside (content context_in))
+    topic
     known values all
-    (utf8_content anchors known place inside (content context_in)
+    (utf8_content overlay.anchors known.0 place inside (content context_in)
     (each context_in
     (columns_topic element inside (within_type row.0 element context) (within_topic row.0 element context values topic))))
     row.1 is
 
-utf8_element : (context : Context) (anchors : List Anchor) (place : ℕ) (element : Element) (inside : Written)
+utf8_element : (context : Context) (overlay : Overlay) (place : ℕ) (element : Element) (inside : Written)
     (content : Context → Html) (typed : Bool) → has_types element ≡ typed → HasUtf8Topic context
-    → AllByRecursion IsUtf8Anchor anchors → HasUtf8Values element → IsUtf8Content inside → IsUtf8Within content
-    → IsUtf8 (element_shown context anchors place element inside content).bytes
-utf8_element context anchors place element inside content true e topic known values all each =
-    rw e (utf8_row context anchors place element inside content (row_for element) (row_utf8 element) topic known values
+    → IsUtf8Overlay overlay → HasUtf8Values element → IsUtf8Content inside → IsUtf8Within content
+    → IsUtf8 (element_shown context overlay place element inside content).bytes
+utf8_element context overlay place element inside content true e topic known values all each =
+    rw e (utf8_row context overlay place element inside content (row_for element) (row_utf8 element) topic known values
     all each)
-utf8_element context anchors place element inside content false e topic known values all each =
+utf8_element context overlay place element inside content false e topic known values all each =
     rw e (each context topic)
 
 -- Content
 
-utf8_nodes : (context : Context) (anchors : List Anchor) (place : ℕ) (nodes : Written) → HasUtf8Topic context
-    → AllByRecursion IsUtf8Anchor anchors → IsUtf8Content nodes
-    → IsUtf8 (shown_from context anchors place nodes).bytes
-utf8_nodes context anchors place End topic known all = IsUtf8-nil
-utf8_nodes context anchors place (Chars text doc rest) topic known all =
-    IsUtf8-append (escaped text) (shown_from context anchors (place + 1) rest).bytes (utf8_escaped text all.0)
-    (utf8_nodes context anchors (place + 1) rest topic known all.1)
-utf8_nodes context anchors place (Node element inside rest) topic known all =
-    let content = λ (within : Context). shown_from within anchors (place + 1) inside in
-    IsUtf8-append (element_shown context anchors place element inside content).bytes
-    (shown_from context anchors (place + 1 + size inside) rest).bytes
-    (utf8_element context anchors place element inside content (has_types element) refl topic known all.0.0 all.1
-    (λ within is. utf8_nodes within anchors (place + 1) inside is known all.1))
-    (utf8_nodes context anchors (place + 1 + size inside) rest topic known all.2)
+utf8_nodes : (context : Context) (overlay : Overlay) (place : ℕ) (nodes : Written) → HasUtf8Topic context
+    → IsUtf8Overlay overlay → IsUtf8Content nodes
+    → IsUtf8 (shown_from context overlay place nodes).bytes
+utf8_nodes context overlay place End topic known all = IsUtf8-nil
+utf8_nodes context overlay place (Chars text doc rest) topic known all =
+    IsUtf8-append (escaped text) (shown_from context overlay (place + 1) rest).bytes (utf8_escaped text all.0)
+    (utf8_nodes context overlay (place + 1) rest topic known all.1)
+utf8_nodes context overlay place (Node element inside rest) topic known all =
+    let content = λ (within : Context). shown_from within overlay (place + 1) inside in
+    IsUtf8-append (element_shown context overlay place element inside content).bytes
+    (shown_from context overlay (place + 1 + size inside) rest).bytes
+    (utf8_element context overlay place element inside content (has_types element) refl topic known all.0.0 all.1
+    (λ within is. utf8_nodes within overlay (place + 1) inside is known all.1))
+    (utf8_nodes context overlay (place + 1 + size inside) rest topic known all.2)
 
-pub body_utf8 : (anchors : List Anchor) (nodes : Written) → AllByRecursion IsUtf8Anchor anchors → IsUtf8Content nodes
-    → IsUtf8 (body_html anchors nodes).bytes
+pub body_utf8 : (anchors : List Anchor) (marks : List Mark) (nodes : Written) → AllByRecursion IsUtf8Anchor anchors
+    → AllByRecursion IsUtf8Mark marks → IsUtf8Content nodes → IsUtf8 (body_html anchors marks nodes).bytes
 unfolding body_html
-body_utf8 anchors nodes known all = utf8_nodes outside anchors 0 nodes IsUtf8-nil known all
+body_utf8 anchors marks nodes known flags all =
+    utf8_nodes outside (record { anchors = anchors; marks = marks }) 0 nodes IsUtf8-nil (known, flags) all

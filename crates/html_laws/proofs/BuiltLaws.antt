@@ -6,6 +6,7 @@ use Rattle.std.proofs.Common.{refl, sym, subst, arith}
 use Rattle.std.proofs.lemmas.Bool.{and_parts}
 use Rattle.std.proofs.lemmas.List.Elements.{All-from_recursion}
 use Rattle.build_spec.specs.Built.{Page, Done, TooLarge}
+use Rattle.dita_doc.specs.declared.content.Rule.{Rule}
 use Rattle.dita_doc.specs.declared.fact.Html.{Html}
 use Rattle.dita_doc.specs.declared.fault.Fault.{Fault}
 use Rattle.dita_doc.specs.declared.plan.PagePlan.{PagePlan}
@@ -22,9 +23,9 @@ use Rattle.map_spec.specs.Titles.{kind_in, kind_of_document, kind_of_root, title
 use Rattle.map_spec.specs.Written.{Whole, Written, document, first_sibling}
 use Rattle.html_spec.specs.Anchors.{anchor_faults, anchors, element_links}
 use Rattle.html_spec.specs.Blocks.{body_html}
-use Rattle.conref_spec.specs.Content.{Made, resolved_page}
+use Rattle.conref_spec.specs.Content.{Made}
 use Rattle.link_spec.specs.Links.{row_faults}
-use Rattle.part_spec.specs.Parts.{Rooms, build_by, build_of, clean_build, contents_part, here_of, links_of, names_of, page_of_root, page_part, page_parts, no_html, page_with, pages_with, parts_of, rooms, setting_of, too_many, total_limit, total_of}
+use Rattle.part_spec.specs.Parts.{Rooms, build_by, build_of, clean_build, content_of_root, contents_part, here_of, links_of, marks_in, names_of, page_of_root, page_part, page_parts, page_rules, no_html, page_with, pages_with, parts_of, rooms, total_limit, total_of}
 use Rattle.html_laws.specs.Markup.{IsPage}
 use Rattle.html_laws.proofs.BlocksLaws.{body_markup}
 use Rattle.html_laws.proofs.ContentsLaws.{contents_is_page}
@@ -116,20 +117,21 @@ element_there (x ∷ xs) zero less = tt
 element_there (x ∷ xs) (suc at) less = element_there xs at (omega arith)
 
 module _ (room : Rooms) (world : World) (plan : Plan) (val : Option (List ℕ)) where
-  with_is_page : (index : ℕ) (page : PagePlan) (root : Whole) (made : Made)
-      → IsPage (page_with room world plan index page root made).bytes
-  with_is_page index page root made =
+  with_is_page : (index : ℕ) (page : PagePlan) (root : Whole) (rules : List (List Rule)) (made : Made)
+      → IsPage (page_with room world plan index page root rules made).bytes
+  with_is_page index page root rules made =
       let here = here_of world plan page index in
-      let body = body_html (anchors here made.nodes) made.nodes in
+      let body = body_html (anchors here made.nodes) (marks_in rules made) made.nodes in
       page_is_page room.bytes root.0.doc root.0.line (title_in world page.id.doc [])
       (record { bytes = body.bytes; faults = made.faults ++ anchor_faults here made.nodes ++ body.faults ++ row_faults plan })
-      (links_of world plan index (element_links here made.nodes)) (body_markup (anchors here made.nodes) made.nodes)
+      (links_of world plan index (element_links here made.nodes))
+      (body_markup (anchors here made.nodes) (marks_in rules made) made.nodes)
 
   root_is_page : (index : ℕ) (page : PagePlan) (root : Option Whole) → IsThere root
       → IsPage (option_map_or (page_of_root room world plan val index page) root no_html).bytes
   root_is_page index page None there = absurd there
   root_is_page index page (Some root) there =
-      with_is_page index page root (resolved_page room.nodes (too_many root) (setting_of world plan val page))
+      with_is_page index page root (page_rules world val page) (content_of_root room world plan val page root)
 
   found_is_page : (index : ℕ) (found : Option PagePlan) → IsThere found
       → IfSome found (λ (page : PagePlan). HasPageKind world page.id.doc)

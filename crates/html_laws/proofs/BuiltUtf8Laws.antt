@@ -27,9 +27,9 @@ use Rattle.map_spec.specs.Titles.{title_in}
 use Rattle.map_spec.specs.Written.{Whole}
 use Rattle.html_spec.specs.Anchors.{anchor_faults, anchors, element_links}
 use Rattle.html_spec.specs.Blocks.{body_html}
-use Rattle.conref_spec.specs.Content.{resolved_page}
+use Rattle.conref_spec.specs.Content.{nothing_made}
 use Rattle.link_spec.specs.Links.{row_faults}
-use Rattle.part_spec.specs.Parts.{Rooms, build_by, clean_build, contents_part, here_of, links_of, names_of, no_html, page_of_root, page_part, page_parts, pages_with, parts_of, rooms, setting_of, too_many, total_limit}
+use Rattle.part_spec.specs.Parts.{Rooms, build_by, clean_build, clean_terms, content_of_root, contents_part, here_of, links_of, marks_in, names_of, no_html, page_content, page_of_root, page_part, page_parts, page_rules, page_terms, page_titles, pages_with, parts_of, rooms, setting_of, terms_by, terms_in, terms_part, too_many, total_limit, total_of}
 use Rattle.html_laws.specs.Utf8.{IsUtf8Node, IsUtf8Page, IsUtf8Plan, IsUtf8World}
 use Rattle.html_laws.proofs.AnchorUtf8Laws.{IsUtf8Here, utf8_anchors, utf8_element_links}
 use Rattle.html_laws.proofs.BlocksUtf8Laws.{body_utf8}
@@ -37,13 +37,15 @@ use Rattle.html_laws.proofs.BuiltLaws.{done_pages}
 use Rattle.html_laws.proofs.CascadeUtf8Laws.{utf8_cascaded, utf8_scoped_from}
 use Rattle.html_laws.proofs.ContentUtf8Laws.{IsUtf8Whole, utf8_title_in}
 use Rattle.html_laws.proofs.ContentsUtf8Laws.{contents_utf8}
-use Rattle.html_laws.proofs.EachLaws.{always, chosen, of_any, of_both, of_map_or, of_mapped, of_place}
+use Rattle.html_laws.proofs.EachLaws.{always, chosen, of_any, of_both, of_lists, of_map_or, of_mapped, of_place}
 use Rattle.html_laws.proofs.KeyUtf8Laws.{HasUtf8Doc, utf8_key_answer}
 use Rattle.html_laws.proofs.LinkUtf8Laws.{utf8_links_of}
+use Rattle.html_laws.proofs.MarkUtf8Laws.{utf8_marks}
 use Rattle.html_laws.proofs.PageUtf8Laws.{page_utf8}
 use Rattle.html_laws.proofs.PagesUtf8Laws.{utf8_documents, utf8_pages, utf8_targets}
 use Rattle.html_laws.proofs.PushUtf8Laws.{utf8_pushed}
-use Rattle.html_laws.proofs.ResolvedUtf8Laws.{IsUtf8Setting, utf8_resolved}
+use Rattle.html_laws.proofs.ResolvedUtf8Laws.{IsUtf8Made, IsUtf8Setting, utf8_resolved}
+use Rattle.html_laws.proofs.TermsUtf8Laws.{HasUtf8Html, IsUtf8Entry, utf8_terms, utf8_terms_html}
 use Rattle.html_laws.proofs.TreeUtf8Laws.{IsUtf8Grown, utf8_copied, utf8_filtered, utf8_included, utf8_plan_nodes, utf8_root_in}
 
 -- The plan
@@ -138,21 +140,28 @@ module _ (room : Rooms) (world : World) (plan : Plan) (val : Option (List ℕ)) 
         utf8_key_answer world plan.nodes all (node_docs plan.nodes of_plan.nodes) page.id.scope key named;
   }
 
+  utf8_content_of : (page : PagePlan) (root : Whole) → IsUtf8Page page
+      → IsUtf8Made (content_of_root room world plan val page root)
+  utf8_content_of page root is =
+      utf8_resolved (setting_of world plan val page) (utf8_setting page is) room.nodes (too_many root)
+
   utf8_of_page : (index : ℕ) (page : PagePlan) (root : Whole) → IsUtf8Page page
       → IsUtf8 (page_of_root room world plan val index page root).bytes
   utf8_of_page index page root is =
       let here = here_of world plan page index in
       let here_is = utf8_here page index is in
-      let setting = setting_of world plan val page in
-      let made = resolved_page room.nodes (too_many root) setting in
-      let made_is = utf8_resolved setting (utf8_setting page is) room.nodes (too_many root) in
-      let body = body_html (anchors here made.nodes) made.nodes in
+      let rules = page_rules world val page in
+      let made = content_of_root room world plan val page root in
+      let made_is = utf8_content_of page root is in
+      let marks = marks_in rules made in
+      let body = body_html (anchors here made.nodes) marks made.nodes in
       page_utf8 room.bytes root.0.doc root.0.line (title_in world page.id.doc [])
       (record { bytes = body.bytes; faults = made.faults ++ anchor_faults here made.nodes ++ body.faults ++ row_faults plan })
       (links_of world plan index (element_links here made.nodes)) (utf8_title_in world page.id.doc [] all is.0)
-      (body_utf8 (anchors here made.nodes) made.nodes (utf8_anchors here here_is made.nodes made_is) made_is)
+      (body_utf8 (anchors here made.nodes) marks made.nodes (utf8_anchors here here_is made.nodes made_is.0)
+      (utf8_marks rules made.declared made.nodes made_is.1 made_is.0) made_is.0)
       (utf8_links_of world plan all of_plan.pages index (element_links here made.nodes)
-      (utf8_element_links here here_is made.nodes made_is))
+      (utf8_element_links here here_is made.nodes made_is.0))
 
   abbrev IsUtf8Part : Html → Type 0
   IsUtf8Part part = IsUtf8 part.bytes
@@ -174,6 +183,30 @@ module _ (room : Rooms) (world : World) (plan : Plan) (val : Option (List ℕ)) 
       of_both IsUtf8Part (page_parts room world plan val) (contents_part world plan ∷ [])
       (of_mapped any IsUtf8Part (page_part room world plan val) (places_from 0 plan.pages) (λ at is. utf8_part at)
       (of_any any (places_from 0 plan.pages) (λ at. tt))) (contents_utf8 world plan all of_plan, tt)
+
+  -- The page of terms
+
+  utf8_content : (index : ℕ) → IsUtf8Made (page_content room world plan val index)
+  unfolding page_content
+  utf8_content index =
+      let any : Whole → Type 0 = λ root. Unit {0} in
+      of_map_or IsUtf8Page IsUtf8Made (λ (page : PagePlan).
+      option_map_or (content_of_root room world plan val page) (root_in world page.id.doc) nothing_made)
+      (slice_get plan.pages index) nothing_made
+      (λ page is. of_map_or any IsUtf8Made (content_of_root room world plan val page) (root_in world page.id.doc)
+      nothing_made (λ root one. utf8_content_of page root is) (always (root_in world page.id.doc)) (tt, tt))
+      (of_place IsUtf8Page plan.pages index of_plan.pages) (tt, tt)
+
+  utf8_terms_part : IfSome (terms_part room world plan val) HasUtf8Html
+  utf8_terms_part =
+      let any : ℕ → Type 0 = λ at. Unit {0} in
+      utf8_terms_html (terms_in room world plan val) plan (page_titles world plan)
+      (of_lists any IsUtf8Entry (page_terms room world plan val) (places_from 0 plan.pages)
+      (λ at is. utf8_terms at (page_content room world plan val at).nodes (utf8_content at).0)
+      (of_any any (places_from 0 plan.pages) (λ at. tt)))
+      of_plan.pages
+      (of_mapped IsUtf8Page IsUtf8 (λ (page : PagePlan). title_in world page.id.doc []) plan.pages
+      (λ page is. utf8_title_in world page.id.doc [] all is.0) of_plan.pages)
 
 -- The pages of a build
 
@@ -201,3 +234,19 @@ pub build_utf8 : (world : World) (map : List ℕ) (val : Option (List ℕ)) (pag
 unfolding clean_build
 build_utf8 world map val pages report all named is =
     utf8_built_by world val pages report (plan_of limits world map val) all (utf8_plan limits world all map val named) is
+
+-- and its page of terms
+
+utf8_terms_by : (world : World) (val : Option (List ℕ)) (made : Result Plan PlanStop) → IsUtf8World world
+    → PlansInUtf8 made → IfSome (terms_by rooms total_limit world val made) HasUtf8Html
+utf8_terms_by world val (Err stop) all planned = tt
+utf8_terms_by world val (Ok plan) all planned =
+    chosen (λ (html : Option Html). IfSome html HasUtf8Html)
+    (nat_le (total_of (parts_of rooms world plan val)) total_limit) (terms_part rooms world plan val) None
+    (utf8_terms_part rooms world plan val all planned) tt
+
+pub terms_utf8 : (world : World) (map : List ℕ) (val : Option (List ℕ)) → IsUtf8World world → IsUtf8 map
+    → IfSome (clean_terms world map val) (λ html. IsUtf8 html.bytes)
+unfolding clean_terms
+terms_utf8 world map val all named =
+    utf8_terms_by world val (plan_of limits world map val) all (utf8_plan limits world all map val named)

@@ -3,33 +3,24 @@ use Rattle.std.specs.Prelude.{◌+◌, ◌||◌, ℕ, Bool, true, false, List, [
 use Rattle.std.specs.List.{AllByRecursion, filter_map, list_any}
 use Rattle.std.specs.Str.{IsUtf8}
 use Rattle.std.proofs.Common.{refl, arith}
-use Rattle.std.proofs.lemmas.Bool.Decides.{nat_tests}
-use Rattle.std.proofs.lemmas.List.Elements.{recursion_from_All}
 use Rattle.std.proofs.lemmas.Str.{IsUtf8-append, IsUtf8-nil}
-use Rattle.dita_doc.specs.Bytes.{has_bytes, parts_by}
 use Rattle.dita_doc.specs.ClassValue.{words_of}
-use Rattle.dita_doc.specs.PlainText.{is_blank_byte}
 use Rattle.dita_doc.specs.declared.doc.Attribute.{Attribute}
 use Rattle.dita_doc.specs.declared.plan.PlanNode.{PlanNode}
-use Rattle.dita_doc.proofs.Utf8Laws.{utf8_cons, utf8_parts}
+use Rattle.dita_doc.proofs.Utf8Laws.{utf8_cons}
 use Rattle.ditaval_rules.specs.Verdict.{conditional_names, is_grouped}
 use Rattle.reader_spec.specs.World.{World}
 use Rattle.map_spec.specs.Cascade.{attribute_at, cascaded, cascaded_from, cascaded_on, cascaded_value, default_of, if_not_grouped, is_in_table, merged, merges, named_tokens, nearest, nearest_names, own_tokens, passed, places_up, spaced, stays_behind, stops_at, tokens_on, walk, with_new}
 use Rattle.map_spec.specs.Scopes.{scoped_from}
 use Rattle.html_laws.specs.Utf8.{HasUtf8Value, IsUtf8Node, IsUtf8World}
 use Rattle.html_laws.proofs.ContentUtf8Laws.{utf8_attribute_at}
-use Rattle.html_laws.proofs.EachLaws.{chosen, of_and_then, of_any, of_both, of_either, of_filter_map, of_kept, of_mapped, of_option, of_place}
+use Rattle.html_laws.proofs.DomainUtf8Laws.{utf8_words}
+use Rattle.html_laws.proofs.EachLaws.{chosen, of_and_then, of_any, of_both, of_either, of_filter_map, of_mapped, of_option, of_place}
 use Rattle.html_laws.proofs.KeyUtf8Laws.{HasUtf8Doc}
 use Rattle.html_laws.proofs.TextUtf8Laws.{IsUtf8If, utf8_codes}
 use Rattle.html_laws.proofs.TreeUtf8Laws.{IsUtf8Affix, IsUtf8Made}
 
 -- Tokens
-
-utf8_words : (text : List ℕ) → IsUtf8 text → AllByRecursion IsUtf8 (words_of text)
-utf8_words text utf8 =
-    let parts = parts_by is_blank_byte text in
-    of_kept IsUtf8 has_bytes parts
-    (recursion_from_All IsUtf8 parts (utf8_parts is_blank_byte text (λ b high. grind (arith, nat_tests)) utf8))
 
 utf8_with_new : (tokens own : List (List ℕ)) → AllByRecursion IsUtf8 tokens → AllByRecursion IsUtf8 own
     → AllByRecursion IsUtf8 (with_new tokens own)

@@ -10,6 +10,8 @@ pub mod PageLaws
 pub mod ContentsLaws
 pub mod TextUtf8Laws
 pub mod ContentUtf8Laws
+pub mod DomainUtf8Laws
+pub mod MarkUtf8Laws
 pub mod FormUtf8Laws
 pub mod BlocksUtf8Laws
 pub mod PageUtf8Laws
@@ -25,6 +27,8 @@ pub mod LinkUtf8Laws
 pub mod TreeUtf8Laws
 pub mod CascadeUtf8Laws
 pub mod PagesUtf8Laws
+pub mod TermsLaws
+pub mod TermsUtf8Laws
 pub mod BuiltUtf8Laws
 pub mod TagLaws
 pub mod BlocksTagLaws

@@ -1,5 +1,5 @@
 -- Content that is resolved from documents of UTF-8 is UTF-8.
-use Rattle.std.specs.Prelude.{◌+◌, ℕ, zero, suc, Bool, true, false, not, List, [], ◌∷◌, ◌++◌, Option, Some, None, IfSome, filter, nat_le, option_map, unwrap_or, codes, if◌then◌else◌}
+use Rattle.std.specs.Prelude.{◌+◌, ◌-◌, ◌==◌, ℕ, zero, suc, Bool, true, false, not, List, [], ◌∷◌, ◌++◌, Option, Some, None, IfSome, filter, nat_le, nat_lt, option_map, unwrap_or, codes, if◌then◌else◌}
 use Rattle.std.specs.List.{AllByRecursion}
 use Rattle.std.specs.Option.{option_and_then}
 use Rattle.std.specs.Str.{IsUtf8}
@@ -8,18 +8,20 @@ use Rattle.dita_doc.specs.declared.fault.Fault.{Fault}
 use Rattle.dita_doc.specs.declared.plan.Reference.{Reference}
 use Rattle.dita_doc.specs.declared.plan.Target.{Target}
 use Rattle.dita_doc.specs.declared.plan.Target.TheVariants as targets
+use Rattle.ditaval_rules.specs.Domains.{declared_by}
 use Rattle.href_text.specs.Joined.{joined}
 use Rattle.href_text.specs.Reference.{reference_of}
 use Rattle.map_spec.specs.Elements.{attribute}
 use Rattle.map_spec.specs.Judged.{group_faults}
 use Rattle.map_spec.specs.Keys.{id_of_key, key_of}
 use Rattle.map_spec.specs.Target.{if_read, is_same_topic}
-use Rattle.map_spec.specs.Written.{Element, Written, End, Chars, Node}
-use Rattle.conref_spec.specs.Content.{Around, Followed, Found, Made, Place, Range, Resolve, Setting, Sought, around_for, by_conref, by_key, conref_named, declared_around, declared_there, element_made, element_resolved, end_id, followed, followed_from, followed_to, found_by, found_in, goes, has_end_id, has_reference, is_written_in, key_faults, key_named, made_beside, made_of, made_with, merged_element, names_not_taken, nothing_around, nothing_made, page_root, path_limit, range_behind, range_by, range_from, ranges_made, refused_by, resolved_among, resolved_from, resolved_in, resolved_page, sought_by, specified, taken_or, takes_href, around_within, unchanged, up_to_end, value_used, without_id}
+use Rattle.map_spec.specs.Written.{Element, Written, End, Chars, Node, size}
+use Rattle.conref_spec.specs.Content.{Around, Followed, Found, Made, Place, Range, Resolve, Setting, Sought, around_for, by_conref, by_key, conref_named, declared_around, declared_there, element_made, element_resolved, end_id, followed, followed_from, followed_to, found_by, found_in, goes, has_end_id, has_reference, is_written_in, key_faults, key_named, made_beside, made_of, made_with, merged_element, names_not_taken, nothing_around, nothing_made, page_root, path_limit, range_behind, range_by, range_from, ranges_made, refused_by, resolved_among, resolved_from, resolved_in, resolved_page, sought_by, specified, taken_or, text_made, takes_href, around_within, unchanged, up_to_end, value_used, without_id}
 use Rattle.map_spec.specs.Places.{Standing, target_in}
 use Rattle.map_spec.specs.Pushes.{without_names}
 use Rattle.html_laws.specs.Utf8.{HasUtf8Value, IsUtf8Content, IsUtf8Element, IsUtf8Target}
 use Rattle.html_laws.proofs.ContentUtf8Laws.{utf8_attribute_of, utf8_beside}
+use Rattle.html_laws.proofs.DomainUtf8Laws.{AreUtf8Names, utf8_declared_by}
 use Rattle.html_laws.proofs.EachLaws.{always, chosen, of_and_then, of_both, of_either, of_kept, of_option, of_option_map}
 use Rattle.html_laws.proofs.KeyUtf8Laws.{IsUtf8Answer, utf8_key_of}
 use Rattle.html_laws.proofs.PlaceUtf8Laws.{IsUtf8Standing, utf8_target_in}
@@ -32,14 +34,15 @@ pub record IsUtf8Setting (setting : Setting) : Type 0 where
   pub key : (key : List ℕ) → IsUtf8 key → IsUtf8Answer (setting.key key)
 
 abbrev IsUtf8Found : Found → Type 0
-IsUtf8Found found = IsUtf8Standing found.standing
+IsUtf8Found found = IsUtf8Standing found.standing × IsUtf8Content found.nodes
 
 abbrev IsUtf8Range : Range → Type 0
-IsUtf8Range range = IsUtf8Content range.nodes
+IsUtf8Range range = IsUtf8Content range.nodes × AreUtf8Names range.declared
 
 record IsUtf8Followed (found : Followed) : Type 0 where
   element : IsUtf8Element found.element
   content : IsUtf8Content found.content
+  declared : AreUtf8Names found.declared
   ranges : AllByRecursion IsUtf8Range found.ranges
 
 -- Ranges
@@ -68,10 +71,29 @@ utf8_range_by standing (Some value) is =
     (utf8_up_to id standing.behind is.behind)) (always (end_id value))
 
 utf8_range_behind : (nodes : Written) (around : List (List ℕ)) (path : List Place) → IsUtf8Content nodes
-    → AllByRecursion IsUtf8Range (range_behind nodes around path)
-utf8_range_behind End around path all = tt
-utf8_range_behind (Chars text doc rest) around path all = (all, tt)
-utf8_range_behind (Node element inside rest) around path all = (all, tt)
+    → AreUtf8Names around → AllByRecursion IsUtf8Range (range_behind nodes around path)
+utf8_range_behind End around path all names = tt
+utf8_range_behind (Chars text doc rest) around path all names = ((all, names), tt)
+utf8_range_behind (Node element inside rest) around path all names = ((all, names), tt)
+
+-- Names that are declared
+
+utf8_around : (around : List (List ℕ)) (nodes : Written) (place : ℕ) → AreUtf8Names around → IsUtf8Content nodes
+    → AreUtf8Names (declared_around around nodes place)
+utf8_around around End place names all = names
+utf8_around around (Chars text doc rest) place names all =
+    chosen AreUtf8Names (place == 0) around (declared_around around rest (place - 1)) names
+    (utf8_around around rest (place - 1) names all.1)
+utf8_around around (Node element inside rest) place names all =
+    let behind = place - (1 + size inside) in
+    let within = declared_by around element.attributes in
+    chosen AreUtf8Names (place == 0) around
+    (if nat_lt (size inside) place then declared_around around rest behind
+    else declared_around within inside (place - 1))
+    names
+    (chosen AreUtf8Names (nat_lt (size inside) place) (declared_around around rest behind)
+    (declared_around within inside (place - 1)) (utf8_around around rest behind names all.2)
+    (utf8_around within inside (place - 1) (utf8_declared_by around element.attributes names all.0.0) all.1))
 
 -- Attributes
 
@@ -97,6 +119,9 @@ utf8_without_id : (is_range : Bool) (element : Element) → IsUtf8Element elemen
 utf8_without_id true element is = (utf8_without_names (codes "id" ∷ []) element.attributes is.0, is.1, is.2)
 utf8_without_id false element is = is
 
+abbrev pub IsUtf8Made : Made → Type 0
+IsUtf8Made made = IsUtf8Content made.nodes × AllByRecursion AreUtf8Names made.declared
+
 module _ (setting : Setting) (of_setting : IsUtf8Setting setting) where
   -- Targets
 
@@ -107,7 +132,7 @@ module _ (setting : Setting) (of_setting : IsUtf8Setting setting) where
       (setting.pushed doc)
       (λ nodes is. of_option_map IsUtf8Standing IsUtf8Found
       (λ standing. record { doc = doc; nodes = nodes; standing = standing }) (target_in nodes topic element)
-      (λ standing one. one) (utf8_target_in nodes topic element is)) (of_setting.pushed doc named)
+      (λ standing one. (one, is)) (utf8_target_in nodes topic element is)) (of_setting.pushed doc named)
 
   abbrev IsUtf8Sought : Option Found → Type 0
   IsUtf8Sought found = IfSome found IsUtf8Found
@@ -163,7 +188,7 @@ module _ (setting : Setting) (of_setting : IsUtf8Setting setting) where
   utf8_unchanged : (element : Element) (inside : Written) (path : List Place) (faults : List Fault)
       → IsUtf8Element element → IsUtf8Content inside → IsUtf8Followed (unchanged element inside path faults)
   utf8_unchanged element inside path faults first second =
-      record { element = first; content = second; ranges = tt }
+      record { element = first; content = second; declared = tt; ranges = tt }
 
   utf8_taken_or : (follow : List Place → Element → Written → Followed) (path : List Place) (element : Element)
       (inside : Written) (before : List Fault) (target : Found) (refused : Option Fault) → FollowsInUtf8 follow
@@ -176,15 +201,19 @@ module _ (setting : Setting) (of_setting : IsUtf8Setting setting) where
       let range = unwrap_or (range_by target.standing (attribute (codes "conrefend") element)) End in
       let range_is : IsUtf8Content range =
       of_option IsUtf8Content (range_by target.standing (attribute (codes "conrefend") element)) End
-      (utf8_range_by target.standing (attribute (codes "conrefend") element) is) tt in
+      (utf8_range_by target.standing (attribute (codes "conrefend") element) is.0) tt in
       let around = declared_around [] target.nodes target.standing.place in
+      let names = utf8_around [] target.nodes target.standing.place tt is.1 in
       let found = follow longer target.standing.whole.0 target.standing.whole.1 in
-      let onward = follows longer target.standing.whole.0 target.standing.whole.1 is.whole.0 is.whole.1 in
+      let onward = follows longer target.standing.whole.0 target.standing.whole.1 is.0.whole.0 is.0.whole.1 in
       record {
         element = utf8_merged element found.element first onward.element;
         content = onward.content;
+        declared = chosen AreUtf8Names found.has_taken found.declared
+            (declared_by around target.standing.whole.0.attributes) onward.declared
+            (utf8_declared_by around target.standing.whole.0.attributes names is.0.whole.0.0);
         ranges = of_both IsUtf8Range found.ranges (range_behind range around longer) onward.ranges
-            (utf8_range_behind range around longer range_is);
+            (utf8_range_behind range around longer range_is names);
       }
 
   utf8_followed_to : (follow : List Place → Element → Written → Followed) (depth : ℕ) (path : List Place)
@@ -213,81 +242,99 @@ module _ (setting : Setting) (of_setting : IsUtf8Setting setting) where
 
   -- Resolving
 
-  abbrev IsUtf8Made : Made → Type 0
-  IsUtf8Made made = IsUtf8Content made.nodes
+  utf8_made_beside : (first second : Made) → IsUtf8Made first → IsUtf8Made second
+      → IsUtf8Made (made_beside first second)
+  utf8_made_beside first second one other = (
+    utf8_beside first.nodes second.nodes one.0 other.0,
+    of_both AreUtf8Names first.declared second.declared one.1 other.1,
+  )
+
+  abbrev IsUtf8Around : Around → Type 0
+  IsUtf8Around around = AreUtf8Names around.declared
 
   abbrev ResolvesInUtf8 : Resolve → Type 0
   ResolvesInUtf8 resolve = (is_range : Bool) (around : Around) (depth : ℕ) (path : List Place) (nodes : Written)
-      → IsUtf8Content nodes → IsUtf8Made (resolve is_range around depth path nodes)
+      → IsUtf8Around around → IsUtf8Content nodes → IsUtf8Made (resolve is_range around depth path nodes)
+
+  abbrev ResolvesOwnInUtf8 : (Around → Made) → Type 0
+  ResolvesOwnInUtf8 own = (here : Around) → IsUtf8Around here → IsUtf8Made (own here)
 
   utf8_ranges : (resolve : Resolve) (around : Around) (depth : ℕ) (ranges : List Range) → ResolvesInUtf8 resolve
       → AllByRecursion IsUtf8Range ranges → IsUtf8Made (ranges_made resolve around depth ranges)
-  utf8_ranges resolve around depth [] resolves all = tt
+  utf8_ranges resolve around depth [] resolves all = (tt, tt)
   utf8_ranges resolve around depth (range ∷ ranges) resolves all =
       let there = declared_there range.declared around in
-      utf8_beside (resolve true there depth range.path range.nodes).nodes (ranges_made resolve around depth ranges).nodes
-      (resolves true there depth range.path range.nodes all.0) (utf8_ranges resolve around depth ranges resolves all.1)
+      utf8_made_beside (resolve true there depth range.path range.nodes) (ranges_made resolve around depth ranges)
+      (resolves true there depth range.path range.nodes all.0.1 all.0.0)
+      (utf8_ranges resolve around depth ranges resolves all.1)
 
-  utf8_element_made : (is_range : Bool) (element : Element) (content : Made) → IsUtf8Element element
-      → IsUtf8Made content → IsUtf8Made (element_made is_range element content)
-  utf8_element_made is_range element content first second = (utf8_without_id is_range element first, second, tt)
+  utf8_element_made : (is_range : Bool) (declared : List (List ℕ)) (element : Element) (content : Made)
+      → AreUtf8Names declared → IsUtf8Element element → IsUtf8Made content
+      → IsUtf8Made (element_made is_range declared element content)
+  utf8_element_made is_range declared element content names first second =
+      ((utf8_without_id is_range element first, second.0, tt), (names, second.1))
 
   utf8_made_of : (resolve : Resolve) (is_range : Bool) (around : Around) (depth : ℕ) (own : Around → Made)
-      (found : Followed) → ResolvesInUtf8 resolve → ((here : Around) → IsUtf8Made (own here)) → IsUtf8Followed found
+      (found : Followed) → ResolvesInUtf8 resolve → IsUtf8Around around → ResolvesOwnInUtf8 own → IsUtf8Followed found
       → IsUtf8Made (made_of resolve setting is_range around depth own found)
-  utf8_made_of resolve is_range around depth own found resolves owns is =
+  utf8_made_of resolve is_range around depth own found resolves names owns is =
       let here = around_within is_range found.element around in
       let there = declared_there found.declared here in
       let deeper = resolve false there (depth + 1) found.path found.content in
-      let kept = element_made is_range found.element deeper in
-      let judged = if goes setting around.declared found.element then record nothing_made { count = 1 } else kept in
+      let kept = element_made is_range around.declared found.element deeper in
+      let none : Made = record nothing_made { count = 1 } in
+      let judged = if goes setting around.declared found.element then none else kept in
       chosen IsUtf8Made found.has_taken (made_with (group_faults around.declared found.element) judged)
-      (element_made is_range found.element (own here))
-      (chosen IsUtf8Made (goes setting around.declared found.element) (record nothing_made { count = 1 }) kept tt
-      (utf8_element_made is_range found.element deeper is.element
-      (resolves false there (depth + 1) found.path found.content is.content)))
-      (utf8_element_made is_range found.element (own here) is.element (owns here))
+      (element_made is_range around.declared found.element (own here))
+      (chosen IsUtf8Made (goes setting around.declared found.element) none kept (tt, tt)
+      (utf8_element_made is_range around.declared found.element deeper names is.element
+      (resolves false there (depth + 1) found.path found.content is.declared is.content)))
+      (utf8_element_made is_range around.declared found.element (own here) names is.element (owns here names))
 
   utf8_element : (resolve : Resolve) (is_range : Bool) (around : Around) (depth : ℕ) (path : List Place)
-      (element : Element) (inside : Written) (own : Around → Made) → ResolvesInUtf8 resolve → IsUtf8Element element
-      → IsUtf8Content inside → ((here : Around) → IsUtf8Made (own here))
+      (element : Element) (inside : Written) (own : Around → Made) → ResolvesInUtf8 resolve → IsUtf8Around around
+      → IsUtf8Element element → IsUtf8Content inside → ResolvesOwnInUtf8 own
       → IsUtf8Made (element_resolved resolve setting is_range around depth path element inside own)
-  utf8_element resolve is_range around depth path element inside own resolves first second owns =
+  utf8_element resolve is_range around depth path element inside own resolves names first second owns =
       let here = around_for is_range element around in
+      let names_here = utf8_declared_by around.declared element.attributes names first.0 in
       let found = followed setting here.topic depth path element inside in
       let found_is = utf8_followed_from (path_limit + 1) here.topic depth path element inside first second in
       let made = made_of resolve setting is_range here depth own found in
       let ranges = ranges_made resolve around depth found.ranges in
-      chosen IsUtf8Made (goes setting here.declared element) nothing_made (made_with found.faults (made_beside made ranges)) tt
-      (utf8_beside made.nodes ranges.nodes (utf8_made_of resolve is_range here depth own found resolves owns found_is)
+      chosen IsUtf8Made (goes setting here.declared element) nothing_made
+      (made_with found.faults (made_beside made ranges)) (tt, tt)
+      (utf8_made_beside made ranges
+      (utf8_made_of resolve is_range here depth own found resolves names_here owns found_is)
       (utf8_ranges resolve around depth found.ranges resolves found_is.ranges))
 
   utf8_among : (resolve : Resolve) (is_range : Bool) (around : Around) (depth : ℕ) (path : List Place) (nodes : Written)
-      → ResolvesInUtf8 resolve → IsUtf8Content nodes
+      → ResolvesInUtf8 resolve → IsUtf8Around around → IsUtf8Content nodes
       → IsUtf8Made (resolved_among resolve setting is_range around depth path nodes)
-  utf8_among resolve is_range around depth path End resolves all = tt
-  utf8_among resolve is_range around depth path (Chars text doc rest) resolves all =
-      utf8_beside (Chars text doc End) (resolved_among resolve setting is_range around depth path rest).nodes (all.0, tt)
-      (utf8_among resolve is_range around depth path rest resolves all.1)
-  utf8_among resolve is_range around depth path (Node element inside rest) resolves all =
+  utf8_among resolve is_range around depth path End resolves names all = (tt, tt)
+  utf8_among resolve is_range around depth path (Chars text doc rest) resolves names all =
+      utf8_made_beside (text_made text doc) (resolved_among resolve setting is_range around depth path rest)
+      ((all.0, tt), (tt, tt)) (utf8_among resolve is_range around depth path rest resolves names all.1)
+  utf8_among resolve is_range around depth path (Node element inside rest) resolves names all =
       let own = λ (here : Around). resolved_among resolve setting false here (depth + 1) path inside in
-      utf8_beside (element_resolved resolve setting is_range around depth path element inside own).nodes
-      (resolved_among resolve setting is_range around depth path rest).nodes
-      (utf8_element resolve is_range around depth path element inside own resolves all.0 all.1
-      (λ here. utf8_among resolve false here (depth + 1) path inside resolves all.1))
-      (utf8_among resolve is_range around depth path rest resolves all.2)
+      utf8_made_beside (element_resolved resolve setting is_range around depth path element inside own)
+      (resolved_among resolve setting is_range around depth path rest)
+      (utf8_element resolve is_range around depth path element inside own resolves names all.0 all.1
+      (λ here known. utf8_among resolve false here (depth + 1) path inside resolves known all.1))
+      (utf8_among resolve is_range around depth path rest resolves names all.2)
 
   utf8_resolved_from : (steps : ℕ) → ResolvesInUtf8 (resolved_from steps setting)
   unfolding resolved_from
-  utf8_resolved_from zero is_range around depth path nodes all = tt
-  utf8_resolved_from (suc steps) is_range around depth path nodes all =
-      utf8_among (resolved_from steps setting) is_range around depth path nodes (utf8_resolved_from steps) all
+  utf8_resolved_from zero is_range around depth path nodes names all = (tt, tt)
+  utf8_resolved_from (suc steps) is_range around depth path nodes names all =
+      utf8_among (resolved_from steps setting) is_range around depth path nodes (utf8_resolved_from steps) names all
 
-  pub utf8_resolved : (limit : ℕ) (faults : List Fault) → IsUtf8Content (resolved_page limit faults setting).nodes
+  pub utf8_resolved : (limit : ℕ) (faults : List Fault) → IsUtf8Made (resolved_page limit faults setting)
   utf8_resolved limit faults =
       let root = page_root setting in
       let root_is : IsUtf8Content root =
       of_option IsUtf8Content (setting.pushed setting.page) End (of_setting.pushed setting.page of_setting.page) tt in
       let made = resolved_in setting nothing_around 1 root in
-      chosen IsUtf8Made (nat_le made.count limit) made (record { nodes = End; count = limit + 1; faults = faults })
-      (utf8_resolved_from (path_limit + 1) false nothing_around 1 [] root root_is) tt
+      let none : Made = record { nodes = End; declared = []; count = limit + 1; faults = faults } in
+      chosen IsUtf8Made (nat_le made.count limit) made none
+      (utf8_resolved_from (path_limit + 1) false nothing_around 1 [] root tt root_is) (tt, tt)

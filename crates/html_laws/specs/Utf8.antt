@@ -1,8 +1,9 @@
--- Which texts are UTF-8 where a page is made (own): those of content, of anchors, of links and of a plan.
+-- Which texts are UTF-8 where a page is made (own): those of content, of anchors, of marks, of links and of a plan.
 use Rattle.std.specs.Prelude.{ℕ, List, IfSome}
 use Rattle.std.specs.List.{AllByRecursion}
 use Rattle.std.specs.Str.{IsUtf8}
 use Rattle.dita_doc.specs.declared.content.Anchor.{Anchor}
+use Rattle.dita_doc.specs.declared.content.Mark.{Mark}
 use Rattle.dita_doc.specs.declared.content.PageLink.{PageLink}
 use Rattle.dita_doc.specs.declared.doc.Attribute.{Attribute}
 use Rattle.dita_doc.specs.declared.plan.PagePlan.{PagePlan}
@@ -27,10 +28,13 @@ IsUtf8Content End = Unit {0}
 IsUtf8Content (Chars text doc rest) = IsUtf8 text × IsUtf8Content rest
 IsUtf8Content (Node element inside rest) = IsUtf8Element element × IsUtf8Content inside × IsUtf8Content rest
 
--- Anchors and links
+-- Anchors, marks and links
 
 abbrev pub IsUtf8Anchor : Anchor → Type 0
 IsUtf8Anchor anchor = IfSome anchor.href IsUtf8 × IfSome anchor.label IsUtf8
+
+abbrev pub IsUtf8Mark : Mark → Type 0
+IsUtf8Mark mark = IsUtf8 mark.text
 
 abbrev pub IsUtf8Link : PageLink → Type 0
 IsUtf8Link link = IsUtf8 link.href × IsUtf8 link.label

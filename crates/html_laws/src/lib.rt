@@ -9,6 +9,7 @@ ghost use Rattle.build_spec.specs.Built.{Page, Done};
 ghost use Rattle.dita_doc.specs.HtmlEscapes.{escaped, escaped_value};
 ghost use Rattle.dita_doc.specs.ReadTree.{IsReadTree};
 ghost use Rattle.dita_doc.specs.declared.content.Anchor.{Anchor};
+ghost use Rattle.dita_doc.specs.declared.content.Mark.{Mark};
 ghost use Rattle.dita_doc.specs.declared.content.PageLink.{PageLink};
 ghost use Rattle.dita_doc.specs.declared.fact.Html.{Html};
 ghost use Rattle.dita_doc.specs.declared.fault.Fault.{Fault};
@@ -25,8 +26,8 @@ ghost use Rattle.reader_spec.specs.World.{World};
 
 /// Whatever the sources are, the HTML of content is markup, and a page is the doctype and markup.
 pub fn pages_are_markup()
-    ensures body { (anchors : List Anchor) (nodes : Written) →
-        markup_spec.IsMarkup (blocks_spec.body_html anchors nodes).bytes }
+    ensures body { (anchors : List Anchor) (marks : List Mark) (nodes : Written) →
+        markup_spec.IsMarkup (blocks_spec.body_html anchors marks nodes).bytes }
     // A page around a body that is markup, be it too long or not.
     ensures page { (limit : ℕ) (name : List ℕ) (line : ℕ) (title : List ℕ) (body : Html)
         (related : List PageLink) → markup_spec.IsMarkup body.bytes →
@@ -37,6 +38,9 @@ pub fn pages_are_markup()
     ensures built { (world : World) (map : List ℕ) (val : Option (List ℕ)) (pages : List Page)
         (report : List Fault) → parts_spec.clean_build world map val ≡ Done pages report →
         All (λ page. markup_spec.IsPage page.1) pages }
+    // And so is the page of its terms.
+    ensures terms { (world : World) (map : List ℕ) (val : Option (List ℕ)) →
+        IfSome (parts_spec.clean_terms world map val) (λ html. markup_spec.IsPage html.bytes) }
 {}
 
 /// Bytes are the bytes of one list of nodes at most, so what is markup has one reading.
@@ -59,9 +63,10 @@ pub fn some_bytes_are_no_markup()
 /// The texts of content change no tag of its HTML: with any other texts in their places its markup
 /// has the same tags, apart from the values of attributes.
 pub fn texts_change_no_tag()
-    ensures { (texts : ℕ → List ℕ) (anchors : List Anchor) (nodes : Written) →
-        tags_spec.HaveSameTags (blocks_spec.body_html anchors nodes).bytes
-        (blocks_spec.body_html anchors (tags_spec.with_texts texts 0 nodes)).bytes }
+    ensures { (texts : ℕ → List ℕ) (anchors : List Anchor) (marks : List Mark)
+        (nodes : Written) →
+        tags_spec.HaveSameTags (blocks_spec.body_html anchors marks nodes).bytes
+        (blocks_spec.body_html anchors marks (tags_spec.with_texts texts 0 nodes)).bytes }
 {}
 
 /// A text and a value of an attribute are shown by pieces of which they are read again, every byte.
@@ -74,9 +79,10 @@ pub fn texts_are_shown()
 
 /// What is made of texts in UTF-8 is UTF-8.
 pub fn pages_are_utf8()
-    ensures body { (anchors : List Anchor) (nodes : Written) →
-        AllByRecursion utf8_spec.IsUtf8Anchor anchors → utf8_spec.IsUtf8Content nodes →
-        IsUtf8 (blocks_spec.body_html anchors nodes).bytes }
+    ensures body { (anchors : List Anchor) (marks : List Mark) (nodes : Written) →
+        AllByRecursion utf8_spec.IsUtf8Anchor anchors → AllByRecursion utf8_spec.IsUtf8Mark marks →
+        utf8_spec.IsUtf8Content nodes →
+        IsUtf8 (blocks_spec.body_html anchors marks nodes).bytes }
     ensures page { (limit : ℕ) (name : List ℕ) (line : ℕ) (title : List ℕ) (body : Html)
         (related : List PageLink) → IsUtf8 title → IsUtf8 body.bytes →
         AllByRecursion utf8_spec.IsUtf8Link related →
@@ -88,6 +94,10 @@ pub fn pages_are_utf8()
         (report : List Fault) → utf8_spec.IsUtf8World world → IsUtf8 map →
         parts_spec.clean_build world map val ≡ Done pages report →
         All (λ page. IsUtf8 page.1) pages }
+    // And so is the page of its terms.
+    ensures terms { (world : World) (map : List ℕ) (val : Option (List ℕ)) →
+        utf8_spec.IsUtf8World world → IsUtf8 map →
+        IfSome (parts_spec.clean_terms world map val) (λ html. IsUtf8 html.bytes) }
     // The documents of a world are UTF-8 if they were read of PYX.
     ensures read { (world : World) → ((name : List ℕ) → IfSome (world name) IsReadTree) →
         utf8_spec.IsUtf8World world }

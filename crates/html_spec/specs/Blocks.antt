@@ -1,11 +1,12 @@
 -- The HTML of content (own): the element of HTML that each element of a page becomes, by the last of its types that the
 -- table has.
-use Rattle.std.specs.Prelude.{◌+◌, ◌==◌, ◌||◌, ℕ, Bool, true, false, List, [], ◌∷◌, ◌++◌, Option, Some, None, find, nat_le, nat_lt, unwrap_or, codes, bytes_eq, if◌then◌else◌}
+use Rattle.std.specs.Prelude.{◌+◌, ◌==◌, ◌||◌, ℕ, Bool, true, false, List, [], ◌∷◌, ◌++◌, Option, Some, None, filter, find, map, nat_le, nat_lt, unwrap_or, codes, bytes_eq, if◌then◌else◌}
 use Rattle.std.specs.Fmt.{decimal}
-use Rattle.std.specs.List.{filter_map}
-use Rattle.std.specs.Option.{option_and_then, option_map_or}
+use Rattle.std.specs.List.{filter_map, flat_map}
+use Rattle.std.specs.Option.{option_and_then, option_map_or, option_to_list}
 use Rattle.dita_doc.specs.HtmlEscapes.{escaped, escaped_value}
 use Rattle.dita_doc.specs.declared.content.Anchor.{Anchor}
+use Rattle.dita_doc.specs.declared.content.Mark.{Mark}
 use Rattle.dita_doc.specs.declared.fault.Fault.{Fault}
 use Rattle.dita_doc.specs.declared.fault.FaultCode.TheVariants as faults
 use Rattle.dita_doc.specs.declared.fact.Html.{Html}
@@ -253,6 +254,29 @@ abbrev pub spans : Context → Element → List ℕ
 spans context element =
     span_text (codes "rowspan") (rows_of element) ++ span_text (codes "colspan") (columns_of context.columns element)
 
+-- What is laid over content: the links and the marks of its elements, by their places
+
+pub record Overlay : Type 0 where
+  pub anchors : List Anchor
+  pub marks : List Mark
+
+-- Marks
+
+abbrev pub is_mark_at : ℕ → Mark → Bool
+is_mark_at place mark = mark.place == place
+
+abbrev pub marks_at : List Mark → ℕ → List (List ℕ)
+marks_at marks place = map (λ (mark : Mark). mark.text) (filter (is_mark_at place) marks)
+
+-- with a space between two texts
+abbrev pub spaced : List (List ℕ) → List ℕ
+spaced [] = []
+spaced (text ∷ texts) = text ++ flat_map (λ other. codes " " ++ other) texts
+
+-- the class of an element: that of its form, if it has one, and behind it the element's marks
+abbrev pub class_at : Overlay → ℕ → List ℕ → List ℕ
+class_at overlay place class = spaced (option_to_list (if_some_text class) ++ marks_at overlay.marks place)
+
 -- Links
 
 abbrev pub is_anchor_at : ℕ → Anchor → Bool
@@ -286,9 +310,10 @@ linked_at anchors place content = linked_by (href_at anchors place) content
 abbrev pub alt_of : Element → Written → List ℕ
 alt_of element inside = unwrap_or (attribute (codes "alt") element) (text_of (first_child (codes "topic/alt") inside))
 
-abbrev pub image_tag : Context → List Anchor → ℕ → Element → Written → List ℕ
-image_tag context anchors place element inside = start_of context false element (codes "img") []
-    (attribute_text (codes "src") (Some (unwrap_or (href_at anchors place) []))
+abbrev pub image_tag : Context → Overlay → ℕ → Element → Written → List ℕ
+image_tag context overlay place element inside =
+    start_of context false element (codes "img") (class_at overlay place [])
+    (attribute_text (codes "src") (Some (unwrap_or (href_at overlay.anchors place) []))
     ++ attribute_text (codes "alt") (Some (alt_of element inside)))
 
 -- Elements
@@ -302,52 +327,57 @@ abbrev pub reference_tag : Option (List ℕ) → List ℕ
 reference_tag None = codes "span"
 reference_tag (Some href) = codes "a"
 
-abbrev pub form_shown : Context → List Anchor → ℕ → Element → Written → Html → Form → Html
-form_shown context anchors place element inside content (Tag name class) =
-    tagged context false element name class [] (linked_at anchors place content)
-form_shown context anchors place element inside content Topic =
-    tagged context true element (codes "article") [] [] (linked_at anchors place content)
-form_shown context anchors place element inside content Title =
-    tagged context false element (title_tag context.around context.depth) [] [] (linked_at anchors place content)
-form_shown context anchors place element inside content Note =
-    tagged context false element (codes "div") (note_class element) [] (linked_at anchors place content)
-form_shown context anchors place element inside content Reference =
-    tagged context false element (reference_tag (href_at anchors place)) []
-    (attribute_text (codes "href") (href_at anchors place)) content
-form_shown context anchors place element inside content Image = shown (image_tag context anchors place element inside)
-form_shown context anchors place element inside content Cell =
-    tagged context false element (cell_tag context.head) [] (spans context element) (linked_at anchors place content)
-form_shown context anchors place element inside content SimpleCell =
-    tagged context false element (cell_tag context.simple_head) [] [] (linked_at anchors place content)
-form_shown context anchors place element inside content Left = shown []
-form_shown context anchors place element inside content Foreign =
+abbrev pub form_shown : Context → Overlay → ℕ → Element → Written → Html → Form → Html
+form_shown context overlay place element inside content (Tag name class) =
+    tagged context false element name (class_at overlay place class) [] (linked_at overlay.anchors place content)
+form_shown context overlay place element inside content Topic =
+    tagged context true element (codes "article") (class_at overlay place []) []
+    (linked_at overlay.anchors place content)
+form_shown context overlay place element inside content Title =
+    tagged context false element (title_tag context.around context.depth) (class_at overlay place []) []
+    (linked_at overlay.anchors place content)
+form_shown context overlay place element inside content Note =
+    tagged context false element (codes "div") (class_at overlay place (note_class element)) []
+    (linked_at overlay.anchors place content)
+form_shown context overlay place element inside content Reference =
+    tagged context false element (reference_tag (href_at overlay.anchors place)) (class_at overlay place [])
+    (attribute_text (codes "href") (href_at overlay.anchors place)) content
+form_shown context overlay place element inside content Image = shown (image_tag context overlay place element inside)
+form_shown context overlay place element inside content Cell =
+    tagged context false element (cell_tag context.head) (class_at overlay place []) (spans context element)
+    (linked_at overlay.anchors place content)
+form_shown context overlay place element inside content SimpleCell =
+    tagged context false element (cell_tag context.simple_head) (class_at overlay place []) []
+    (linked_at overlay.anchors place content)
+form_shown context overlay place element inside content Left = shown []
+form_shown context overlay place element inside content Foreign =
     shown_with (fault_at element faults.Foreign element.name ∷ []) (shown [])
 
--- `content` shows what the element holds, where it stands then
-abbrev pub row_shown : Context → List Anchor → ℕ → Element → Written → (Context → Html) → Option (List ℕ × Form) → Html
-row_shown context anchors place element inside content None = linked_at anchors place
-    (content_or_label anchors place inside (content (columns_in element inside context)))
-row_shown context anchors place element inside content (Some row) =
-    form_shown context anchors place element inside (content_or_label anchors place inside
+-- `content` shows what the element holds, where it stands then; an element without a row has no tag, and so no marks
+abbrev pub row_shown : Context → Overlay → ℕ → Element → Written → (Context → Html) → Option (List ℕ × Form) → Html
+row_shown context overlay place element inside content None = linked_at overlay.anchors place
+    (content_or_label overlay.anchors place inside (content (columns_in element inside context)))
+row_shown context overlay place element inside content (Some row) =
+    form_shown context overlay place element inside (content_or_label overlay.anchors place inside
     (content (columns_in element inside (within_type row.0 element context)))) row.1
 
 -- an element of no type shows its content alone
-abbrev pub element_shown : Context → List Anchor → ℕ → Element → Written → (Context → Html) → Html
-element_shown context anchors place element inside content =
-    if has_types element then row_shown context anchors place element inside content (row_for element)
+abbrev pub element_shown : Context → Overlay → ℕ → Element → Written → (Context → Html) → Html
+element_shown context overlay place element inside content =
+    if has_types element then row_shown context overlay place element inside content (row_for element)
     else shown_with (class_faults element) (content context)
 
-abbrev pub shown_from : Context → List Anchor → ℕ → Written → Html
-shown_from context anchors place End = shown []
-shown_from context anchors place (Chars text doc rest) =
-    shown_beside (shown (escaped text)) (shown_from context anchors (place + 1) rest)
-shown_from context anchors place (Node element inside rest) = shown_beside
-    (element_shown context anchors place element inside (λ within. shown_from within anchors (place + 1) inside))
-    (shown_from context anchors (place + 1 + size inside) rest)
+abbrev pub shown_from : Context → Overlay → ℕ → Written → Html
+shown_from context overlay place End = shown []
+shown_from context overlay place (Chars text doc rest) =
+    shown_beside (shown (escaped text)) (shown_from context overlay (place + 1) rest)
+shown_from context overlay place (Node element inside rest) = shown_beside
+    (element_shown context overlay place element inside (λ within. shown_from within overlay (place + 1) inside))
+    (shown_from context overlay (place + 1 + size inside) rest)
 
--- the body of a page, with the links of its elements
-unfoldable pub body_html : List Anchor → Written → Html
-body_html anchors nodes = shown_from outside anchors 0 nodes
+-- the body of a page, with the links and the marks of its elements
+unfoldable pub body_html : List Anchor → List Mark → Written → Html
+body_html anchors marks nodes = shown_from outside (record { anchors = anchors; marks = marks }) 0 nodes
 
 -- The cells of a table, each with its place, and how it is shown
 

@@ -134,6 +134,10 @@ abbrev pub pages_of : Plan → List (List ℕ) → Pages
 pages_of plan titles =
     record { names = map (λ (page : PagePlan). page.name) plan.pages; titles = titles }
 
+-- the name of the page; those of all other pages end with `.html`
+abbrev pub terms_name : List ℕ
+terms_name = codes "terms.htm"
+
 -- the page of some entries, if there are any
 abbrev pub terms_html : List TermEntry → Plan → List (List ℕ) → Option Html
 terms_html [] plan titles = None

@@ -1,5 +1,6 @@
--- The index of terms, for content whose terms are known by hand.
+-- The index of terms, for content whose terms are known by hand, and for whole builds.
 use Prim.Native.String.{String}
+use Rattle.std.specs.Fmt.{digits}
 use Rattle.std.specs.Prelude.{◌≡◌, ◌++◌, ℕ, List, [], ◌∷◌, Option, Some, None, codes, option_map, refl}
 use Rattle.std.specs.List.{flat_map}
 use Rattle.dita_doc.specs.Lines.{line}
@@ -8,10 +9,18 @@ use Rattle.dita_doc.specs.declared.content.TermEntry.{TermEntry}
 use Rattle.dita_doc.specs.declared.fact.Html.{Html}
 use Rattle.dita_doc.specs.declared.plan.PagePlan.{PagePlan}
 use Rattle.dita_doc.specs.declared.plan.Plan.{Plan}
+use Rattle.map_spec.specs.Included.{map_included}
+use Rattle.map_spec.specs.PlanOf.{plan_of}
+use Rattle.map_spec.specs.Pushes.{all_pushes}
 use Rattle.map_spec.specs.Written.{Written, written_in}
+use Rattle.html_spec.specs.Blocks.{body_html}
+use Rattle.html_spec.specs.Contents.{contents, items_from}
 use Rattle.html_spec.specs.Terms.{terms_html, terms_of}
-use Rattle.language_examples.proofs.Short.{of_topic, text, texts}
-use Rattle.language_examples.proofs.ShortPages.{lines}
+use Rattle.conref_spec.specs.Content.{followed_from, resolved_from}
+use Rattle.part_spec.specs.Parts.{clean_terms, page_content, page_part}
+use Rattle.reader_spec.specs.World.{World}
+use Rattle.language_examples.proofs.Short.{ditaval, given, of_topic, prop, text, texts, these}
+use Rattle.language_examples.proofs.ShortPages.{alone, alone_with, bare, conref, id, lines, p, topic_of}
 
 -- Entries
 
@@ -81,3 +90,32 @@ pages_listed = refl
 -- no page without an entry
 none_listed : terms_html [] plan [] ≡ None
 none_listed = refl
+
+-- Whole builds
+
+abbrev of_build : Option (List ℕ) → World → Option (List ℕ)
+of_build val world = option_map (λ (html : Html). html.bytes) (clean_terms world (codes "m.ditamap") val)
+
+two_of_build : of_build None (alone (bare "p" two ∷ [])) ≡ body
+    ("<nav class=\"terms\"><h1>Index</h1><ul><li>A<ul><li>C <a href=\"t.html\">H</a></li></ul></li>"
+    ∷ "<li>B <a href=\"t.html\">H</a></li></ul></nav>" ∷ [])
+unfolding clean_terms page_content plan_of map_included page_part all_pushes resolved_from followed_from body_html digits contents items_from
+two_of_build = refl
+
+-- terms are those of resolved content: what is excluded is gone, and what is taken is there
+resolved_terms : of_build (Some (codes "v.ditaval")) (alone_with
+    (ditaval "v.ditaval" (prop "exclude" "audience" "x" ∷ []) ∷ topic_of "s.dita" "s" (of_topic "p" (id "a" ∷ []) (term (text "S" ∷ []) ∷ []) ∷ []) ∷ [])
+    (of_topic "p" (given "audience" "x" ∷ []) (term (text "X" ∷ []) ∷ [])
+    ∷ of_topic "p" (conref "s.dita#s/a" ∷ []) (term (text "T" ∷ []) ∷ []) ∷ [])) ≡ body
+    ("<nav class=\"terms\"><h1>Index</h1><ul><li>S <a href=\"t.html\">H</a></li></ul></nav>" ∷ [])
+unfolding clean_terms page_content plan_of map_included page_part all_pushes resolved_from followed_from body_html digits contents items_from
+resolved_terms = refl
+
+-- a build without terms has no such page, and one that is stopped has none
+none_of_build : of_build None (alone (p "1" ∷ [])) ≡ None
+unfolding clean_terms page_content plan_of map_included page_part all_pushes resolved_from followed_from body_html digits contents items_from
+none_of_build = refl
+
+none_of_stopped : of_build None (these []) ≡ None
+unfolding clean_terms page_content plan_of map_included page_part all_pushes resolved_from followed_from body_html digits contents items_from
+none_of_stopped = refl

@@ -97,11 +97,12 @@ made_same : (resolve other : Resolve) (setting : Setting) (is_range : Bool) (aro
 made_same resolve other setting is_range around depth path own own_too found same follows own_same =
     both_same found.has_taken _ _ _ _
     (λ has. ap (λ content. made_with (group_faults around.declared found.element) (if goes setting around.declared found.element
-    then record nothing_made { count = 1 } else element_made is_range found.element content))
+    then record nothing_made { count = 1 } else element_made is_range around.declared found.element content))
     (same false (declared_there found.declared (around_within is_range found.element around)) (depth + 1) found.path
     found.content follows.own
     (taken_longer found.has_taken path found.path follows.on has)))
-    (λ has. ap (element_made is_range found.element) (own_same (around_within is_range found.element around)))
+    (λ has. ap (element_made is_range around.declared found.element)
+    (own_same (around_within is_range found.element around)))
 
 -- so is a whole element
 element_same : (resolve other : Resolve) (setting : Setting) (is_range : Bool) (around : Around) (depth : ℕ)

@@ -1,5 +1,5 @@
 -- The nodes that links go from and to, and those that were found before.
-use Rattle.std.specs.Prelude.{◌≡◌, ◌==◌, ◌&&◌, ℕ, zero, suc, Bool, true, false, List, [], ◌∷◌, ◌++◌, Option, Some, None, IsTrue, cond, codes, option_map, slice_get, unwrap_or}
+use Rattle.std.specs.Prelude.{◌≡◌, ℕ, zero, suc, Bool, true, false, List, [], ◌∷◌, ◌++◌, Option, Some, None, IsTrue, cond, codes, option_map, slice_get, unwrap_or}
 use Rattle.std.specs.BTreeMap.{is_at}
 use Rattle.std.specs.List.{filter_map}
 use Rattle.std.specs.Map.{lookup}
@@ -22,7 +22,7 @@ use Rattle.readers.specs.Founded.{StaysFounded, homes, is_among}
 use Rattle.readers.specs.Told.{Told}
 use Rattle.readers.proofs.AmongLaws.{among_back, among_front}
 use Rattle.readers.proofs.FoundedLaws.{among_behind, among_first, stays_among}
-use Rattle.link_groups.specs.LinkNodes.{AreLinkNodes, IsLinkNode, link_node_at, link_node_of, linking_of, names_of_pages, plan_names, with_linking, with_page}
+use Rattle.link_groups.specs.LinkNodes.{AreLinkNodes, IsLinkNode, link_node_at, link_node_of, linking_of, names_of_pages, plan_names, with_linking}
 use Rattle.link_groups.specs.declared.link_nodes.LinkNode.{LinkNode}
 use Rattle.link_groups.specs.declared.link_nodes.LinkNodes.{LinkNodes}
 use Rattle.link_groups.proofs.NumberLaws.{at_number, same_number}

@@ -1,9 +1,8 @@
 -- The links of one kind: by the nodes that are linked to, in order.
-use Rattle.std.specs.Prelude.{◌≡◌, ◌+◌, ◌<◌, ◌≤◌, ◌==◌, ◌&&◌, ◌||◌, ℕ, zero, suc, Bool, true, false, not, List, [], ◌∷◌, ◌++◌, Option, Some, None, filter, length, map, slice_get, if◌then◌else◌}
+use Rattle.std.specs.Prelude.{◌≡◌, ◌+◌, ◌<◌, ◌≤◌, ◌==◌, ◌&&◌, ℕ, Bool, true, false, not, List, [], ◌∷◌, ◌++◌, Option, Some, None, filter, length, if◌then◌else◌}
 use Rattle.std.specs.List.{filter_map, flat_map, list_any}
 use Rattle.std.specs.Option.{option_and_then, option_to_list}
 use Rattle.std.proofs.Common.{refl, sym, ap, subst, ◌∙◌, arith}
-use Rattle.std.proofs.lemmas.Bool.{false≢true}
 use Rattle.std.proofs.lemmas.Bool.Decides.{nat_tests}
 use Rattle.std.proofs.lemmas.Map.Views.{any-filter_same}
 use Rattle.dita_doc.specs.declared.content.LinkKind.{LinkKind}
@@ -14,7 +13,7 @@ use Rattle.link_spec.specs.Links.{LinkTo, is_page_at, link_to, links_as, links_o
 use Rattle.reader_spec.specs.World.{World}
 use Rattle.link_groups.specs.LinkLists.{link_beside}
 use Rattle.link_groups.proofs.OnceLaws.{once_first_again, once_same}
-use Rattle.link_groups.proofs.NumberLaws.{number_itself, same_number}
+use Rattle.link_groups.proofs.NumberLaws.{same_number}
 
 -- A link from some of several places is one link
 

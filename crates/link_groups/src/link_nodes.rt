@@ -1,5 +1,6 @@
 //! The nodes that links go from and to.
 
+ghost use Rattle.std.specs.Arc.{arc_value};
 ghost use Rattle.std.specs.Prelude.{◌≡◌, ◌&&◌, [], ◌∷◌, ℕ, IfOk, slice_get};
 ghost use Rattle.std.specs.Option.{option_copied};
 ghost use Rattle.dita_doc.specs.declared.plan.Plan as plan_spec;
@@ -18,6 +19,7 @@ use plan_nodes::{copy_affixes, copy_names, place_of};
 use readers::Asker;
 use std::alloc::Global;
 use std::collections::BTreeMap;
+use std::sync::Arc;
 
 /// A node that has a page: its place in the plan, the page, and what its `linking` allows. Nodes
 /// are ordered by their places.
@@ -188,9 +190,9 @@ fn linking_of(node: &PlanNode) -> &str
 }
 
 // Where a document is used by a node. The page of a document is found by what sets pages apart.
-fn context_of(alloc: Global, node: &PlanNode, name: &Name) -> Result<Context, NoMemory>
+fn context_of(alloc: Global, node: &PlanNode, name: &Name) -> Result<Arc<Context>, NoMemory>
     ensures { IfOk result (λ context.
-        context.page ≡ links_spec.context_of node.now name.now) }
+        (arc_value context).page ≡ links_spec.context_of node.now name.now) }
 {
     let page = PageId {
         doc: name.clone()?,
@@ -198,10 +200,11 @@ fn context_of(alloc: Global, node: &PlanNode, name: &Name) -> Result<Context, No
         filters: copy_names(alloc, node.filters.as_slice())?,
         affixes: copy_affixes(alloc, node.affixes.as_slice())?,
     };
-    Ok(Context {
+    let context = Context {
         map: node.doc.clone()?,
         val: None,
         page,
         name: name.clone()?,
-    })
+    };
+    Ok(Arc::new(alloc, context)?)
 }

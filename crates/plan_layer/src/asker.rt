@@ -75,7 +75,7 @@ impl<'r, 'q, 'm, 'd, 'n, K: Keys, S: Since> Asker for PlanLayer<'r, 'q, 'm, 'd, 
         &mut self,
         alloc: Global,
         name: &Name,
-        context: &Context,
+        context: &Arc<Context>,
     ) -> Result<Option<u32>, NoMemory> {
         let place = self.places.find(alloc, name, &context.page)?;
         let note = page_note(alloc, name, context, place)?;

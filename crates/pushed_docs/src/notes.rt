@@ -1,5 +1,6 @@
 //! Questions for pushes and for pages, with their answers.
 
+ghost use Rattle.std.specs.Arc.{arc_value};
 ghost use Rattle.std.specs.Prelude.{◌≡◌, ℕ, List, IfOk};
 ghost use Rattle.conref_push.specs.Table.{IsPushTable};
 ghost use Rattle.map_spec.specs.Pushes as pushes_spec;
@@ -39,19 +40,18 @@ fn pushes_note(alloc: Global, name: &Name, answer: PushList) -> Result<Note, NoM
     Ok(Note::Answer(Box::new(alloc, asked)?))
 }
 
-// The question for the page of a document.
+// The question for the page of a document, which shares the context.
 pub fn page_note(
     alloc: Global,
     name: &Name,
-    context: &Context,
+    context: &Arc<Context>,
     place: Option<u32>,
 ) -> Result<Note, NoMemory>
     ensures { IfOk result (λ note. (setting : Setting) → noted_spec.told_of setting note
-        ≡ told_spec.page_of setting.pages name.now context.now.page place) }
+        ≡ told_spec.page_of setting.pages name.now (arc_value context.now).page place) }
 {
-    let context = Arc::new(alloc, context.clone()?)?;
     let asked = Asked {
-        question: Question::PageOf(name.clone()?, context),
+        question: Question::PageOf(name.clone()?, Arc::try_clone(context)?),
         answered: Answered::PageOf(place),
     };
     Ok(Note::Answer(Box::new(alloc, asked)?))

@@ -1,5 +1,6 @@
 //! The traits of readers: each call answers a question, and tells it with its answer.
 
+ghost use Rattle.std.specs.Arc.{arc_value};
 ghost use Rattle.std.specs.Prelude.{◌≡◌, [], ◌∷◌, List, IfOk, IfSome};
 ghost use Rattle.map_spec.specs.Pushes.{pushed};
 ghost use Rattle.reader_spec.specs.World.{World};
@@ -111,16 +112,17 @@ pub trait Asker: Keys {
         ensures grows { Grows (Self.told self.old) (Self.told self.new) };
 
     /// The page of a document for a context: that of the same context, else the document's first.
+    /// The question shares the context.
     fn page_of(
         &mut self,
         alloc: Global,
         name: &Name,
-        context: &Context,
+        context: &Arc<Context>,
     ) -> Result<Option<u32>, NoMemory>
         ensures stand { Self.stand self.new ≡ Self.stand self.old }
         ensures told { IfOk result (λ place. Self.told self.new
-            ≡ told_spec.page_of (Self.stand self.old).setting.pages name.now context.now.page place
-            ∷ Self.told self.old) }
+            ≡ told_spec.page_of (Self.stand self.old).setting.pages name.now
+            (arc_value context.now).page place ∷ Self.told self.old) }
         ensures founded { StaysFounded (name.now ∷ []) (Self.told self.old) (Self.told self.new) }
         ensures asks { AsksOnly documents_spec.nothing [] (Self.told self.old)
             (Self.told self.new) }

@@ -1,12 +1,15 @@
 -- The requests of a script, answered in order on one thread: each with its entry, and a build with what it gave.
-use Rattle.std.specs.Prelude.{◌+◌, ℕ, List, [], ◌∷◌, ◌++◌, Option, Some, None, length, codes, map, option_map}
+use Rattle.std.specs.Prelude.{◌+◌, ℕ, Bool, true, false, List, [], ◌∷◌, ◌++◌, Option, Some, None, length, codes, map, option_map}
 use Rattle.std.specs.Fmt.{decimal}
 use Rattle.std.specs.List.{flat_map}
+use Rattle.std.specs.Option.{option_to_list}
 use Rattle.build_spec.specs.Built.{Built, Page, Done, Stopped, TooLarge, pages_of}
 use Rattle.dita_doc.specs.Desk.{State, reply, next}
 use Rattle.dita_doc.specs.History.{Entry}
 use Rattle.dita_doc.specs.Request.{Request, Single, Get, Names, Build, Group}
-use Rattle.part_spec.specs.Parts.{clean_build}
+use Rattle.dita_doc.specs.declared.fact.Html.{Html}
+use Rattle.html_spec.specs.Terms.{terms_name}
+use Rattle.part_spec.specs.Parts.{clean_build, clean_terms}
 use Rattle.reader_spec.specs.World.{world_of}
 use Rattle.script_text.specs.Script.{Step}
 use Rattle.transcript_text.specs.Transcript.{BuildShown, PageShown, BuiltPages, StoppedBy, PagesTooLarge, InOutlet, EntryShown, Transcript, entry_shown, fault_shown}
@@ -19,10 +22,22 @@ built_by state Names = None
 built_by state (Build root val) = Some (clean_build (world_of state) root val)
 built_by state (Group edits) = None
 
--- an entry, and what it built
+-- the page of terms of what a request builds, if it is a build and has terms
+abbrev pub terms_page : Html → Page
+terms_page html = (terms_name, html.bytes)
+
+abbrev pub terms_by : State → Request → Option Page
+terms_by state (Single edit) = None
+terms_by state (Get name) = None
+terms_by state Names = None
+terms_by state (Build root val) = option_map terms_page (clean_terms (world_of state) root val)
+terms_by state (Group edits) = None
+
+-- an entry, what it built, and the page of its terms
 pub record Answer : Type 0 where
   pub entry : Entry
   pub built : Option Built
+  pub terms : Option Page
 
 -- the answer to the request of a number at a place
 abbrev pub answer_at : State → ℕ → ℕ → Step → Answer
@@ -35,6 +50,7 @@ answer_at state place number step = record {
         reply state place step.request;
   };
   built = built_by state step.request;
+  terms = terms_by state step.request;
 }
 
 -- the answers to requests in order, from this state and place on; a request has the number of its place and 1
@@ -88,12 +104,18 @@ abbrev pub pages_built : Option Built → List Page
 pages_built None = []
 pages_built (Some built) = pages_of built
 
-abbrev pub pages_of_answer : Answer → List Page
-pages_of_answer answer = map (delivered answer.entry.number) (pages_built answer.built)
+-- behind them, if the run wants it, the page of terms
+abbrev pub pages_wanted : Bool → Option Built → Option Page → List Page
+pages_wanted false built terms = pages_built built
+pages_wanted true built terms = pages_built built ++ option_to_list terms
+
+abbrev pub pages_of_answer : Bool → Answer → List Page
+pages_of_answer with_terms answer =
+    map (delivered answer.entry.number) (pages_wanted with_terms answer.built answer.terms)
 
 -- the pages of all builds, in order
-abbrev pub pages_of_answers : List Answer → List Page
-pages_of_answers answers = flat_map pages_of_answer answers
+abbrev pub pages_of_answers : Bool → List Answer → List Page
+pages_of_answers with_terms answers = flat_map (pages_of_answer with_terms) answers
 
 -- One history
 

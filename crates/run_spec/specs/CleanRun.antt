@@ -1,5 +1,6 @@
--- What a run of the mode `clean` over some bytes ends with: a status, the pages and the output.
-use Rattle.std.specs.Prelude.{◌++◌, ℕ, List, [], Result, Ok, Err, codes}
+-- What a run over some bytes on one thread ends with: a status, the pages and the output. In the mode `clean` the pages are
+-- those of the builds; in the mode `terms` each build has its page of terms behind its own.
+use Rattle.std.specs.Prelude.{◌++◌, ℕ, Bool, true, false, List, [], Result, Ok, Err, codes}
 use Rattle.std.specs.Fmt.{decimal}
 use Rattle.build_spec.specs.Built.{Page}
 use Rattle.dita_doc.specs.Lines.{line}
@@ -23,22 +24,28 @@ read_limit = 67108865
 abbrev pub rejection_line : ScriptFault → List ℕ
 rejection_line fault = line (codes "script " ++ script_code_text fault.code ++ codes " " ++ decimal fault.line)
 
-abbrev pub run_answered : List Answer → CleanRun
-run_answered answers = record {
+abbrev pub run_answered : Bool → List Answer → CleanRun
+run_answered with_terms answers = record {
   status = statuses.Done;
-  pages = pages_of_answers answers;
+  pages = pages_of_answers with_terms answers;
   output = transcript_text (transcript_of answers);
 }
 
 -- a script is answered request by request, from a desk with nothing stored; other bytes are rejected
-abbrev pub run_of : Result (List Step) ScriptFault → CleanRun
-run_of (Ok steps) = run_answered (answers_to steps)
-run_of (Err fault) = record { status = statuses.Script; pages = []; output = rejection_line fault }
+abbrev pub run_of : Bool → Result (List Step) ScriptFault → CleanRun
+run_of with_terms (Ok steps) = run_answered with_terms (answers_to steps)
+run_of with_terms (Err fault) = record { status = statuses.Script; pages = []; output = rejection_line fault }
 
 -- the transcript of a script that is answered is in the form of transcripts
 abbrev pub HasForm : Result (List Step) ScriptFault → Type 0
 HasForm (Ok steps) = IsTranscript (transcript_of (answers_to steps))
 HasForm (Err fault) = Unit {0}
 
-unfoldable pub clean_run : List ℕ → CleanRun
-clean_run input = run_of (script_of input)
+unfoldable pub run_over : Bool → List ℕ → CleanRun
+run_over with_terms input = run_of with_terms (script_of input)
+
+abbrev pub clean_run : List ℕ → CleanRun
+clean_run input = run_over false input
+
+abbrev pub terms_run : List ℕ → CleanRun
+terms_run input = run_over true input

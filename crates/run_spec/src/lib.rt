@@ -1,8 +1,8 @@
 //! Definitions of what runs are: the answers to a script, the transcript and the pages of a run,
 //! and its status.
 //!
-//! What is used above it: `clean_run`, which says for any bytes with which status, pages and output
-//! a run of the mode `clean` ends, and `Status`.
+//! What is used above it: `run_over`, which says for any bytes with which status, pages and output a
+//! run ends, with pages of terms (`terms_run`) or without (`clean_run`); and `Status`.
 #![tactic(auto)]
 
 mod status;

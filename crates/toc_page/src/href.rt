@@ -1,5 +1,6 @@
 //! What an item leads to.
 
+ghost use Rattle.std.specs.Arc.{arc_value};
 ghost use Rattle.std.specs.Prelude.{◌≡◌, ◌++◌, [], ◌∷◌, slice_get, IfOk, Some};
 ghost use Rattle.std.specs.Option.{option_copied, option_to_list};
 ghost use Rattle.map_spec.specs.Pages as pages_spec;
@@ -17,6 +18,7 @@ use dita_doc::{Context, Name, NoMemory, PageId, Plan, PlanNode, Target, Text};
 use plan_nodes::{copy_affixes, copy_names};
 use readers::Asker;
 use std::alloc::{AllocError, Global};
+use std::sync::Arc;
 
 /// What an item leads to: the page of its document, or a target that is no document of ours.
 #[tactic(auto, using(crate::proofs::Walking::walking))]
@@ -127,15 +129,15 @@ fn context_of(
     plan: &Plan,
     node: &PlanNode,
     name: &Name,
-) -> Result<Context, AllocError>
-    ensures { IfOk result (λ context. context.page
+) -> Result<Arc<Context>, AllocError>
+    ensures { IfOk result (λ context. (arc_value context).page
         ≡ links_spec.context_of node.now name.now) }
 {
     let map = match plan.nodes.as_slice().first() {
         Some(root) => root.doc.clone()?,
         None => node.doc.clone()?,
     };
-    Ok(Context {
+    let context = Context {
         map,
         val: None,
         page: PageId {
@@ -145,5 +147,6 @@ fn context_of(
             affixes: copy_affixes(alloc, node.affixes.as_slice())?,
         },
         name: name.clone()?,
-    })
+    };
+    Ok(Arc::new(alloc, context)?)
 }

@@ -3,12 +3,9 @@ use Prim.Native.String.{String}
 use Rattle.std.specs.Fmt.{digits}
 use Rattle.std.specs.List.{flat_map}
 use Rattle.std.specs.Prelude.{◌≡◌, ℕ, List, [], ◌∷◌, ◌++◌, None, Some, length, map, refl, codes, bytes_eq, if◌then◌else◌}
-use Rattle.std.specs.Str.{is_utf8, chars}
-use lib.Utf8.{encode}
 use Rattle.build_spec.specs.Built.{Done, Stopped}
 use Rattle.dita_doc.specs.Lines.{line}
 use Rattle.dita_doc.specs.PlainText.{folded}
-use Rattle.dita_doc.specs.Pyx.{document_of}
 use Rattle.dita_doc.specs.Tree.{Content, End, Chars, Element}
 use Rattle.dita_doc.specs.declared.doc.Attribute.{Attribute}
 use Rattle.dita_doc.specs.declared.fault.FaultCode.TheVariants as faults

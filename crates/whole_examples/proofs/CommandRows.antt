@@ -1,18 +1,27 @@
 -- What the command makes of known words.
-use Rattle.std.specs.Prelude.{◌≡◌, List, [], ◌∷◌, codes, true, false, refl}
+use Rattle.std.specs.Prelude.{◌≡◌, List, [], ◌∷◌, Some, None, codes, true, false, refl}
 use Rattle.clap.specs.Faults.{fault_of}
 use Rattle.clap.specs.Walk.{Text}
 use Rattle.clap.specs.declared.error.kind.ErrorKind.TheVariants as kinds
 use Rattle.clap.proofs.OnLiterals.{clap_on_literals}
-use Rattle.command_line.specs.Command.{command, is_read, out_folder}
+use Rattle.command_line.specs.Command.{command, is_read, mode_of, out_folder}
+use Rattle.command_line.specs.declared.modes.Mode.TheVariants.{Clean, Terms}
 
 -- the program's name, and words
 abbrev line : List Text → List Text
 line words = codes "dita_desk" ∷ words
 
-the_mode_alone : is_read (line (codes "clean" ∷ [])) ≡ true
+the_mode_alone : mode_of (line (codes "clean" ∷ [])) ≡ Some Clean
 unfolding command clap_on_literals
 the_mode_alone = refl
+
+the_other_mode : mode_of (line (codes "terms" ∷ [])) ≡ Some Terms
+unfolding command clap_on_literals
+the_other_mode = refl
+
+no_mode : mode_of (line (codes "fly" ∷ [])) ≡ None
+unfolding command clap_on_literals
+no_mode = refl
 
 two_topics : is_read (line (codes "clean" ∷ codes "--topics" ∷ codes "2" ∷ [])) ≡ true
 unfolding command clap_on_literals

@@ -1,5 +1,5 @@
 -- The definitions of the desk, run on small requests: replies that are known by hand.
-use Rattle.std.specs.Prelude.{◌≡◌, List, [], ◌∷◌, ◌++◌, ℕ, None, refl, codes}
+use Rattle.std.specs.Prelude.{◌≡◌, List, [], ◌∷◌, ◌++◌, ℕ, refl, codes}
 use Rattle.std.specs.Str.{is_utf8, chars}
 use lib.Utf8.{encode}
 use Rattle.dita_doc.specs.Desk.{State, OtherVersion, BodyFault, NotStored, IsStored, IsRemoved, IsRefused, Bytes, NameList, Conflict, Absent, IsGrouped, IsStopped, reply, next}

@@ -2,11 +2,11 @@
 use Prim.Native.String.{String}
 use Rattle.std.specs.Fmt.{digits}
 use Rattle.std.specs.List.{flat_map}
-use Rattle.std.specs.Prelude.{◌≡◌, ℕ, List, [], ◌∷◌, ◌++◌, None, Some, Ok, map, refl, codes}
+use Rattle.std.specs.Prelude.{◌≡◌, ℕ, Bool, true, false, List, [], ◌∷◌, ◌++◌, Option, None, Some, Ok, map, option_map, refl, codes}
 use Rattle.std.specs.Str.{is_utf8, chars}
 use Rattle.std.proofs.Common.{ap, ◌∙◌}
 use lib.Utf8.{encode}
-use Rattle.build_spec.specs.Built.{Built, Done}
+use Rattle.build_spec.specs.Built.{Built, Page, Done}
 use Rattle.dita_doc.specs.Desk.{State, Reply, IsStored, Begun, reply, next}
 use Rattle.dita_doc.specs.Lines.{line}
 use Rattle.dita_doc.specs.Pyx.{document_of}
@@ -16,9 +16,10 @@ use Rattle.map_spec.specs.Included.{map_included}
 use Rattle.map_spec.specs.PlanOf.{plan_of}
 use Rattle.html_spec.specs.Contents.{contents, items_from}
 use Rattle.map_spec.specs.Pushes.{all_pushes}
-use Rattle.part_spec.specs.Parts.{clean_build, page_part}
+use Rattle.part_spec.specs.Parts.{clean_build, clean_terms, page_content, page_part}
 use Rattle.reader_spec.specs.World.{world_of}
-use Rattle.run_spec.specs.CleanRun.{CleanRun, clean_run, run_answered, run_of}
+use Rattle.run_spec.specs.Answers.{terms_page}
+use Rattle.run_spec.specs.CleanRun.{CleanRun, clean_run, run_answered, run_of, run_over, terms_run}
 use Rattle.run_spec.specs.declared.status.Status.TheVariants as statuses
 use Rattle.script_text.specs.Script.{Step, script_of}
 
@@ -72,13 +73,24 @@ its_build : clean_build (world_of stored) in_m None ≡ build
 unfolding clean_build plan_of map_included page_part all_pushes contents items_from
 its_build = refl
 
--- the run, with this reply to the put and this build
-abbrev run_with : Reply → Built → CleanRun
-run_with answer built = run_answered (record {
+-- without topics there are no terms
+its_terms : clean_terms (world_of stored) in_m None ≡ None
+unfolding clean_terms plan_of map_included page_part page_content all_pushes contents items_from
+its_terms = refl
+
+-- the run, with this reply to the put, this build and this page of terms
+abbrev run_with : Bool → Reply → Built → Option Page → CleanRun
+run_with with_terms answer build terms = run_answered with_terms (record {
   entry = record { session = 1; number = 1; request = put; reply = answer };
   built = None;
+  terms = None;
 }
-    ∷ record { entry = record { session = 1; number = 2; request = Build in_m None; reply = Begun }; built = Some built } ∷ [])
+    ∷ record {
+      entry = record { session = 1; number = 2; request = Build in_m None; reply = Begun };
+      built = Some build;
+      terms = terms;
+    }
+    ∷ [])
 
 abbrev run : CleanRun
 run = record {
@@ -88,13 +100,24 @@ run = record {
       ∷ "end 2 0 0" ∷ []);
 }
 
-shown : run_with (IsStored 1) build ≡ run
+shown : (with_terms : Bool) → run_with with_terms (IsStored 1) build None ≡ run
 unfolding digits
-shown = refl
+shown false = refl
+shown true = refl
 
-its_run : clean_run script ≡ run
-unfolding clean_run
-its_run =
-    ap run_of its_steps ∙ ap (λ state. run_with (reply [] 0 put) (clean_build (world_of state) in_m None)) map_stored
-    ∙ ap (λ answer. run_with answer (clean_build (world_of stored) in_m None)) its_reply
-    ∙ ap (run_with (IsStored 1)) its_build ∙ shown
+its_run : (with_terms : Bool) → run_over with_terms script ≡ run
+unfolding run_over
+its_run with_terms =
+    let built : State → Built = λ state. clean_build (world_of state) in_m None in
+    let terms : State → Option Page = λ state. option_map terms_page (clean_terms (world_of state) in_m None) in
+    ap (run_of with_terms) its_steps
+    ∙ ap (λ state. run_with with_terms (reply [] 0 put) (built state) (terms state)) map_stored
+    ∙ ap (λ answer. run_with with_terms answer (built stored) (terms stored)) its_reply
+    ∙ ap (λ given. run_with with_terms (IsStored 1) given (terms stored)) its_build
+    ∙ ap (λ given. run_with with_terms (IsStored 1) build (option_map terms_page given)) its_terms ∙ shown with_terms
+
+its_clean_run : clean_run script ≡ run
+its_clean_run = its_run false
+
+its_terms_run : terms_run script ≡ run
+its_terms_run = its_run true

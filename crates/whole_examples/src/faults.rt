@@ -115,8 +115,13 @@ fn words_that_are_not_read_touch_nothing(rt: HostRuntime) -> Result<(), Fail> {
 #[test]
 fn options_of_other_modes_are_read(rt: HostRuntime) -> Result<(), Fail> {
     let alloc = rt.alloc();
-    let (status, written) = run_words(alloc, "dita_desk clean --topics 2", b"")?;
-    assert_eq!(rt; status, Status::Done);
-    assert!(rt; written.as_slice() == b"dita transcript 1\nend 0 0 0\n".as_slice());
+    for line in ["dita_desk clean --topics 2", "dita_desk terms --topics 2"] {
+        let (status, written) = run_words(alloc, line, b"")?;
+        assert_eq!(rt; status, Status::Done, "{line}");
+        assert!(rt;
+            written.as_slice() == b"dita transcript 1\nend 0 0 0\n".as_slice(),
+            "{line}"
+        );
+    }
     Ok(())
 }

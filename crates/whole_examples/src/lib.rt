@@ -15,3 +15,5 @@ mod pages;
 mod replies;
 #[cfg(test)]
 mod runs;
+#[cfg(test)]
+mod terms;

@@ -1,4 +1,4 @@
-//! Runs of the mode `clean` over objects in memory that do not fail.
+//! Runs over objects in memory that do not fail.
 
 use dita_doc::List;
 use dita_outside::{SureOutlet, SureSink, SureSource};
@@ -14,12 +14,25 @@ pub struct Run {
 }
 
 impl Run {
-    /// Runs a script.
+    /// Runs a script in the mode `clean`.
     pub fn of(alloc: Global, script: &str) -> Result<Run, AllocError> {
         let mut source = SureSource::new(List::from_slice(alloc, script.as_bytes())?);
         let mut sink = SureSink::new(alloc);
         let mut outlet = SureOutlet::new(alloc);
         let status = desk_top::run_clean(alloc, &mut source, &mut sink, &mut outlet);
+        Ok(Run {
+            status,
+            sink,
+            outlet,
+        })
+    }
+
+    /// Runs a script in the mode `terms`.
+    pub fn with_terms(alloc: Global, script: &str) -> Result<Run, AllocError> {
+        let mut source = SureSource::new(List::from_slice(alloc, script.as_bytes())?);
+        let mut sink = SureSink::new(alloc);
+        let mut outlet = SureOutlet::new(alloc);
+        let status = desk_top::run_terms(alloc, &mut source, &mut sink, &mut outlet);
         Ok(Run {
             status,
             sink,

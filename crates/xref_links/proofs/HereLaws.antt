@@ -1,4 +1,5 @@
 -- Where elements are read.
+use Rattle.std.specs.Arc.{arc_value}
 use Rattle.std.specs.Prelude.{◌≡◌, ℕ, []}
 use Rattle.std.proofs.Common.{refl, sym, ap, subst, ◌∙◌}
 use Rattle.dita_doc.specs.declared.doc.Node as doc
@@ -24,11 +25,11 @@ here_kept old new page here same is = subst (λ (stand : Stand). IsHere stand pa
 
 -- the page of a plan
 pub here_made : (stand : Stand) (page : Page) (world : World) (own : PagePlan) (number : ℕ)
-    → IsMadeFor stand.setting page.plan.now → IsPageOf page.plan.now page.context.now own number
+    → IsMadeFor stand.setting page.plan.now → IsPageOf page.plan.now (arc_value page.context.now) own number
     → IsHere stand page (here_of world page.plan.now own number)
 here_made stand page world own number made is = record {
   key = λ text.
-      ap (λ nodes. key_answer world nodes page.context.now.page.scope text) made.nodes
+      ap (λ nodes. key_answer world nodes (arc_value page.context.now).page.scope text) made.nodes
       ∙ ap (λ (id : PageId). key_answer world page.plan.now.nodes id.scope text) (sym is.id);
   pages = made.pages;
   plan = refl;

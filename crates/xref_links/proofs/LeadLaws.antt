@@ -1,4 +1,5 @@
 -- Where documents lead.
+use Rattle.std.specs.Arc.{arc_value}
 use Rattle.std.specs.Prelude.{◌≡◌, ◌+◌, ◌≤◌, ◌==◌, ◌++◌, ℕ, zero, suc, Bool, true, false, List, [], ◌∷◌, Option, Some, None, Result, IfOk, bytes_eq, option_map, slice_get, if◌then◌else◌}
 use Rattle.std.specs.Option.{option_or}
 use Rattle.std.proofs.Common.{refl, sym, ap, subst, ◌∙◌, arith}
@@ -86,35 +87,38 @@ page_found pages name context number page is there =
 module _ (here : Here) (stand : Stand) (page : Page) (element : Element) (name topic id : List ℕ)
     (is : IsHere stand page here) where
   pub lead_known : (answer : Option ℕ)
-      → page_for stand.setting.pages name page.context.now.page ≡ answer
+      → page_for stand.setting.pages name (arc_value page.context.now).page ≡ answer
       → lead_to here element name topic id ≡ lead_to_page here element name topic id answer
   lead_known answer known =
       ap (λ own. lead_to_page here element name topic id (page_for here.pages name own)) is.id
-      ∙ ap (λ pages. lead_to_page here element name topic id (page_for pages name page.context.now.page)) (sym is.pages)
+      ∙ ap (λ pages. lead_to_page here element name topic id
+      (page_for pages name (arc_value page.context.now).page)) (sym is.pages)
       ∙ ap (lead_to_page here element name topic id) known
 
-  module _ (number : ℕ) (found : page_for here.pages name page.context.now.page ≡ Some number) where
-    own_number : name ≡ page.context.now.page.doc → number ≡ here.number
+  module _ (number : ℕ) (found : page_for here.pages name (arc_value page.context.now).page ≡ Some number) where
+    own_number : name ≡ (arc_value page.context.now).page.doc → number ≡ here.number
     own_number same =
-        let first : page_for here.pages name page.context.now.page ≡ Some here.number =
-        ap (λ n. page_for here.pages n page.context.now.page) same ∙ is.first in
+        let first : page_for here.pages name (arc_value page.context.now).page ≡ Some here.number =
+        ap (λ n. page_for here.pages n (arc_value page.context.now).page) same ∙ is.first in
         cc
 
-    own_name : number ≡ here.number → name ≡ page.context.now.page.doc
+    own_name : number ≡ here.number → name ≡ (arc_value page.context.now).page.doc
     own_name same =
-        sym (page_found here.pages name page.context.now.page here.number here.page (found ∙ ap (λ n. Some n) same)
+        sym (page_found here.pages name (arc_value page.context.now).page here.number here.page
+        (found ∙ ap (λ n. Some n) same)
         is.there) ∙ ap (λ (own : PageId). own.doc) is.id
 
-    by_name : (own : Bool) → bytes_eq name page.context.now.page.doc ≡ own → own ≡ (number == here.number)
+    by_name : (own : Bool) → bytes_eq name (arc_value page.context.now).page.doc ≡ own → own ≡ (number == here.number)
     by_name true e =
-        let same = own_number ((bytes_eq-Decides name page.context.now.page.doc).0 e) in grind (arith, nat_tests)
+        let same = own_number ((bytes_eq-Decides name (arc_value page.context.now).page.doc).0 e) in
+        grind (arith, nat_tests)
     by_name false e = sym (no_equal number here.number (λ same.
-        let yes = (bytes_eq-Decides name page.context.now.page.doc).1 (own_name same) in cc))
+        let yes = (bytes_eq-Decides name (arc_value page.context.now).page.doc).1 (own_name same) in cc))
 
     pub lead_paged : (other : PagePlan) (href : List ℕ) (own : Bool) (faults : List Fault)
         → slice_get page.plan.now.pages number ≡ Some other
-        → href ≡ relative_path page.context.now.name other.name ++ fragment topic id
-        → own ≡ bytes_eq name page.context.now.page.doc
+        → href ≡ relative_path (arc_value page.context.now).name other.name ++ fragment topic id
+        → own ≡ bytes_eq name (arc_value page.context.now).page.doc
         → IsLead here (lead_to_page here element name topic id (Some number))
         (record { href = Some href; is_own = own }) faults faults
     lead_paged other href own faults there leads owns = record {
@@ -122,7 +126,7 @@ module _ (here : Here) (stand : Stand) (page : Page) (element : Element) (name t
           (ap (λ pages. slice_get pages number) (sym is.plan) ∙ there)
           ∙ ap (λ name. Some (relative_path name other.name ++ fragment topic id)) is.name
           ∙ ap (λ h. Some h) (sym leads));
-      own = owns ∙ by_name (bytes_eq name page.context.now.page.doc) refl;
+      own = owns ∙ by_name (bytes_eq name (arc_value page.context.now).page.doc) refl;
       faults = sym (append-nil faults);
     }
 

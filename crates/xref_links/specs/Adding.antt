@@ -1,4 +1,5 @@
 -- What each element of a body adds (own), as the code has it.
+use Rattle.std.specs.Arc.{arc_value}
 use Rattle.std.specs.Prelude.{◌≡◌, ◌+◌, ◌<◌, ◌++◌, ◌&&◌, ℕ, Bool, not, List, [], ◌∷◌, Option, Some, None, codes, is_some, length, map, option_map, slice_get, if◌then◌else◌}
 use Rattle.std.specs.List.{filter_map, flat_map}
 use Rattle.std.specs.Option.{option_and_then, option_copied, option_map_or, option_to_list}
@@ -33,13 +34,14 @@ use Rattle.xref_links.specs.declared.page.Standing.{Standing}
 -- a page of the plan that a reader was made for, by a context of which it is the page
 pub record IsHere (stand : Stand) (page : Page) (here : Here) : Type 0 where
   pub key : (text : List ℕ)
-      → key_answer here.world stand.setting.nodes page.context.now.page.scope text ≡ here.key text
+      → key_answer here.world stand.setting.nodes (arc_value page.context.now).page.scope text ≡ here.key text
   pub pages : stand.setting.pages ≡ here.pages
   pub plan : page.plan.now.pages ≡ here.pages
   pub there : slice_get here.pages here.number ≡ Some here.page
-  pub first : page_for here.pages page.context.now.page.doc page.context.now.page ≡ Some here.number
-  pub id : here.page.id ≡ page.context.now.page
-  pub name : here.page.name ≡ page.context.now.name
+  pub first : page_for here.pages (arc_value page.context.now).page.doc (arc_value page.context.now).page
+      ≡ Some here.number
+  pub id : here.page.id ≡ (arc_value page.context.now).page
+  pub name : here.page.name ≡ (arc_value page.context.now).name
 
 -- an element is one of the page's body
 pub record IsPlaced (page : Page) (standing : Standing) : Type 0 where

@@ -1,5 +1,6 @@
 //! Hrefs as they are written, and what they lead to.
 
+ghost use Rattle.std.specs.Arc.{arc_value};
 ghost use Rattle.std.specs.Prelude.{◌≡◌, ◌||◌, ℕ, List, IfOk, codes, unwrap_or};
 ghost use Rattle.dita_doc.specs.ClassValue as class_value_spec;
 ghost use Rattle.href_text.specs.Reference as reference_spec;
@@ -20,7 +21,7 @@ pub(crate) fn read_href<'a>(
     faults: &mut List<Fault>,
 ) -> Result<Target, NoMemory>
     requires { spec.IsPlaced page standing }
-    ensures { (here : Here) → here.page.id ≡ page.entry.context.now.page
+    ensures { (here : Here) → here.page.id ≡ (arc_value page.entry.context.now).page
         → IfOk result (λ target. spec.IsRead (anchors_spec.read_href here standing.entry.topic.now
         (spec.element_of page.entry standing.entry)
         (elements_spec.attribute (codes "href") (spec.element_of page.entry standing.entry)))
@@ -42,7 +43,7 @@ pub(crate) fn read_href<'a>(
 
 // `#./element` means the topic where the element stands, on this page.
 fn in_topic(page: Page<'_>, topic: &str, target: Target) -> Result<Target, NoMemory>
-    ensures { (here : Here) (href : List ℕ) → here.page.id ≡ page.entry.context.now.page
+    ensures { (here : Here) (href : List ℕ) → here.page.id ≡ (arc_value page.entry.context.now).page
         → IfOk result (λ read. read ≡ anchors_spec.in_topic here topic.now href target) }
 {
     match target {

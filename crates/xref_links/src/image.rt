@@ -1,5 +1,6 @@
 //! Images.
 
+ghost use Rattle.std.specs.Arc.{arc_value};
 ghost use Rattle.std.specs.Prelude.{◌≡◌, ℕ, List, IfOk, OnOk, None, if◌then◌else◌};
 ghost use Rattle.doc_elements.specs.Walk as walk_spec;
 ghost use Rattle.html_forms.specs.Shown as shown_spec;
@@ -22,7 +23,7 @@ pub(crate) fn add_image<'a>(
     made: &mut AnchorsMade,
 ) -> Result<(), NoMemory>
     requires { spec.IsPlaced page standing }
-    ensures { (here : Here) → here.page.name ≡ page.entry.context.now.name
+    ensures { (here : Here) → here.page.name ≡ (arc_value page.entry.context.now).name
         → OnOk result (spec.HasMore made.old made.new
         (anchors_spec.image_added here (spec.alone page.entry standing.entry)
         (anchors_spec.image_by (spec.element_of page.entry standing.entry) target))) }
@@ -66,7 +67,7 @@ fn image_href(
 ) -> Result<Option<Text>, NoMemory>
     ensures { IfOk result (λ href. href ≡ (if anchors_spec.has_form anchors_spec.shows_href
         (spec.element_of page.entry standing.entry)
-        then spec.href_outside page.entry.context.now.name target else None)) }
+        then spec.href_outside (arc_value page.entry.context.now).name target else None)) }
 {
     if !shows_href(standing) {
         return Ok(None);

@@ -1,5 +1,6 @@
 //! Where a target leads from a page.
 
+ghost use Rattle.std.specs.Arc.{arc_value};
 ghost use Rattle.std.specs.Prelude.{◌≡◌, ◌∷◌, ◌++◌, [], List, IfOk, OnOk, Some, slice_get};
 ghost use Rattle.std.specs.Option.{option_copied};
 ghost use Rattle.dita_doc.specs.declared.fault.Fault as fault_spec;
@@ -114,7 +115,8 @@ fn lead_to_page(
 ) -> Result<Lead, NoMemory>
     ensures { (here : Here) (stand : Stand) (element : Element) (faults : List fault_spec.Fault)
         → spec.IsHere stand page.entry here
-        → pages_spec.page_for here.pages name.now page.entry.context.now.page ≡ Some number
+        → pages_spec.page_for here.pages name.now (arc_value page.entry.context.now).page
+        ≡ Some number
         → IfOk result (λ lead. spec.IsLead here
         (anchors_spec.lead_to_page here element name.now topic.now id.now (Some number))
         lead faults faults) }
@@ -141,7 +143,7 @@ fn page_numbered(plan: &Plan, number: u32) -> Option<&PagePlan>
 // The href of what is no document of ours.
 pub(crate) fn href_outside(page: Page<'_>, target: &Target) -> Result<Option<Text>, NoMemory>
     ensures { IfOk result (λ href. href
-        ≡ spec.href_outside page.entry.context.now.name target.now) }
+        ≡ spec.href_outside (arc_value page.entry.context.now).name target.now) }
 {
     match target {
         Target::Nothing | Target::Local(..) => Ok(None),

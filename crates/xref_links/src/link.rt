@@ -1,5 +1,6 @@
 //! Cross references, links, and all else that names a defined key.
 
+ghost use Rattle.std.specs.Arc.{arc_value};
 ghost use Rattle.std.specs.Prelude.{◌≡◌, ◌∷◌, ◌++◌, [], ℕ, List, IfOk, OnOk, None, Some, codes, unwrap_or};
 ghost use Rattle.std.specs.Option.{option_copied, option_to_list};
 ghost use Rattle.dita_doc.specs.declared.content.KeyAnswer as key_answer_spec;
@@ -164,7 +165,7 @@ pub(crate) fn add_written<'a, A: Asker>(
         (spec.element_of page.entry standing.entry)
         (elements_spec.attribute (codes "href") (spec.element_of page.entry standing.entry)))))) }
     ensures stand { A.stand asker.new ≡ A.stand asker.old }
-    ensures founded { StaysFounded (page.entry.context.now.page.doc
+    ensures founded { StaysFounded ((arc_value page.entry.context.now).page.doc
         ∷ named_spec.linked_by (spec.element_of page.entry standing.entry)) (A.told asker.old)
         (A.told asker.new) }
     ensures asks { AsksOnly documents_spec.nothing [] (A.told asker.old) (A.told asker.new) }

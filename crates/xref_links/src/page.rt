@@ -5,13 +5,14 @@ ghost use Rattle.std.specs.Prelude.{◌≡◌};
 use dita_doc::{Context, Fault, FaultCode, List, Name, NoMemory, Node, Plan, Resolved, Siblings};
 use doc_elements::fault_at;
 use std::alloc::Global;
+use std::sync::Arc;
 
 // A page whose elements are read: the plan that it is of, its context, and its body.
 #[derive(Clone, Copy)]
 pub(crate) struct Page<'a> {
     pub alloc: Global,
     pub plan: &'a Plan,
-    pub context: &'a Context,
+    pub context: &'a Arc<Context>,
     pub body: &'a Resolved,
 }
 

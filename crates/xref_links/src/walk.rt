@@ -1,5 +1,6 @@
 //! The walk over a page's elements.
 
+ghost use Rattle.std.specs.Arc.{arc_value};
 ghost use Rattle.std.specs.Prelude.{◌≡◌, ◌+◌, ◌≤◌, ◌++◌, [], ◌∷◌, ℕ, List, IfOk, OnOk, None, Option, false, length, if◌then◌else◌};
 ghost use Rattle.dita_doc.specs.Siblings as siblings_spec;
 ghost use Rattle.dita_doc.specs.Tree as tree_spec;
@@ -31,6 +32,7 @@ use crate::types::Types;
 use dita_doc::{Context, First, NoMemory, Node, Plan, Resolved, Siblings, Target};
 use readers::Asker;
 use std::alloc::Global;
+use std::sync::Arc;
 
 /// The anchors of a page's elements, the links that its link elements list, and their faults, each
 /// in document order: one walk over the body, and for each element that links at most one question
@@ -43,24 +45,24 @@ pub fn anchors<A: Asker>(
     alloc: Global,
     asker: &mut A,
     plan: &Plan,
-    context: &Context,
+    context: &Arc<Context>,
     body: &Resolved,
 ) -> Result<AnchorsMade, NoMemory>
     ensures known { (world : World) (page : PagePlan) (number : ℕ)
         → Agrees world (A.told asker.new)
         → here_spec.IsMadeFor (A.stand asker.old).setting plan.now
-        → here_spec.IsPageOf plan.now context.now page number
+        → here_spec.IsPageOf plan.now (arc_value context.now) page number
         → IfOk result (λ made. here_spec.AreMade (here_spec.here_of world plan.now page number)
         (body_spec.written_of body.now) made) }
     ensures value { (page : PagePlan) (number : ℕ)
         → here_spec.IsMadeFor (A.stand asker.old).setting plan.now
-        → here_spec.IsPageOf plan.now context.now page number
+        → here_spec.IsPageOf plan.now (arc_value context.now) page number
         → IfOk result (λ made. here_spec.AreMade
         (here_spec.here_of (A.stand asker.old).world plan.now page number)
         (body_spec.written_of body.now) made) }
     ensures stand { A.stand asker.new ≡ A.stand asker.old }
     ensures founded { StaysFounded
-        (names_spec.names_asked (A.stand asker.old).setting.nodes context.now body.now)
+        (names_spec.names_asked (A.stand asker.old).setting.nodes (arc_value context.now) body.now)
         (A.told asker.old) (A.told asker.new) }
     ensures asks { AsksOnly documents_spec.nothing [] (A.told asker.old) (A.told asker.new) }
     ensures grows { Grows (A.told asker.old) (A.told asker.new) }
@@ -83,7 +85,7 @@ fn anchors_of<A: Asker>(page: Page<'_>, asker: &mut A) -> Result<AnchorsMade, No
         here_spec.AreMade here (body_spec.written_of page.entry.body.now) made) }
     ensures stand { A.stand asker.new ≡ A.stand asker.old }
     ensures founded { StaysFounded
-        (names_spec.names_asked (A.stand asker.old).setting.nodes page.entry.context.now
+        (names_spec.names_asked (A.stand asker.old).setting.nodes (arc_value page.entry.context.now)
         page.entry.body.now) (A.told asker.old) (A.told asker.new) }
     ensures asks { AsksOnly documents_spec.nothing [] (A.told asker.old) (A.told asker.new) }
     ensures grows { Grows (A.told asker.old) (A.told asker.new) }
@@ -115,7 +117,7 @@ fn walk<'a, A: Asker>(
         (body_spec.written_at page.entry.body.now place (siblings_spec.content siblings.entry)))) }
     ensures stand { A.stand asker.new ≡ A.stand asker.old }
     ensures founded { (nodes : List PlanNode) → (A.stand asker.old).setting.nodes ≡ nodes
-        → StaysFounded (names_spec.names_with nodes page.entry.context.now.page.doc
+        → StaysFounded (names_spec.names_with nodes (arc_value page.entry.context.now).page.doc
         (named_spec.linked_in (body_spec.written_at page.entry.body.now place
         (siblings_spec.content siblings.entry)))) (A.told asker.old) (A.told asker.new) }
     ensures asks { AsksOnly documents_spec.nothing [] (A.told asker.old) (A.told asker.new) }
@@ -183,7 +185,7 @@ fn add<'a, A: Asker>(
         (anchors_spec.added_of here (spec.stands_in page.entry standing.entry around))) }
     ensures stand { A.stand asker.new ≡ A.stand asker.old }
     ensures founded { (nodes : List PlanNode) → (A.stand asker.old).setting.nodes ≡ nodes
-        → StaysFounded (names_spec.names_with nodes page.entry.context.now.page.doc
+        → StaysFounded (names_spec.names_with nodes (arc_value page.entry.context.now).page.doc
         (named_spec.linked_by (spec.element_of page.entry standing.entry))) (A.told asker.old)
         (A.told asker.new) }
     ensures asks { AsksOnly documents_spec.nothing [] (A.told asker.old) (A.told asker.new) }
@@ -218,7 +220,7 @@ fn add_behind<'a, A: Asker>(
         (anchors_spec.added_by here (spec.stands_in page.entry standing.entry around))) }
     ensures stand { A.stand asker.new ≡ A.stand asker.old }
     ensures founded { StaysFounded (names_spec.names_of (spec.target_of keyed.entry)
-        ++ page.entry.context.now.page.doc
+        ++ (arc_value page.entry.context.now).page.doc
         ∷ named_spec.linked_by (spec.element_of page.entry standing.entry)) (A.told asker.old)
         (A.told asker.new) }
     ensures asks { AsksOnly documents_spec.nothing [] (A.told asker.old) (A.told asker.new) }
@@ -253,7 +255,7 @@ fn add_unkeyed<'a, A: Asker>(
         → OnOk result (spec.HasMore made.old made.new
         (anchors_spec.added_by here (spec.stands_in page.entry standing.entry around))) }
     ensures stand { A.stand asker.new ≡ A.stand asker.old }
-    ensures founded { StaysFounded (page.entry.context.now.page.doc
+    ensures founded { StaysFounded ((arc_value page.entry.context.now).page.doc
         ∷ named_spec.linked_by (spec.element_of page.entry standing.entry)) (A.told asker.old)
         (A.told asker.new) }
     ensures asks { AsksOnly documents_spec.nothing [] (A.told asker.old) (A.told asker.new) }

@@ -1,54 +1,31 @@
-use Rattle.std.specs.Option.{option_copied}
-use Rattle.readers.proofs.GrowthLaws.{agrees_before, are_allowed_before, grows_trans}
-use Rattle.clean_build.proofs.FoundLaws.{documents_may, parts_may, plan_may}
+use Rattle.std.proofs.Common.{subst}
+use Rattle.readers.proofs.GrowthLaws.{agrees_before, grows_trans}
+use Rattle.clean_build.specs.Single.{HasTables, IsPlanFound, MayBeAsked}
 use Rattle.clean_build.proofs.SingleLaws.{part_shown}
 use Rattle.clean_build.proofs.single_parts.single.Goals as goal
+
+pub over_titles-requires-clause-tables : goal.over_titles-requires-clause-tables
+over_titles-requires-clause-tables g c = subst (HasTables _) c.in-Some.is c.in_ok-plan.ensures.tables
 
 pub over_titles-requires-clause-kept : goal.over_titles-requires-clause-kept
 over_titles-requires-clause-kept g c = c.new-docs.ensures _ _
 
 pub returns-clause-known : goal.returns-clause-known
 returns-clause-known g c = λ world plan agrees is.
-    let at_tables = agrees_before world _ _ c.over_titles.ensures.grows agrees in
-    let at_plan = agrees_before world _ _ c.in_ok-tables.ensures.grows at_tables in
-    part_shown world _ plan c.over_titles.result (c.in-Ok.ensures.known world at_plan) is
-    (c.over_titles.ensures.known world agrees)
+    let at_plan = agrees_before world _ _ c.over_titles.ensures.grows agrees in
+    let found = subst (IsPlanFound plan) c.in-Some.is (c.in_ok-plan.ensures.known world plan at_plan is) in
+    part_shown world _ plan c.over_titles.result is found (c.over_titles.ensures.known world agrees)
 
-pub returns-in_err-tables-clause-founded : goal.returns-in_err-tables-clause-founded
-returns-in_err-tables-clause-founded g c = record {
-  by = λ roots allowed founded.
-      (let world = (g.T.Reader.stand c.planned.new.asker).world in
-      let agrees = g.met.T.Reader.agrees c.planned.new.asker in
-      let planned = c.in-Ok.ensures in
-      c.of.ensures.founded.by roots
-      (documents_may world c.args.map.now (option_copied c.args.val) _ _ _ (planned.known world agrees)
-      (planned.ready.elements world agrees) planned.ready.given roots)
-      (c.planned.ensures.founded.by roots allowed founded));
-}
+pub returns-in_default-clause-known : goal.returns-in_default-clause-known
+returns-in_default-clause-known g c = λ world plan agrees is.
+    absurd (subst (IsPlanFound plan) c.in_default.is (c.in_ok-plan.ensures.known world plan agrees is))
 
 pub returns-clause-founded : goal.returns-clause-founded
 returns-clause-founded g c = record {
   by = λ roots allowed founded.
-      (let world = (g.T.Reader.stand c.planned.new.asker).world in
-      let agrees = g.met.T.Reader.agrees c.planned.new.asker in
-      let planned = c.in-Ok.ensures in
-      let name = c.args.map.now in
-      let val = option_copied c.args.val in
-      let at_plan = c.planned.ensures.founded.by roots allowed founded in
-      let elements = planned.ready.elements world agrees in
-      let nodes = planned.given roots at_plan in
-      let is = planned.known world agrees in
-      let documents = documents_may world name val _ _ _ is elements planned.ready.given roots in
-      let plan = plan_may world name val _ _ _ is elements planned.ready.given roots nodes in
-      let build = are_allowed_before roots _ _ _ c.planned.ensures.grows allowed in
-      let about = parts_may roots _ name val c.in-Ok.planned.plan build nodes plan in
-      c.over_titles.ensures.founded.by roots (are_allowed_before roots _ _ _ c.of.ensures.grows about)
-      (c.of.ensures.founded.by roots documents at_plan));
+      c.over_titles.ensures.founded.by roots (subst (MayBeAsked _ _ _ _) c.in-Some.is c.in_ok-plan.ensures.given
+      roots allowed founded) (c.find_plan.ensures.founded.by roots allowed founded);
 }
 
-pub returns-in_err-tables-clause-grows : goal.returns-in_err-tables-clause-grows
-returns-in_err-tables-clause-grows g c = grows_trans _ _ _ c.planned.ensures.grows c.of.ensures.grows
-
 pub returns-clause-grows : goal.returns-clause-grows
-returns-clause-grows g c = grows_trans _ _ _ c.planned.ensures.grows
-    (grows_trans _ _ _ c.of.ensures.grows c.over_titles.ensures.grows)
+returns-clause-grows g c = grows_trans _ _ _ c.find_plan.ensures.grows c.over_titles.ensures.grows

@@ -15,11 +15,12 @@ pub put_parts-requires-clause-gathered : goal.put_parts-requires-clause-gathered
 put_parts-requires-clause-gathered g c = c.in_ok-gathered.ensures g.S.Since.stand.world
     (c.in_ok-links.ensures.made (record { is = c.requires.plan; made = refl }))
 
-pub returns : goal.returns
-returns g c =
+pub returns-clause-built : goal.returns-clause-built
+returns-clause-built g c =
     let world = g.S.Since.stand.world in
     let ground = c.args.ground in
     let plan = ground.plan.now in
     let val = option_copied ground.val in
     let topics = (plan_facts world ground.map.now val plan c.requires.plan).topics in
-    c.finish.ensures plan (parts_of rooms world plan val) _ c.in_ok-put_parts.ensures (good_build world plan val topics)
+    c.in_ok-clean.ensures plan (parts_of rooms world plan val) _ c.in_ok-lasting.ensures.put
+    (good_build world plan val topics)

@@ -4,19 +4,18 @@ use Rattle.std.proofs.Common.{refl, sym, ap}
 use Rattle.dita_doc.specs.declared.fact.Html.{Html}
 use Rattle.dita_doc.specs.declared.plan.PagePlan.{PagePlan}
 use Rattle.part_spec.specs.Parts.{contents_part, page_parts, rooms}
-use Rattle.clean_build.proofs.PartLaws.{contents_put, on_ok_both}
+use Rattle.clean_build.proofs.PartLaws.{contents_put}
 use Rattle.clean_build.proofs.whole_build.put_contents.Goals as goal
 
-pub returns : goal.returns
-returns g c =
+pub returns-clause-put : goal.returns-clause-put
+returns-clause-put g c =
     let world = g.S.Since.stand.world in
     let plan = c.args.ground.plan.now in
     let val = option_copied c.args.ground.val in
     let has = c.requires.put in
     let html = c.in_ok-html.ensures.made (record { is = c.requires.plan; made = refl }) in
-    on_ok_both c.put.result _ _ _
-    (contents_put world plan val c.in_ok-contents_name.field-0 c.in_ok-html.html c.put.new.self
-    c.in_ok-contents_name.ensures html)
-    (c.put.ensures.pages (map (λ (p : PagePlan). p.name) plan.pages) (page_parts rooms world plan val)
+    contents_put world plan val c.in_ok-contents_name.field-0 c.in_ok-html.html c.put.new.self
+    c.in_ok-contents_name.ensures html
+    (c.in_ok-put.ensures.pages (map (λ (p : PagePlan). p.name) plan.pages) (page_parts rooms world plan val)
     (contents_part world plan) has.put (ap (λ (h : Html). h.bytes) (sym html)))
-    (c.put.ensures.faults _ has.good)
+    (c.in_ok-put.ensures.faults _ has.good)

@@ -6,10 +6,12 @@ use Rattle.dita_doc.specs.declared.fault.Fault.{Fault}
 use Rattle.dita_doc.specs.declared.plan.PagePlan.{PagePlan}
 use Rattle.map_spec.specs.Pushes.{pushed}
 use Rattle.part_spec.specs.Parts.{page_part, page_parts, rooms}
-use Rattle.clean_build.specs.Made.{page_behind}
+use Rattle.clean_build.specs.Bodies.{terms_wanted}
+use Rattle.clean_build.specs.Made.{number_wanted, page_behind, page_content_of}
 use Rattle.clean_build.proofs.PartLaws.{all_put, next_put, none_put, without_rows}
 use Rattle.clean_build.proofs.PlanLaws.{plan_facts}
 use Rattle.clean_build.proofs.SingleLaws.{page_at}
+use Rattle.clean_build.proofs.TermLaws.{all_terms, next_terms}
 use Rattle.clean_build.proofs.whole_build.put_parts.Goals as goal
 
 pub loop-index-init : goal.loop-index-init
@@ -22,6 +24,7 @@ loop-index-init g c =
         places = c.new-content.ensures.places (pushed world plan.documents);
       };
       put = none_put world plan (option_copied c.args.ground.val) c.args.gathered.now c.requires.gathered;
+      terms = c.new-terms.ensures;
     }
 
 pub loop-index-preserved : goal.loop-index-preserved
@@ -34,6 +37,7 @@ loop-index-preserved g c =
     let page = c.page-item.result in
     let names = map (λ (p : PagePlan). p.name) plan.pages in
     let parts = page_parts rooms world plan val in
+    let wanted = c.args.with_terms in
     let topics = (plan_facts world ground.map.now val plan c.requires.plan).topics in
     let there = page_at plan.pages c.as_slice-page-items.result.now index page c.as_slice-page-items.ensures
     c.loop-index-test.true c.page-item.is in
@@ -51,6 +55,9 @@ loop-index-preserved g c =
           (c.in_ok-put.ensures.pages (take index names) (take index parts) (page_part rooms world plan val index)
           c.loop-index.invariant.put.put same)
           (c.in_ok-put.ensures.faults _ c.loop-index.invariant.put.good);
+      terms = next_terms wanted world plan val index page c.in_ok-made.made.terms _ _ there
+          (made.terms ∙ ap (λ n. terms_wanted (number_wanted wanted n) (page_content_of world plan val page).nodes) place)
+          c.in_ok-append_terms.ensures c.loop-index.invariant.terms;
     }
 
 pub put_contents-requires-clause-put : goal.put_contents-requires-clause-put
@@ -60,5 +67,9 @@ put_contents-requires-clause-put g c =
     all_put g.S.Since.stand.world c.args.ground.plan.now (option_copied c.args.ground.val) c.loop-index.index
     c.loop-index.gathered enough c.loop-index.invariant.put
 
-pub returns : goal.returns
-returns g c = c.put_contents.ensures
+pub returns-clause-terms : goal.returns-clause-terms
+returns-clause-terms g c =
+    let enough = subst (λ (pages : List PagePlan). length pages ≤ c.loop-index.index) c.as_slice-page-items.ensures
+    c.loop-index-test.false in
+    all_terms c.args.with_terms g.S.Since.stand.world c.args.ground.plan.now (option_copied c.args.ground.val)
+    c.loop-index.index c.loop-index.terms enough c.loop-index.invariant.terms

@@ -17,7 +17,8 @@ returns-clause-known g c = λ world index agrees ready there known.
     let ground = c.args.ground in
     let plan = ground.plan.now in
     let page = c.args.page.now in
-    subst (λ (context : Context). IfOk c.page_body.result (IsBodyMade world plan context page index c.args.behind))
+    subst (λ (context : Context). IfOk c.page_body.result (IsBodyMade world plan context page index c.args.behind
+    c.args.number))
     c.in_ok-context.ensures
     (c.page_body.ensures.known world page index agrees ready.made
     (subst (λ (context : Context). IsPageOf plan context page index) (sym c.in_ok-context.ensures)

@@ -1,3 +1,6 @@
+use Rattle.std.specs.Prelude.{ℕ, Option}
+use Rattle.std.proofs.Common.{ap, ◌∙◌}
+use Rattle.clean_build.specs.Bodies.{content_of, terms_wanted}
 use Rattle.clean_build.specs.Ground.{context_for}
 use Rattle.clean_build.proofs.NameLaws.{stays_content, stays_linked, stays_titled}
 use Rattle.clean_build.proofs.PageLaws.{page_shown}
@@ -9,34 +12,38 @@ pub returns-clause-known : goal.returns-clause-known
 returns-clause-known g c = λ world agrees ready there links known.
     let work = c.args.work in
     let page = work.page.now in
+    let plan = work.ground.plan.now in
+    let context = context_for work.ground page in
     let at_links = agrees_before world _ _ c.in_ok-html.ensures.grows agrees in
     let at_body = agrees_before world _ _ c.in_ok-of_nodes.ensures.grows at_links in
     let made = c.in_ok-body.ensures.known world work.index at_body ready there known in record {
-      html = page_shown world work.ground.plan.now work.index page work.behind c.args.line (context_for work.ground page)
+      html = page_shown world plan work.index page work.behind c.args.line c.number_wanted-number.result context
           c.in_ok-body.field-0 c.in_ok-of_nodes.of_nodes c.in_ok-hrefs.hrefs c.in_ok-html.html made
           (c.in_ok-of_nodes.ensures.known world at_links links) c.in_ok-hrefs.ensures
           (c.in_ok-html.ensures.known world agrees);
+      terms = made.terms ∙ ap (λ (number : Option ℕ). terms_wanted number (content_of world plan context).nodes)
+          c.number_wanted-number.ensures;
       content = made.content;
     }
 
 pub returns-in_err-body-clause-founded : goal.returns-in_err-body-clause-founded
-returns-in_err-body-clause-founded g c = stays_content _ _ _ c.args.work c.body_on_ground.ensures.founded
+returns-in_err-body-clause-founded g c = stays_content _ _ _ c.args.work.ground c.args.work.page.now c.body_on_ground.ensures.founded
 
 pub returns-in_err-of_nodes-clause-founded : goal.returns-in_err-of_nodes-clause-founded
-returns-in_err-of_nodes-clause-founded g c = stays_linked _ c.args.work _ _ _ c.body_on_ground.ensures.grows
-    c.body_on_ground.ensures.founded c.of_page.ensures.founded
+returns-in_err-of_nodes-clause-founded g c = stays_linked _ c.args.work.ground c.args.work.page.now _ _ _
+    c.body_on_ground.ensures.grows c.body_on_ground.ensures.founded c.of_page.ensures.founded
 
 pub returns-in_err-hrefs-clause-founded : goal.returns-in_err-hrefs-clause-founded
-returns-in_err-hrefs-clause-founded g c = stays_linked _ c.args.work _ _ _ c.body_on_ground.ensures.grows
-    c.body_on_ground.ensures.founded c.of_page.ensures.founded
+returns-in_err-hrefs-clause-founded g c = stays_linked _ c.args.work.ground c.args.work.page.now _ _ _
+    c.body_on_ground.ensures.grows c.body_on_ground.ensures.founded c.of_page.ensures.founded
 
 pub returns-in_err-html-clause-founded : goal.returns-in_err-html-clause-founded
-returns-in_err-html-clause-founded g c = stays_titled _ c.args.work _ _ _ c.body_on_ground.ensures.grows
-    c.body_on_ground.ensures.founded c.of_page.ensures.founded _ c.of_page.ensures.grows c.titled.ensures.founded
+returns-in_err-html-clause-founded g c = stays_titled _ c.args.work.ground c.args.work.page.now _ _ _
+    c.body_on_ground.ensures.grows c.body_on_ground.ensures.founded c.of_page.ensures.founded _ c.of_page.ensures.grows c.titled.ensures.founded
 
 pub returns-clause-founded : goal.returns-clause-founded
-returns-clause-founded g c = stays_titled _ c.args.work _ _ _ c.body_on_ground.ensures.grows
-    c.body_on_ground.ensures.founded c.of_page.ensures.founded _ c.of_page.ensures.grows c.titled.ensures.founded
+returns-clause-founded g c = stays_titled _ c.args.work.ground c.args.work.page.now _ _ _
+    c.body_on_ground.ensures.grows c.body_on_ground.ensures.founded c.of_page.ensures.founded _ c.of_page.ensures.grows c.titled.ensures.founded
 
 pub returns-in_err-of_nodes-clause-grows : goal.returns-in_err-of_nodes-clause-grows
 returns-in_err-of_nodes-clause-grows g c = grows_trans _ _ _ c.body_on_ground.ensures.grows c.of_page.ensures.grows

@@ -12,7 +12,6 @@ use Rattle.map_spec.specs.Written.{End}
 use Rattle.readers.specs.Named.{named_found, named_tree, reused_in}
 use Rattle.readers.specs.Setting.{Stand}
 use Rattle.doc_maker.specs.Made.{resolved_tree}
-use Rattle.readers.proofs.GivenLaws.{given_later}
 use Rattle.readers.proofs.GrowthLaws.{agrees_before, grows_trans}
 use Rattle.conref_pull.specs.Asking.{AreGiven, reused_of_doc}
 use Rattle.conref_pull.specs.Origin.{named_content}
@@ -20,74 +19,88 @@ use Rattle.conref_pull.specs.Hrefs.{HaveNamed, HaveNamedIn}
 use Rattle.conref_pull.specs.Putting.{built}
 use Rattle.conref_pull.specs.Resolved.{IsResolved, too_many_faults}
 use Rattle.conref_pull.specs.Rules.{ditavals, page_rules}
-use Rattle.conref_pull.specs.Setting.{setting_of}
+use Rattle.conref_pull.specs.Setting.{documents_in, setting_of}
 use Rattle.conref_pull.specs.Walking.{among_made, seen_by}
-use Rattle.conref_pull.proofs.AskingLaws.{about_next, about_page, about_rules, about_then, given_reused, none_among}
+use Rattle.conref_pull.proofs.AskingLaws.{about_ditavals, about_next, about_rules_first, about_then, given_reused, none_among}
 use Rattle.conref_pull.proofs.CallLaws.{Begins, all_made, done_of, here_begins, none_made, ready_begins, setting_begins, tables_kept}
 use Rattle.conref_pull.proofs.OriginLaws.{content_named}
 use Rattle.conref_pull.proofs.HrefGivenLaws.{found_named}
-use Rattle.conref_pull.proofs.HrefLaws.{building_later, linked_allowed, nodes_later}
+use Rattle.conref_pull.proofs.HrefLaws.{building_later, linked_allowed}
 use Rattle.conref_pull.proofs.RuleLaws.{rules_of_page}
 use Rattle.conref_pull.proofs.WalkLaws.{walks_as}
 use Rattle.conref_pull.proofs.calls.resolve_page_with.Goals as goal
 
-pub returns-in_err-doc-clause-founded : goal.returns-in_err-doc-clause-founded
-returns-in_err-doc-clause-founded g c = (about_page (g.A.Reader.stand c.args.asker.now).setting.nodes _ _ _ _ c.pushed.ensures.founded c.pushed.ensures.asks).founded
-
-pub returns-in_err-doc-clause-asks : goal.returns-in_err-doc-clause-asks
-returns-in_err-doc-clause-asks g c = (about_page (g.A.Reader.stand c.args.asker.now).setting.nodes _ _ _ _ c.pushed.ensures.founded c.pushed.ensures.asks).asks
-
-pub returns-in_default-clause-founded : goal.returns-in_default-clause-founded
-returns-in_default-clause-founded g c = (about_page (g.A.Reader.stand c.args.asker.now).setting.nodes _ _ _ _ c.pushed.ensures.founded c.pushed.ensures.asks).founded
-
-pub returns-in_default-clause-asks : goal.returns-in_default-clause-asks
-returns-in_default-clause-asks g c = (about_page (g.A.Reader.stand c.args.asker.now).setting.nodes _ _ _ _ c.pushed.ensures.founded c.pushed.ensures.asks).asks
-
 pub returns-in_err-read-clause-founded : goal.returns-in_err-read-clause-founded
-returns-in_err-read-clause-founded g c = (about_rules (g.A.Reader.stand c.args.asker.now).setting.nodes _ _ _ _ _ c.pushed.ensures.grows c.pushed.ensures.founded c.pushed.ensures.asks
-    c.read.ensures.founded c.read.ensures.asks).founded
+returns-in_err-read-clause-founded g c =
+    (about_ditavals (g.A.Reader.stand c.args.asker.now).setting.nodes _ _ _ _ c.read.ensures.founded c.read.ensures.asks).founded
 
 pub returns-in_err-read-clause-asks : goal.returns-in_err-read-clause-asks
-returns-in_err-read-clause-asks g c = (about_rules (g.A.Reader.stand c.args.asker.now).setting.nodes _ _ _ _ _ c.pushed.ensures.grows c.pushed.ensures.founded c.pushed.ensures.asks
-    c.read.ensures.founded c.read.ensures.asks).asks
+returns-in_err-read-clause-asks g c =
+    (about_ditavals (g.A.Reader.stand c.args.asker.now).setting.nodes _ _ _ _ c.read.ensures.founded c.read.ensures.asks).asks
+
+pub returns-in_err-doc-clause-founded : goal.returns-in_err-doc-clause-founded
+returns-in_err-doc-clause-founded g c =
+    (about_rules_first (g.A.Reader.stand c.args.asker.now).setting.nodes _ _ _ _ _ c.read.ensures.grows
+    c.read.ensures.founded c.read.ensures.asks c.pushed.ensures.founded c.pushed.ensures.asks).founded
+
+pub returns-in_err-doc-clause-asks : goal.returns-in_err-doc-clause-asks
+returns-in_err-doc-clause-asks g c =
+    (about_rules_first (g.A.Reader.stand c.args.asker.now).setting.nodes _ _ _ _ _ c.read.ensures.grows
+    c.read.ensures.founded c.read.ensures.asks c.pushed.ensures.founded c.pushed.ensures.asks).asks
+
+pub returns-in_default-clause-founded : goal.returns-in_default-clause-founded
+returns-in_default-clause-founded g c =
+    (about_rules_first (g.A.Reader.stand c.args.asker.now).setting.nodes _ _ _ _ _ c.read.ensures.grows
+    c.read.ensures.founded c.read.ensures.asks c.pushed.ensures.founded c.pushed.ensures.asks).founded
+
+pub returns-in_default-clause-asks : goal.returns-in_default-clause-asks
+returns-in_default-clause-asks g c =
+    (about_rules_first (g.A.Reader.stand c.args.asker.now).setting.nodes _ _ _ _ _ c.read.ensures.grows
+    c.read.ensures.founded c.read.ensures.asks c.pushed.ensures.founded c.pushed.ensures.asks).asks
 
 pub returns-in_err-rules-clause-founded : goal.returns-in_err-rules-clause-founded
-returns-in_err-rules-clause-founded g c = (about_rules (g.A.Reader.stand c.args.asker.now).setting.nodes _ _ _ _ _ c.pushed.ensures.grows c.pushed.ensures.founded c.pushed.ensures.asks
-    c.read.ensures.founded c.read.ensures.asks).founded
+returns-in_err-rules-clause-founded g c =
+    (about_rules_first (g.A.Reader.stand c.args.asker.now).setting.nodes _ _ _ _ _ c.read.ensures.grows
+    c.read.ensures.founded c.read.ensures.asks c.pushed.ensures.founded c.pushed.ensures.asks).founded
 
 pub returns-in_err-rules-clause-asks : goal.returns-in_err-rules-clause-asks
-returns-in_err-rules-clause-asks g c = (about_rules (g.A.Reader.stand c.args.asker.now).setting.nodes _ _ _ _ _ c.pushed.ensures.grows c.pushed.ensures.founded c.pushed.ensures.asks
-    c.read.ensures.founded c.read.ensures.asks).asks
+returns-in_err-rules-clause-asks g c =
+    (about_rules_first (g.A.Reader.stand c.args.asker.now).setting.nodes _ _ _ _ _ c.read.ensures.grows
+    c.read.ensures.founded c.read.ensures.asks c.pushed.ensures.founded c.pushed.ensures.asks).asks
 
 pub returns-clause-founded : goal.returns-clause-founded
 returns-clause-founded g c = (about_next (g.A.Reader.stand c.args.asker.now).setting.nodes _ _ _ _ _ _ _ refl (none_among _)
-    (grows_trans _ _ _ (grows_trans _ _ _ c.pushed.ensures.grows c.read.ensures.grows) c.siblings-done.ensures.grows)
+    (grows_trans _ _ _ (grows_trans _ _ _ c.read.ensures.grows c.pushed.ensures.grows) c.siblings-done.ensures.grows)
     (about_then (g.A.Reader.stand c.args.asker.now).setting.nodes _ _ _ _ _ _ _
     (ap (λ (context : Context). context.page.doc) c.new-resolver.ensures.context)
-    (subst (λ (all : Written). AreGiven (g.A.Reader.told c.read.new.reader) (reused_in all))
+    (subst (λ (all : Written). AreGiven (g.A.Reader.told c.pushed.new.self) (reused_in all))
     (sym (content_named c.of-2.result c.deref.result.now c.of-2.ensures.content c.of-2.ensures.document))
-    (subst (λ (doc : Doc). AreGiven (g.A.Reader.told c.read.new.reader) (reused_of_doc doc)) (sym c.deref.ensures)
-    (given_reused _ (arc_value c.in-Some.doc) (given_later _ _ _ c.in_ok-read.ensures.grows
+    (subst (λ (doc : Doc). AreGiven (g.A.Reader.told c.pushed.new.self) (reused_of_doc doc)) (sym c.deref.ensures)
+    (given_reused _ (arc_value c.in-Some.doc)
     (subst (λ (found : Option (Arc Doc Global)). IsGiven (g.A.Reader.told c.pushed.new.self) (named_found found))
-    c.in-Some.is c.in_ok-doc.ensures.given))))) (grows_trans _ _ _ c.pushed.ensures.grows c.read.ensures.grows)
-    (about_rules (g.A.Reader.stand c.args.asker.now).setting.nodes _ _ _ _ _ c.pushed.ensures.grows c.pushed.ensures.founded c.pushed.ensures.asks
-    c.read.ensures.founded c.read.ensures.asks) (c.siblings-done.ensures.asks (g.A.Reader.stand c.args.asker.now).setting.nodes
-    (ap (λ (stand : Stand). stand.setting.nodes) (c.in_ok-read.ensures.stand ∙ c.in_ok-doc.ensures.stand)))) (c.finish.ensures.asks (g.A.Reader.stand c.args.asker.now).setting.nodes)).founded
+    c.in-Some.is c.in_ok-doc.ensures.given)))) (grows_trans _ _ _ c.read.ensures.grows c.pushed.ensures.grows)
+    (about_rules_first (g.A.Reader.stand c.args.asker.now).setting.nodes _ _ _ _ _ c.read.ensures.grows
+    c.read.ensures.founded c.read.ensures.asks c.pushed.ensures.founded c.pushed.ensures.asks)
+    (c.siblings-done.ensures.asks (g.A.Reader.stand c.args.asker.now).setting.nodes
+    (ap (λ (stand : Stand). stand.setting.nodes) (c.in_ok-doc.ensures.stand ∙ c.in_ok-read.ensures.stand))))
+    (c.finish.ensures.asks (g.A.Reader.stand c.args.asker.now).setting.nodes)).founded
 
 pub returns-clause-asks : goal.returns-clause-asks
 returns-clause-asks g c = (about_next (g.A.Reader.stand c.args.asker.now).setting.nodes _ _ _ _ _ _ _ refl (none_among _)
-    (grows_trans _ _ _ (grows_trans _ _ _ c.pushed.ensures.grows c.read.ensures.grows) c.siblings-done.ensures.grows)
+    (grows_trans _ _ _ (grows_trans _ _ _ c.read.ensures.grows c.pushed.ensures.grows) c.siblings-done.ensures.grows)
     (about_then (g.A.Reader.stand c.args.asker.now).setting.nodes _ _ _ _ _ _ _
     (ap (λ (context : Context). context.page.doc) c.new-resolver.ensures.context)
-    (subst (λ (all : Written). AreGiven (g.A.Reader.told c.read.new.reader) (reused_in all))
+    (subst (λ (all : Written). AreGiven (g.A.Reader.told c.pushed.new.self) (reused_in all))
     (sym (content_named c.of-2.result c.deref.result.now c.of-2.ensures.content c.of-2.ensures.document))
-    (subst (λ (doc : Doc). AreGiven (g.A.Reader.told c.read.new.reader) (reused_of_doc doc)) (sym c.deref.ensures)
-    (given_reused _ (arc_value c.in-Some.doc) (given_later _ _ _ c.in_ok-read.ensures.grows
+    (subst (λ (doc : Doc). AreGiven (g.A.Reader.told c.pushed.new.self) (reused_of_doc doc)) (sym c.deref.ensures)
+    (given_reused _ (arc_value c.in-Some.doc)
     (subst (λ (found : Option (Arc Doc Global)). IsGiven (g.A.Reader.told c.pushed.new.self) (named_found found))
-    c.in-Some.is c.in_ok-doc.ensures.given))))) (grows_trans _ _ _ c.pushed.ensures.grows c.read.ensures.grows)
-    (about_rules (g.A.Reader.stand c.args.asker.now).setting.nodes _ _ _ _ _ c.pushed.ensures.grows c.pushed.ensures.founded c.pushed.ensures.asks
-    c.read.ensures.founded c.read.ensures.asks) (c.siblings-done.ensures.asks (g.A.Reader.stand c.args.asker.now).setting.nodes
-    (ap (λ (stand : Stand). stand.setting.nodes) (c.in_ok-read.ensures.stand ∙ c.in_ok-doc.ensures.stand)))) (c.finish.ensures.asks (g.A.Reader.stand c.args.asker.now).setting.nodes)).asks
+    c.in-Some.is c.in_ok-doc.ensures.given)))) (grows_trans _ _ _ c.read.ensures.grows c.pushed.ensures.grows)
+    (about_rules_first (g.A.Reader.stand c.args.asker.now).setting.nodes _ _ _ _ _ c.read.ensures.grows
+    c.read.ensures.founded c.read.ensures.asks c.pushed.ensures.founded c.pushed.ensures.asks)
+    (c.siblings-done.ensures.asks (g.A.Reader.stand c.args.asker.now).setting.nodes
+    (ap (λ (stand : Stand). stand.setting.nodes) (c.in_ok-doc.ensures.stand ∙ c.in_ok-read.ensures.stand))))
+    (c.finish.ensures.asks (g.A.Reader.stand c.args.asker.now).setting.nodes)).asks
 
 pub returns-in_default-clause-known : goal.returns-in_default-clause-known
 returns-in_default-clause-known g c = λ world agrees rules tables.
@@ -97,7 +110,12 @@ returns-in_default-clause-known g c = λ world agrees rules tables.
     (page_rules world (ditavals c.args.context.now.val page.filters)) in
     subst (λ (m : Made). IsResolved c.nothing.result m)
     (none_made setting (too_many_faults world page.doc)
-    (sym (c.in_ok-doc.ensures.known world agrees) ∙ ap named_found c.in_default.is)) c.nothing.ensures)
+    (ap (λ (s : Stand). documents_in world s.setting page.doc) (sym c.in_ok-read.ensures.stand)
+    ∙ sym (c.in_ok-doc.ensures.known world agrees) ∙ ap named_found c.in_default.is)) c.nothing.ensures)
+
+pub returns-in_default-clause-kept : goal.returns-in_default-clause-kept
+returns-in_default-clause-kept g c = λ world agrees rules tables.
+    (c.in_ok-read.ensures.known world (agrees_before world _ _ c.in_ok-doc.ensures.grows agrees) rules, tables)
 
 pub returns-clause-known : goal.returns-clause-known
 returns-clause-known g c = λ world agrees rules tables.
@@ -106,24 +124,27 @@ returns-clause-known g c = λ world agrees rules tables.
     let names = ditavals c.args.context.now.val page.filters in
     let setting = setting_of world stand.setting page (page_rules world names) in
     let later = agrees_before world _ _ c.finish.ensures.grows agrees in
-    let read = agrees_before world _ _ c.siblings-done.ensures.grows later in
-    let are = c.in_ok-read.ensures.known world read rules in
-    let stands = c.in_ok-read.ensures.stand ∙ c.in_ok-doc.ensures.stand in
+    let asked = agrees_before world _ _ c.siblings-done.ensures.grows later in
+    let are = c.in_ok-read.ensures.known world (agrees_before world _ _ c.in_ok-doc.ensures.grows asked) rules in
+    let stands = c.in_ok-doc.ensures.stand ∙ c.in_ok-read.ensures.stand in
     let begins : Begins c.new-resolver.result = record {
       nodes = c.new-resolver.ensures.nodes;
+      declared = c.new-resolver.ensures.declared;
       count = c.new-resolver.ensures.count;
       faults = c.new-resolver.ensures.faults;
       path = c.new-resolver.ensures.path;
     } in
-    let is = setting_begins world stand (g.A.Reader.stand c.read.new.reader) c.args.context.now c.new-resolver.result
+    let is = setting_begins world stand (g.A.Reader.stand c.pushed.new.self) c.args.context.now c.new-resolver.result
     (page_rules world names) (sym stands) c.new-resolver.ensures.context
     (c.new-resolver.ensures.rules ∙ c.in_ok-rules.ensures ∙ rules_of_page world c.read.new.self names are
     c.in_ok-read.ensures.has) in
-    let ready = ready_begins world (g.A.Reader.stand c.read.new.reader) setting 0 c.new-resolver.result
+    let ready = ready_begins world (g.A.Reader.stand c.pushed.new.self) setting 0 c.new-resolver.result
     c.args.tables.now.places begins is c.new-resolver.ensures.deepest tables in
     let root = content_named c.of-2.result c.deref.result.now c.of-2.ensures.content c.of-2.ensures.document
     ∙ ap named_tree c.deref.ensures
-    ∙ ap (λ (found : Option Written). unwrap_or found End) (ap named_found (sym c.in-Some.is) ∙ c.in_ok-doc.ensures.known world (agrees_before world _ _ c.in_ok-read.ensures.grows read)) in
+    ∙ ap (λ (found : Option Written). unwrap_or found End) (ap named_found (sym c.in-Some.is)
+    ∙ c.in_ok-doc.ensures.known world asked
+    ∙ ap (λ (s : Stand). documents_in world s.setting page.doc) c.in_ok-read.ensures.stand) in
     c.finish.ensures.known world (resolved_in setting nothing_around 1 (page_root setting)) agrees
     (done_of c.siblings-done.result setting.pushed 0 (resolved_in setting nothing_around 1 (page_root setting))
     c.new-resolver.result c.siblings-done.new.self c.siblings-done.new.places begins
@@ -142,19 +163,21 @@ returns-clause-kept g c = λ world agrees rules tables.
     let names = ditavals c.args.context.now.val c.args.context.now.page.filters in
     let setting = setting_of world stand.setting c.args.context.now.page (page_rules world names) in
     let later = agrees_before world _ _ c.finish.ensures.grows agrees in
-    let are = c.in_ok-read.ensures.known world (agrees_before world _ _ c.siblings-done.ensures.grows later) rules in
+    let asked = agrees_before world _ _ c.siblings-done.ensures.grows later in
+    let are = c.in_ok-read.ensures.known world (agrees_before world _ _ c.in_ok-doc.ensures.grows asked) rules in
     let begins : Begins c.new-resolver.result = record {
       nodes = c.new-resolver.ensures.nodes;
+      declared = c.new-resolver.ensures.declared;
       count = c.new-resolver.ensures.count;
       faults = c.new-resolver.ensures.faults;
       path = c.new-resolver.ensures.path;
     } in
-    let is = setting_begins world stand (g.A.Reader.stand c.read.new.reader) c.args.context.now c.new-resolver.result
-    (page_rules world names) (sym (c.in_ok-read.ensures.stand ∙ c.in_ok-doc.ensures.stand))
+    let is = setting_begins world stand (g.A.Reader.stand c.pushed.new.self) c.args.context.now c.new-resolver.result
+    (page_rules world names) (sym (c.in_ok-doc.ensures.stand ∙ c.in_ok-read.ensures.stand))
     c.new-resolver.ensures.context
     (c.new-resolver.ensures.rules ∙ c.in_ok-rules.ensures ∙ rules_of_page world c.read.new.self names are
     c.in_ok-read.ensures.has) in
-    let ready = ready_begins world (g.A.Reader.stand c.read.new.reader) setting 0 c.new-resolver.result
+    let ready = ready_begins world (g.A.Reader.stand c.pushed.new.self) setting 0 c.new-resolver.result
     c.args.tables.now.places begins is c.new-resolver.ensures.deepest tables in
     on_ok_weaker c.finish.result
     (λ memory. (
@@ -173,38 +196,42 @@ returns-in_default-clause-given g c = λ roots.
 pub returns-clause-given : goal.returns-clause-given
 returns-clause-given g c =
     let asked = g.A.Reader.told c.pushed.new.self in
-    let read = g.A.Reader.told c.read.new.reader in
     let walked = g.A.Reader.told c.siblings-done.new.asker in
     let last = g.A.Reader.told c.finish.new.asker in
-    let all = subst (HaveNamed read)
+    let all = subst (HaveNamed asked)
     (sym (content_named c.of-2.result c.deref.result.now c.of-2.ensures.content c.of-2.ensures.document))
-    (subst (λ (doc : Doc). HaveNamed read (named_tree doc)) (sym c.deref.ensures)
-    (nodes_later asked read c.in_ok-read.ensures.grows (named_tree (arc_value c.in-Some.doc))
-    (found_named asked _ c.in-Some.doc c.in-Some.is c.in_ok-doc.ensures.given))) in
-    let none = subst (HaveNamedIn read) (sym c.new-resolver.ensures.nodes) tt in
+    (subst (λ (doc : Doc). HaveNamed asked (named_tree doc)) (sym c.deref.ensures)
+    (found_named asked _ c.in-Some.doc c.in-Some.is c.in_ok-doc.ensures.given)) in
+    let none = subst (HaveNamedIn asked) (sym c.new-resolver.ensures.nodes) tt in
     IfOk-weaker c.finish.result _ _ (λ resolved named roots. linked_allowed roots last (resolved_tree resolved) named)
     (c.finish.ensures.hrefs last
     (on_ok_weaker c.siblings-done.result
     (λ put. building_later walked last c.finish.ensures.grows (built c.siblings-done.new.self) put)
     (c.siblings-done.ensures.hrefs all none)))
 
-pub returns-in_err-read-clause-grows : goal.returns-in_err-read-clause-grows
-returns-in_err-read-clause-grows g c = grows_trans _ _ _ c.pushed.ensures.grows c.read.ensures.grows
+pub returns-in_err-doc-clause-grows : goal.returns-in_err-doc-clause-grows
+returns-in_err-doc-clause-grows g c = grows_trans _ _ _ c.read.ensures.grows c.pushed.ensures.grows
 
-pub returns-in_err-read-clause-stand : goal.returns-in_err-read-clause-stand
-returns-in_err-read-clause-stand g c = c.read.ensures.stand ∙ c.pushed.ensures.stand
+pub returns-in_err-doc-clause-stand : goal.returns-in_err-doc-clause-stand
+returns-in_err-doc-clause-stand g c = c.pushed.ensures.stand ∙ c.read.ensures.stand
+
+pub returns-in_default-clause-grows : goal.returns-in_default-clause-grows
+returns-in_default-clause-grows g c = grows_trans _ _ _ c.read.ensures.grows c.pushed.ensures.grows
+
+pub returns-in_default-clause-stand : goal.returns-in_default-clause-stand
+returns-in_default-clause-stand g c = c.pushed.ensures.stand ∙ c.read.ensures.stand
 
 pub returns-in_err-rules-clause-grows : goal.returns-in_err-rules-clause-grows
-returns-in_err-rules-clause-grows g c = grows_trans _ _ _ c.pushed.ensures.grows c.read.ensures.grows
+returns-in_err-rules-clause-grows g c = grows_trans _ _ _ c.read.ensures.grows c.pushed.ensures.grows
 
 pub returns-in_err-rules-clause-stand : goal.returns-in_err-rules-clause-stand
-returns-in_err-rules-clause-stand g c = c.read.ensures.stand ∙ c.pushed.ensures.stand
+returns-in_err-rules-clause-stand g c = c.pushed.ensures.stand ∙ c.read.ensures.stand
 
 pub returns-clause-grows : goal.returns-clause-grows
 returns-clause-grows g c =
-    grows_trans _ _ _ (grows_trans _ _ _ c.pushed.ensures.grows c.read.ensures.grows)
+    grows_trans _ _ _ (grows_trans _ _ _ c.read.ensures.grows c.pushed.ensures.grows)
     (grows_trans _ _ _ c.siblings-done.ensures.grows c.finish.ensures.grows)
 
 pub returns-clause-stand : goal.returns-clause-stand
 returns-clause-stand g c =
-    c.finish.ensures.stand ∙ c.siblings-done.ensures.stand ∙ c.read.ensures.stand ∙ c.pushed.ensures.stand
+    c.finish.ensures.stand ∙ c.siblings-done.ensures.stand ∙ c.pushed.ensures.stand ∙ c.read.ensures.stand

@@ -18,7 +18,8 @@ returns-clause-known g c = λ world agrees.
     (let name = c.args.context.now.page.doc in
     let told = (subst (λ (all : List Told). Agrees world all) c.in_ok-doc.ensures.told agrees).0 in
     record {
-      nodes = c.finish_resolved.ensures.content ∙ ap whole c.new.ensures;
+      nodes = c.finish_resolved.ensures.content ∙ ap whole c.new.ensures.nothing;
+      declared = c.finish_resolved.ensures.declared ∙ c.new.ensures.declared;
       count = c.finish_resolved.ensures.count;
       faults = c.finish_resolved.ensures.faults ∙ elim c.match-branch-2.branch [
         | in-Some w ↦ elim w.match-root_of.branch [
@@ -43,7 +44,7 @@ returns-clause-known g c = λ world agrees.
 
 pub returns-clause-hrefs : goal.returns-clause-hrefs
 returns-clause-hrefs g c = λ told.
-    subst (HaveNamed told) (sym (c.finish_resolved.ensures.content ∙ ap whole c.new.ensures)) tt
+    subst (HaveNamed told) (sym (c.finish_resolved.ensures.content ∙ ap whole c.new.ensures.nothing)) tt
 
 pub returns-in_err-doc-clause-asks : goal.returns-in_err-doc-clause-asks
 returns-in_err-doc-clause-asks g c = λ nodes.

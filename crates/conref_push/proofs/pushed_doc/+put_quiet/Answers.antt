@@ -41,7 +41,7 @@ loop-node-preserved-in_ok-put_quiet-in-Element t c =
           (quiet_put was (building c.close.new.self) element inside (c.if-not-acts.ensures name)
           (closed_with was (building c.open.new.maker) (building c.put_quiet.new.maker) (building c.close.new.self)
           element (without_acting inside) c.in_ok-open-in-Element.ensures c.in_ok-put_quiet-in-Element.ensures
-          c.close.ensures))
+          c.close.ensures.closed))
           c.loop-node.invariant.put;
       size = omega (arith, ap size_of c.in-Element.ensures.content, c.loop-node.invariant.size);
     }

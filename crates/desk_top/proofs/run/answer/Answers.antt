@@ -16,7 +16,7 @@ returns-in_err-built-clause-pages g c =
     (request_seen c.args.request) c.in_ok-place.place c.entries.result c.in_ok-place.ensures.place
     c.entries.ensures.value c.in_ok-place.ensures.ok in
     puts_front _ _ _ _ c.from_residual-in_err-built.result c.from_residual-in_err-built.ensures.1
-    (answer_front _ _ _ _ _ _ _ kept c.in_err-built.ensures.pages)
+    (answer_front c.args.with_terms _ _ _ _ _ _ _ kept c.in_err-built.ensures.pages)
 
 pub write_entry-requires-clause-built : goal.write_entry-requires-clause-built
 write_entry-requires-clause-built g c =
@@ -42,7 +42,7 @@ returns-in_err-entry-clause-pages g c =
     (request_seen c.args.request) c.in_ok-place.place c.entries.result c.in_ok-place.ensures.place
     c.entries.ensures.value c.in_ok-place.ensures.ok in
     puts_front _ _ _ _ c.from_residual-in_err-entry.result c.from_residual-in_err-entry.ensures.1
-    (front_all _ _ _ (answer_put _ _ _ _ _ _ _ kept c.in_ok-built.ensures.pages))
+    (front_all _ _ _ (answer_put c.args.with_terms _ _ _ _ _ _ _ kept c.in_ok-built.ensures.pages))
 
 pub returns-in_err-append-clause-pages : goal.returns-in_err-append-clause-pages
 returns-in_err-append-clause-pages g c =
@@ -50,14 +50,14 @@ returns-in_err-append-clause-pages g c =
     (request_seen c.args.request) c.in_ok-place.place c.entries.result c.in_ok-place.ensures.place
     c.entries.ensures.value c.in_ok-place.ensures.ok in
     puts_front _ _ _ _ c.from_residual-in_err-append.result c.from_residual-in_err-append.ensures.1
-    (front_all _ _ _ (answer_put _ _ _ _ _ _ _ kept c.in_ok-built.ensures.pages))
+    (front_all _ _ _ (answer_put c.args.with_terms _ _ _ _ _ _ _ kept c.in_ok-built.ensures.pages))
 
 pub returns-clause-pages : goal.returns-clause-pages
 returns-clause-pages g c =
     let kept = kept_by c.args.store.now c.keep.new.store c.args.session
     (request_seen c.args.request) c.in_ok-place.place c.entries.result c.in_ok-place.ensures.place
     c.entries.ensures.value c.in_ok-place.ensures.ok in
-    answer_put _ _ _ _ _ _ _ kept c.in_ok-built.ensures.pages
+    answer_put c.args.with_terms _ _ _ _ _ _ _ kept c.in_ok-built.ensures.pages
 
 pub returns-clause-ok : goal.returns-clause-ok
 returns-clause-ok g c =

@@ -20,7 +20,7 @@ loop-session-init g c =
       size = search rules;
       own = subst (All IsOwnStep) (sym items) c.args.script.origins;
       desk = search rules;
-      answered = none_answered _ _ _ _ _ (script_fits c.args.script) (ap steps_seen items)
+      answered = none_answered c.args.with_terms _ _ _ _ _ (script_fits c.args.script) (ap steps_seen items)
           (ap (λ (kept : Kept). kept.history) c.in_ok-store.ensures) c.in_ok-text.ensures;
       counted = search rules;
     }
@@ -36,17 +36,17 @@ answer-requires-clause-room g c =
     let text = c.loop-session.text in
     let store = c.loop-session.store in
     let before =
-    subst (λ (left : List (ℕ × given.Request)). HasAnswered all store.history (steps_seen left) text
+    subst (λ (left : List (ℕ × given.Request)). HasAnswered c.args.with_terms all store.history (steps_seen left) text
     (g.O.Outlet.pages c.args.outlet.now) (g.O.Outlet.pages c.loop-session.outlet)) c.in-Some.ensures.steps.0
     c.loop-session.invariant.answered in
-    room_left all store.history (step_seen (c.in-Some.session, c.in-Some.request))
+    room_left c.args.with_terms all store.history (step_seen (c.in-Some.session, c.in-Some.request))
     (steps_seen (into_iter_items c.next.new.self)) text _ _ (script_fits c.args.script) before
 
 pub loop-session-preserved : goal.loop-session-preserved
 loop-session-preserved g c =
     let all = steps_seen c.args.script.steps in
     let before =
-    subst (λ (left : List (ℕ × given.Request)). HasAnswered all c.loop-session.store.history
+    subst (λ (left : List (ℕ × given.Request)). HasAnswered c.args.with_terms all c.loop-session.store.history
     (steps_seen left) c.loop-session.text (g.O.Outlet.pages c.args.outlet.now)
     (g.O.Outlet.pages c.loop-session.outlet)) c.in-Some.ensures.steps.0 c.loop-session.invariant.answered in
     record {
@@ -58,7 +58,7 @@ loop-session-preserved g c =
       );
       own = All-tail IsOwnStep _ _ (subst (All IsOwnStep) c.in-Some.ensures.steps.0 c.loop-session.invariant.own);
       desk = c.in_ok-answer.ensures.desk;
-      answered = one_answered _ _ _ _ _ _ _ _ _ _ before c.in_ok-answer.ensures.ok c.in_ok-answer.ensures.pages;
+      answered = one_answered c.args.with_terms _ _ _ _ _ _ _ _ _ _ before c.in_ok-answer.ensures.ok c.in_ok-answer.ensures.pages;
       counted = c.in_ok-answer.ensures.cause.stays ∙ c.loop-session.invariant.counted;
     }
 
@@ -66,18 +66,18 @@ pub returns-in_err-answer-clause-pages : goal.returns-in_err-answer-clause-pages
 returns-in_err-answer-clause-pages g c =
     let all = steps_seen c.args.script.steps in
     let before =
-    subst (λ (left : List (ℕ × given.Request)). HasAnswered all c.loop-session.store.history
+    subst (λ (left : List (ℕ × given.Request)). HasAnswered c.args.with_terms all c.loop-session.store.history
     (steps_seen left) c.loop-session.text (g.O.Outlet.pages c.args.outlet.now)
     (g.O.Outlet.pages c.loop-session.outlet)) c.in-Some.ensures.steps.0 c.loop-session.invariant.answered in
     puts_front _ _ _ _ c.from_residual-in_err-answer.result c.from_residual-in_err-answer.ensures.1
-    (answer_begun _ _ _ _ _ _ _ _ before c.in_err-answer.ensures.pages)
+    (answer_begun c.args.with_terms _ _ _ _ _ _ _ _ before c.in_err-answer.ensures.pages)
 
 pub returns-clause-text : goal.returns-clause-text
 returns-clause-text g c =
     let none = no_more (into_iter_items c.loop-session.session-iterator) _ c.loop-session.invariant.size
     c.in-None.ensures.steps.0 in
-    let before = none_left _ _ _ _ _ _ (ap steps_seen none) c.loop-session.invariant.answered in
-    all_told (steps_seen c.args.script.steps) c.loop-session.store.history c.loop-session.text c.append.new.self
+    let before = none_left c.args.with_terms _ _ _ _ _ _ (ap steps_seen none) c.loop-session.invariant.answered in
+    all_told c.args.with_terms (steps_seen c.args.script.steps) c.loop-session.store.history c.loop-session.text c.append.new.self
     c.entries.result _ _ before c.entries.ensures.value
     (c.in_ok-append.ensures ∙ ap (λ (more : Bytes). c.loop-session.text ++ more) (c.as_slice.ensures
     ∙ c.in_ok-end.ensures))
@@ -86,5 +86,5 @@ pub returns-clause-form : goal.returns-clause-form
 returns-clause-form g c =
     let none = no_more (into_iter_items c.loop-session.session-iterator) _ c.loop-session.invariant.size
     c.in-None.ensures.steps.0 in
-    let before = none_left _ _ _ _ _ _ (ap steps_seen none) c.loop-session.invariant.answered in
-    all_in_form (steps_seen c.args.script.steps) _ _ _ _ (script_fits c.args.script) before
+    let before = none_left c.args.with_terms _ _ _ _ _ _ (ap steps_seen none) c.loop-session.invariant.answered in
+    all_in_form c.args.with_terms (steps_seen c.args.script.steps) _ _ _ _ (script_fits c.args.script) before

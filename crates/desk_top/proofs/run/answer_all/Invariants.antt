@@ -12,7 +12,7 @@ invariant-loop-session g l = record {
   size : into_iter_len l.session-iterator ≡ length (into_iter_items l.session-iterator);
   own : All IsOwnStep (into_iter_items l.session-iterator);
   desk : IsOfDesk l.store;
-  answered : HasAnswered (steps_seen l.fn.script.steps) l.store.history
+  answered : HasAnswered l.fn.with_terms (steps_seen l.fn.script.steps) l.store.history
       (steps_seen (into_iter_items l.session-iterator)) l.text (g.O.Outlet.pages l.fn.outlet)
       (g.O.Outlet.pages l.outlet);
   counted : g.O.Outlet.faults l.outlet ≡ g.O.Outlet.faults l.fn.outlet;

@@ -1,5 +1,6 @@
-use Rattle.std.proofs.Common.{◌≡◌, take}
+use Rattle.std.proofs.Common.{◌≡◌, ◌++◌, drop}
+use Rattle.flag_marks.specs.Shown.{shown}
 use Rattle.flag_marks.proofs.mark.tables_of.Given as goal
 
 abbrev pub invariant-loop-some : goal.invariant-loop-some
-invariant-loop-some l = l.tables.items ≡ take l.some-index l.rules
+invariant-loop-some l = l.tables.items ++ shown (drop l.some-index l.rules) ≡ shown l.rules

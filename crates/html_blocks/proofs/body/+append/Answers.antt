@@ -3,7 +3,7 @@ use Rattle.dita_doc.specs.HtmlEscapes.{escaped}
 use Rattle.dita_doc.specs.Siblings.{content, document}
 use Rattle.dita_doc.specs.Tree.{size_of}
 use Rattle.dita_doc.specs.declared.doc.Doc.{Doc}
-use Rattle.html_blocks.specs.Walk.{content_of, names_of}
+use Rattle.html_blocks.specs.Walk.{content_of, names_of, overlay_of}
 use Rattle.html_tables.specs.Walk.{element_named}
 use Rattle.html_tables.proofs.WalkLaws.{size_named}
 use Rattle.html_spec.specs.Blocks.{shown, shown_from}
@@ -17,20 +17,20 @@ pub append_siblings-returns-in-End : goal.append_siblings-returns-in-End
 append_siblings-returns-in-End t c = λ around is.
     let left = c.loop-node.left in
     way_ends _ _ _ _
-    (shown_end around c.args.links.anchors.now c.loop-node.here (content_of left)
+    (shown_end around (overlay_of c.args.overlay.now) c.loop-node.here (content_of left)
     (ap (named (names_of left)) c.in-End.ensures.content))
     (c.loop-node.invariant.way around is)
 
 pub append_siblings-loop-node-preserved-in-Chars : goal.append_siblings-loop-node-preserved-in-Chars
 append_siblings-loop-node-preserved-in-Chars t c = record {
   way = λ around is.
-      let anchors = c.args.links.anchors.now in
+      let overlay = overlay_of c.args.overlay.now in
       let left = c.loop-node.left in
       let node = c.in-Chars.node.now in
       let rest = c.in-Chars.rest in
       way_more _ _ _ _ _ (shown (escaped node.text))
-      (shown_from around anchors (c.loop-node.here + 1) (content_of rest))
-      (shown_text around anchors c.loop-node.here (content_of left) node.text (name_at (names_of left) node.origin)
+      (shown_from around overlay (c.loop-node.here + 1) (content_of rest))
+      (shown_text around overlay c.loop-node.here (content_of left) node.text (name_at (names_of left) node.origin)
       (content_of rest)
       (text_named (document left) (content left) node.text node.origin node.line (content rest) (document rest)
       c.in-Chars.ensures.content c.in-Chars.ensures.document))
@@ -77,8 +77,8 @@ append_siblings-loop-node-preserved t c =
       way = λ around is.
           let way = c.loop-node.invariant.way around is in
           way_more _ _ _ _ _ _ _
-          (shown_first around c.args.links.anchors.now here (content_of left) (element_named (names_of inside) node)
-          (content_of inside) (content_of rest) (here + (node.end - c.in-Element.place))
+          (shown_first around (overlay_of c.args.overlay.now) here (content_of left)
+          (element_named (names_of inside) node) (content_of inside) (content_of rest) (here + (node.end - c.in-Element.place))
           (first_named (document left) (content left) node.text node.attributes node.origin node.line (content inside)
           (content rest) (document inside) (document rest) c.in-Element.ensures.content
           c.in-Element.ensures.document.0 c.in-Element.ensures.document.1)

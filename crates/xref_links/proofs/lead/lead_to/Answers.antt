@@ -1,3 +1,4 @@
+use Rattle.std.specs.Arc.{arc_value}
 use Rattle.std.proofs.Common.{◌∙◌, Some, ap, sym}
 use Rattle.map_spec.specs.Pages.{page_for}
 use Rattle.readers.proofs.GrowthLaws.{told_answer}
@@ -15,7 +16,7 @@ returns-clause-known g c = λ here agrees is.
     (sym (lead_known here stand page element c.args.name.now c.args.topic.now c.args.id.now is (Some c.in-Some.number)
     known))
     (c.lead_to_page.ensures here stand element c.args.faults.now is
-    (ap (λ pages. page_for pages c.args.name.now page.context.now.page) (sym is.pages) ∙ known))
+    (ap (λ pages. page_for pages c.args.name.now (arc_value page.context.now).page) (sym is.pages) ∙ known))
 
 pub returns-in_err-number-clause-stand : goal.returns-in_err-number-clause-stand
 returns-in_err-number-clause-stand g c = c.page_of.ensures.stand

@@ -1,3 +1,4 @@
+use Rattle.std.specs.Arc.{arc_value}
 use Rattle.std.proofs.Common.{refl}
 use Rattle.std.specs.Prelude.{codes}
 use Rattle.map_spec.specs.Elements.{attribute}
@@ -27,7 +28,8 @@ returns-clause-known g c = λ here agrees is typed none.
 
 pub returns-clause-founded : goal.returns-clause-founded
 returns-clause-founded g c =
-    read_founded c.args.page.context.now.page c.args.standing.topic.now (element_of c.args.page c.args.standing)
+    read_founded (arc_value c.args.page.context.now).page c.args.standing.topic.now
+    (element_of c.args.page c.args.standing)
     c.in_ok-target.target c.args.made.now.faults c.read_href.new.faults _ _
     (λ here same. c.in_ok-target.ensures here same) c.add_read.ensures.founded
 

@@ -1,3 +1,4 @@
+use Rattle.std.specs.Arc.{arc_value}
 use Rattle.std.proofs.Common.{◌≡◌, ◌∙◌, ◌+◌, ap, arith, refl, rules, subst, sym, IsTrue}
 use Rattle.std.specs.Prelude.{[], slice_get, Some}
 use Rattle.dita_doc.specs.Siblings.{content}
@@ -119,10 +120,10 @@ loop-rest-preserved g t c =
       founded = λ nodes same.
           (let known = ap (λ (stand : Stand). stand.setting.nodes) c.loop-rest.invariant.stand ∙ same in
           let then_known = ap (λ (stand : Stand). stand.setting.nodes) c.in_ok-add-in-Element.ensures.stand ∙ known in
-          step_founded nodes c.args.page.context.now.page.doc _
+          step_founded nodes (arc_value c.args.page.context.now).page.doc _
           (linked_in (written_at body at (content c.loop-rest.left))) (linked_in inside) _ _ _
           (grows_trans _ _ _ c.loop-rest.invariant.grows c.in_ok-add-in-Element.ensures.grows)
-          (step_founded nodes c.args.page.context.now.page.doc _
+          (step_founded nodes (arc_value c.args.page.context.now).page.doc _
           (linked_in (written_at body at (content c.loop-rest.left))) (linked_by element) _ _ _
           c.loop-rest.invariant.grows (c.loop-rest.invariant.founded nodes same) c.loop-rest.invariant.within
           (λ m among. link_first _ element inside rest first m among)
@@ -141,7 +142,7 @@ returns-in_err-add-in-Element-clause-founded g t c = λ nodes same.
     let body = c.args.page.body.now in
     let at = c.loop-rest.here in
     let element = element_at body at c.in-Element.node.now in
-    step_founded nodes c.args.page.context.now.page.doc _
+    step_founded nodes (arc_value c.args.page.context.now).page.doc _
     (linked_in (written_at body at (content c.loop-rest.left))) (linked_by element) _ _ _
     c.loop-rest.invariant.grows (c.loop-rest.invariant.founded nodes same) c.loop-rest.invariant.within
     (λ m among. link_first _ element _ _ (ap (written_at body at) c.in-Element.ensures.content) m among)
@@ -156,11 +157,11 @@ returns-in_err-here-in-Element-clause-founded g t c = λ nodes same.
     let known = ap (λ (stand : Stand). stand.setting.nodes) c.loop-rest.invariant.stand ∙ same in
     let then_known = ap (λ (stand : Stand). stand.setting.nodes) c.in_ok-add-in-Element.ensures.stand ∙ known in
     let first = ap (written_at body at) c.in-Element.ensures.content in
-    step_founded nodes c.args.page.context.now.page.doc _
+    step_founded nodes (arc_value c.args.page.context.now).page.doc _
     (linked_in (written_at body at (content c.loop-rest.left)))
     (linked_in (written_at body (at + 1) (content c.in-Element.inside))) _ _ _
     (grows_trans _ _ _ c.loop-rest.invariant.grows c.in_ok-add-in-Element.ensures.grows)
-    (step_founded nodes c.args.page.context.now.page.doc _
+    (step_founded nodes (arc_value c.args.page.context.now).page.doc _
     (linked_in (written_at body at (content c.loop-rest.left))) (linked_by element) _ _ _
     c.loop-rest.invariant.grows (c.loop-rest.invariant.founded nodes same) c.loop-rest.invariant.within
     (λ m among. link_first _ element _ _ first m among) (c.in_ok-add-in-Element.ensures.founded nodes known))

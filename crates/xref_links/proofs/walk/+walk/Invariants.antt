@@ -1,3 +1,4 @@
+use Rattle.std.specs.Arc.{arc_value}
 use Rattle.std.proofs.Common.{◌≡◌, ◌+◌, ◌≤◌, ℕ, List, IsTrue, Option, length}
 use Rattle.dita_doc.specs.Siblings.{content, document}
 use Rattle.dita_doc.specs.Tree.{size_of}
@@ -30,7 +31,7 @@ invariant-loop-rest g l = record {
   home : document l.left ≡ l.page.body.now.doc;
   stand : g.A.Reader.stand l.asker ≡ g.A.Reader.stand l.fn.asker;
   founded : (nodes : List PlanNode) → (g.A.Reader.stand l.fn.asker).setting.nodes ≡ nodes
-      → StaysFounded (names_with nodes l.page.context.now.page.doc
+      → StaysFounded (names_with nodes (arc_value l.page.context.now).page.doc
       (linked_in (written_at l.page.body.now l.fn.place (content l.fn.siblings))))
       (g.A.Reader.told l.fn.asker) (g.A.Reader.told l.asker);
   within : (m : List ℕ) → IsTrue (is_among (linked_in (written_at l.page.body.now l.here (content l.left))) m)

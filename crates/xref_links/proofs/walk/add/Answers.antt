@@ -1,3 +1,4 @@
+use Rattle.std.specs.Arc.{arc_value}
 use Rattle.std.proofs.Common.{[], ◌∙◌, refl}
 use Rattle.readers.proofs.GrowthLaws.{agrees_before, grows_trans}
 use Rattle.xref_links.specs.Adding.{element_of, target_of}
@@ -27,14 +28,14 @@ returns-clause-known g c = λ here around agrees is types topic.
 
 pub returns-clause-founded : goal.returns-clause-founded
 returns-clause-founded g c = λ nodes same.
-    behind_founded nodes _ c.args.page.context.now.page.doc
+    behind_founded nodes _ (arc_value c.args.page.context.now).page.doc
     (linked_by (element_of c.args.page c.args.standing)) (names_of (target_of c.in_ok-keyed.keyed)) _ _ _ same
     c.in_ok-keyed.ensures.grows c.in_ok-keyed.ensures.founded (λ roots. c.in_ok-keyed.ensures.given roots)
     c.add_behind.ensures.founded
 
 pub returns-in_err-keyed-clause-founded : goal.returns-in_err-keyed-clause-founded
 returns-in_err-keyed-clause-founded g c = λ nodes same.
-    key_founded nodes _ c.args.page.context.now.page.doc
+    key_founded nodes _ (arc_value c.args.page.context.now).page.doc
     (linked_by (element_of c.args.page c.args.standing)) _ _ same c.in_err-keyed.ensures.founded
 
 pub returns-in_err-keyed-clause-stand : goal.returns-in_err-keyed-clause-stand

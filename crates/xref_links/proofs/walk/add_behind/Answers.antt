@@ -1,3 +1,4 @@
+use Rattle.std.specs.Arc.{arc_value}
 use Rattle.std.proofs.Common.{Option, subst, sym}
 use Rattle.dita_doc.specs.declared.plan.Target.{Target}
 use Rattle.html_spec.specs.Anchors.{defined_key, image_added, image_by, keyref_of}
@@ -38,7 +39,7 @@ pub returns-in-Some-clause-founded : goal.returns-in-Some-clause-founded
 returns-in-Some-clause-founded g c =
     let page = c.args.page in
     let links = linked_by (element_of page c.args.standing) in
-    key_part (names_of (target_of c.args.keyed)) page.context.now.page.doc links _ _
+    key_part (names_of (target_of c.args.keyed)) (arc_value page.context.now).page.doc links _ _
     (subst (λ (keyed : Option Keyed). StaysFounded (names_of (target_of keyed)) (g.A.Reader.told c.args.asker.now)
     (g.A.Reader.told c.add_keyed.new.asker)) (sym c.in-Some.is) c.add_keyed.ensures.founded)
 
@@ -50,7 +51,7 @@ returns-in-None-clause-known g c = λ here around agrees is types topic key.
 
 pub returns-in-None-clause-founded : goal.returns-in-None-clause-founded
 returns-in-None-clause-founded g c =
-    href_part (names_of (target_of c.args.keyed)) c.args.page.context.now.page.doc
+    href_part (names_of (target_of c.args.keyed)) (arc_value c.args.page.context.now).page.doc
     (linked_by (element_of c.args.page c.args.standing)) _ _ c.add_unkeyed.ensures.founded
 
 pub returns-in-Some-clause-stand : goal.returns-in-Some-clause-stand

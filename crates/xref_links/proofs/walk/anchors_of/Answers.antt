@@ -1,3 +1,4 @@
+use Rattle.std.specs.Arc.{arc_value}
 use Rattle.std.proofs.Common.{None, refl, subst}
 use Rattle.dita_doc.specs.Tree.{Content}
 use Rattle.readers.specs.Founded.{StaysFounded}
@@ -28,7 +29,7 @@ pub returns-clause-founded : goal.returns-clause-founded
 returns-clause-founded g c =
     let body = c.args.page.body.now in
     let Is : Content → Type 0 = λ tree. StaysFounded
-    (names_with (g.A.Reader.stand c.args.asker.now).setting.nodes c.args.page.context.now.page.doc
+    (names_with (g.A.Reader.stand c.args.asker.now).setting.nodes (arc_value c.args.page.context.now).page.doc
     (linked_in (written_at body 0 tree)))
     (g.A.Reader.told c.args.asker.now) (g.A.Reader.told c.walk.new.asker) in
     subst Is c.of.ensures.content (c.in_ok-walk.ensures.founded _ refl)
@@ -37,7 +38,7 @@ pub returns-in_err-walk-clause-founded : goal.returns-in_err-walk-clause-founded
 returns-in_err-walk-clause-founded g c =
     let body = c.args.page.body.now in
     let Is : Content → Type 0 = λ tree. StaysFounded
-    (names_with (g.A.Reader.stand c.args.asker.now).setting.nodes c.args.page.context.now.page.doc
+    (names_with (g.A.Reader.stand c.args.asker.now).setting.nodes (arc_value c.args.page.context.now).page.doc
     (linked_in (written_at body 0 tree)))
     (g.A.Reader.told c.args.asker.now) (g.A.Reader.told c.walk.new.asker) in
     subst Is c.of.ensures.content (c.in_err-walk.ensures.founded _ refl)

@@ -1,5 +1,6 @@
 use Rattle.std.specs.Prelude.{◌≡◌, ℕ, List, Option}
 use Rattle.std.specs.Option.{option_copied}
+use Rattle.std.proofs.Common.{◌∙◌}
 use Rattle.dita_doc.specs.declared.plan.Context.{Context}
 use Rattle.dita_doc.specs.declared.plan.PageId.{PageId}
 use Rattle.dita_doc.specs.declared.plan.PagePlan.{PagePlan}
@@ -14,5 +15,5 @@ context_made : (ground : Ground) (of : PagePlan) (map name : List ℕ) (val : Op
 context_made ground of map name val page is_map is_val is_page is_name = cc
 
 pub returns : goal.returns
-returns c = context_made c.args.self c.args.page.now _ _ _ _ c.in_ok-clone.ensures.cases c.in_ok-val.ensures
-    c.in_ok-copy_id.ensures c.in_ok-clone-2.ensures.cases
+returns c = c.in_ok-new.ensures.ok ∙ context_made c.args.self c.args.page.now _ _ _ _ c.in_ok-clone.ensures.cases
+    c.in_ok-val.ensures c.in_ok-copy_id.ensures c.in_ok-clone-2.ensures.cases

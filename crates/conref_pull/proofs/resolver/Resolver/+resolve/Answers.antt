@@ -276,16 +276,16 @@ merged-returns-clause-hrefs g t c = λ named given put.
     c.args.at.is_range c.in_ok-merged.merged c.in_ok-attributes.ensures
     (c.in_ok-merged.ensures.hrefs told named (given_links told c.deref.ensures.value given)))
     (counted_put _ c.in_ok-count_one.ensures c.in_ok-is_excluded.ensures.state put)
-    (c.in_ok-siblings.ensures.hrefs (c.in-Some.ensures.hrefs told given).1) c.close.ensures)
+    (c.in_ok-siblings.ensures.hrefs (c.in-Some.ensures.hrefs told given).1) c.close.ensures.closed)
 
 pub unchanged-returns-clause-hrefs : goal.unchanged-returns-clause-hrefs
 unchanged-returns-clause-hrefs g t c = λ named held put.
     (let told = g.A.Reader.told c.args.asker.now in
     let element = element_of c.args.origin.now c.args.node.now in
-    around_put told _ _ c.count_one.new.self c.siblings.new.self c.in_ok-open.ensures.opened (left_named told
+    around_put told _ c.args.origin.now c.count_one.new.self c.siblings.new.self c.in_ok-open.ensures.opened (left_named told
     c.args.at.is_range element (c.in_ok-attributes.ensures element c.in_ok-own.ensures).attributes named)
     (same_put _ c.args.self.now _ (maker_counted _ _ c.in_ok-count_one.ensures) put)
-    (c.in_ok-siblings.ensures.hrefs held) c.close.ensures)
+    (c.in_ok-siblings.ensures.hrefs held) c.close.ensures.closed)
 
 -- What was put
 
@@ -397,12 +397,12 @@ merged-returns-in_default-clause-known g t c = λ world here farthest nearer agr
 pub merged-returns-in_err-siblings-clause-known : goal.merged-returns-in_err-siblings-clause-known
 merged-returns-in_err-siblings-clause-known g t c = λ world here farthest nearer agrees ready linked types.
     (taken_not c.args.at.is_range (seen_by c.args.topic.now c.args.declared.now) (declared_inside farthest)
-    (element_of c.args.origin.now c.args.node.now) (merged_onto farthest.element nearer) farthest.inside c.open.new.self c.in_ok-count_one.ensures
-    (c.in_ok-merged.ensures.merged here.path c.args.chain.now.end (farthest ∷ nearer) farthest.inside
+    (element_of c.args.origin.now c.args.node.now) (merged_onto farthest.element nearer) farthest.inside c.open.new.self c.in_ok-own.own refl
+    c.in_ok-count_one.ensures (c.in_ok-merged.ensures.merged here.path c.args.chain.now.end (farthest ∷ nearer) farthest.inside
     (links_are here.path c.args.chain.now.end (farthest ∷ nearer) c.deref.ensures.value linked))
     c.in_ok-is_excluded.ensures.state (sym c.if-branch.false ∙ c.in_ok-is_excluded.ensures.goes)
-    c.in_ok-name.ensures.cases c.in_ok-attributes.ensures c.in_ok-open.ensures.opened
-    (seen_as (c.topic_taken.ensures c.args.origin.now (merged_onto farthest.element nearer) types)
+    c.in_ok-name.ensures.cases c.in_ok-attributes.ensures c.in_ok-open.ensures.opened c.in_ok-own.ensures.cases
+    c.in_ok-open.ensures.declared (seen_as (c.topic_taken.ensures c.args.origin.now (merged_onto farthest.element nearer) types)
     (c.in_ok-there.ensures here.path c.args.chain.now.end farthest nearer linked)) ready
     c.from_residual-in_err-siblings.result c.in_err-siblings.field-0.0 _ _ c.from_residual-in_err-siblings.ensures.1
     (c.in-Some.ensures.target here.path c.args.chain.now.end farthest nearer linked)
@@ -411,15 +411,15 @@ merged-returns-in_err-siblings-clause-known g t c = λ world here farthest neare
 pub merged-returns-clause-known : goal.merged-returns-clause-known
 merged-returns-clause-known g t c = λ world here farthest nearer agrees ready linked types.
     (taken_put c.args.at.is_range (seen_by c.args.topic.now c.args.declared.now) (declared_inside farthest)
-    (element_of c.args.origin.now c.args.node.now) (merged_onto farthest.element nearer) farthest.inside c.open.new.self c.in_ok-count_one.ensures
-    (c.in_ok-merged.ensures.merged here.path c.args.chain.now.end (farthest ∷ nearer) farthest.inside
+    (element_of c.args.origin.now c.args.node.now) (merged_onto farthest.element nearer) farthest.inside c.open.new.self c.in_ok-own.own refl
+    c.in_ok-count_one.ensures (c.in_ok-merged.ensures.merged here.path c.args.chain.now.end (farthest ∷ nearer) farthest.inside
     (links_are here.path c.args.chain.now.end (farthest ∷ nearer) c.deref.ensures.value linked))
     c.in_ok-is_excluded.ensures.state (sym c.if-branch.false ∙ c.in_ok-is_excluded.ensures.goes)
-    c.in_ok-name.ensures.cases c.in_ok-attributes.ensures c.in_ok-open.ensures.opened
-    (seen_as (c.topic_taken.ensures c.args.origin.now (merged_onto farthest.element nearer) types)
+    c.in_ok-name.ensures.cases c.in_ok-attributes.ensures c.in_ok-open.ensures.opened c.in_ok-own.ensures.cases
+    c.in_ok-open.ensures.declared (seen_as (c.topic_taken.ensures c.args.origin.now (merged_onto farthest.element nearer) types)
     (c.in_ok-there.ensures here.path c.args.chain.now.end farthest nearer linked)) ready c.close.new.self
     (c.in-Some.ensures.target here.path c.args.chain.now.end farthest nearer linked)
-    (c.in_ok-siblings.ensures.known world (inside_of here) agrees) c.close.ensures)
+    (c.in_ok-siblings.ensures.known world (inside_of here) agrees) c.close.ensures.closed c.close.ensures.declared)
 
 pub node_at-returns-in-Some-node_of-clause-known : goal.node_at-returns-in-Some-node_of-clause-known
 node_at-returns-in-Some-node_of-clause-known g t c = λ world here part agrees ready there first.
@@ -473,18 +473,18 @@ ranges-returns-clause-known g t c = λ world here path taken agrees ready far li
 pub unchanged-returns-in_err-siblings-clause-known : goal.unchanged-returns-in_err-siblings-clause-known
 unchanged-returns-in_err-siblings-clause-known g t c = λ world here agrees ready.
     kept_not c.args.at.is_range _ (element_of c.args.origin.now c.args.node.now) (named_content c.args.inside)
-    c.open.new.self c.in_ok-count_one.ensures c.in_ok-name.ensures.cases
+    c.open.new.self c.in_ok-names.names refl c.in_ok-count_one.ensures c.in_ok-name.ensures.cases
     (c.in_ok-attributes.ensures _ c.in_ok-own.ensures).attributes c.in_ok-open.ensures.opened
-    (seen_as (c.topic_within.ensures c.args.origin.now) refl) ready c.from_residual-in_err-siblings.result c.in_err-siblings.field-0.0
-    _ _ c.from_residual-in_err-siblings.ensures.1 (c.in_err-siblings.ensures.known world (inside_of here) agrees)
+    c.in_ok-names.ensures.cases c.in_ok-open.ensures.declared (seen_as (c.topic_within.ensures c.args.origin.now) refl) ready
+    c.from_residual-in_err-siblings.result c.in_err-siblings.field-0.0 _ _ c.from_residual-in_err-siblings.ensures.1 (c.in_err-siblings.ensures.known world (inside_of here) agrees)
 
 pub unchanged-returns-clause-known : goal.unchanged-returns-clause-known
 unchanged-returns-clause-known g t c = λ world here agrees ready.
     kept_put c.args.at.is_range _ (element_of c.args.origin.now c.args.node.now) (named_content c.args.inside)
-    c.open.new.self c.in_ok-count_one.ensures c.in_ok-name.ensures.cases
+    c.open.new.self c.in_ok-names.names refl c.in_ok-count_one.ensures c.in_ok-name.ensures.cases
     (c.in_ok-attributes.ensures _ c.in_ok-own.ensures).attributes c.in_ok-open.ensures.opened
-    (seen_as (c.topic_within.ensures c.args.origin.now) refl) ready c.close.new.self
-    (c.in_ok-siblings.ensures.known world (inside_of here) agrees) c.close.ensures
+    c.in_ok-names.ensures.cases c.in_ok-open.ensures.declared (seen_as (c.topic_within.ensures c.args.origin.now) refl) ready c.close.new.self
+    (c.in_ok-siblings.ensures.known world (inside_of here) agrees) c.close.ensures.closed c.close.ensures.declared
 
 pub node_at-returns-in-Some-clause-missing : goal.node_at-returns-in-Some-clause-missing
 node_at-returns-in-Some-clause-missing g t c = λ world here agrees ready none.

@@ -21,7 +21,8 @@ returns c = λ world pushes into.
     let all = pushed_from world pushes 0 nodes in
     c.finish.ensures.content
     ∙ ap (λ (b : Building). own_hrefs (whole b)) (c.in_ok-put.ensures world pushes into
-    ∙ ap (λ (b : Building). behind b (pushed_from world pushes 0 (written_in name (content c.of.result)))) c.new-maker.ensures
+    ∙ ap (λ (b : Building). behind b (pushed_from world pushes 0 (written_in name (content c.of.result))))
+    c.new-maker.ensures.nothing
     ∙ ap (λ (t : Content). behind nothing (pushed_from world pushes 0 (written_in name t))) c.of.ensures.content)
     ∙ ap own_hrefs (whole_of_behind all)
     ∙ own_pushed world pushes 0 name (tree_of c.args.found.now.nodes)

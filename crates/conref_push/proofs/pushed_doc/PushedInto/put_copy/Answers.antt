@@ -4,9 +4,9 @@ use Rattle.std.specs.Option.{option_map_or}
 use Rattle.dita_doc.specs.declared.doc.Attribute.{Attribute}
 use Rattle.std.specs.Prelude.{List, ℕ}
 use Rattle.doc_elements.specs.Walk.{content_in, element_of, found_in}
-use Rattle.doc_maker.specs.Building.{behind, element, opened}
+use Rattle.doc_maker.specs.Building.{behind, element, href_written, opened}
 use Rattle.doc_maker.specs.Made.{building}
-use Rattle.doc_maker.proofs.BuildingLaws.{behind_end}
+use Rattle.doc_maker.proofs.BuildingLaws.{behind_end, href_own}
 use Rattle.map_spec.specs.Written.{End, Node, Whole}
 use Rattle.map_spec.specs.Pushes.{without_acting}
 use Rattle.conref_push.specs.Making.{copied}
@@ -34,12 +34,14 @@ returns c = λ world names name are from.
     closed_with was (building c.open.new.self) (building c.put_quiet.new.maker) (building c.close.new.self)
     (copied replaced label) (without_acting (content_in doc c.in-Some.inside))
     (c.in_ok-open.ensures.opened
-    ∙ ap (λ (l : List ℕ). opened was (element l c.in_ok-attributes.attributes doc node.line doc))
-    c.in_ok-clone.ensures.cases
+    ∙ ap (λ (l : List ℕ). opened was (element l c.in_ok-attributes.attributes doc node.line
+    (href_written c.in_ok-attributes.attributes doc doc))) c.in_ok-clone.ensures.cases
+    ∙ ap (λ (home : List ℕ). opened was (element node.text c.in_ok-attributes.attributes doc node.line home))
+    (href_own c.in_ok-attributes.attributes doc)
     ∙ ap (λ (l : List Attribute). opened was (element node.text l doc node.line doc))
     (c.in_ok-attributes.ensures doc name)
     ∙ by_replaced was doc node replaced)
-    c.in_ok-put_quiet.ensures c.close.ensures
+    c.in_ok-put_quiet.ensures c.close.ensures.closed
     ∙ ap (λ (found : Option Whole). behind was (option_map_or
     (λ (whole : Whole). Node (copied replaced whole.0) (without_acting whole.1) End) found End))
     (sym (ap (found_in doc) c.in-Some.is) ∙ c.element.ensures world names are (from c.args.push.now refl))

@@ -9,8 +9,8 @@ invariant_of-self c = rw c.set_end.ensures
     (close_made c.self.inside.origins c.self.inside.nodes.items c.self.inside.hrefs.items c.self.inside.opened.items
     c.pop.new.self.items c.in-Some.place c.self.invariant c.in-Some.ensures.items)
 
-pub returns-in-Some : goal.returns-in-Some
-returns-in-Some c = rw c.set_end.ensures
+pub returns-in-Some-clause-closed : goal.returns-in-Some-clause-closed
+returns-in-Some-clause-closed c = rw c.set_end.ensures
     (close_seen c.self.inside.origins c.self.inside.nodes.items c.self.inside.hrefs.items c.self.inside.opened.items
     c.pop.new.self.items c.in-Some.place c.self.invariant c.in-Some.ensures.items
     ∙ ap (λ made. spec.closed (made_spec.building made)) c.self.view_is)

@@ -8,7 +8,7 @@ use Rattle.doc_maker.proofs.maker.DocMaker.finish_resolved.Goals as goal
 pub invariant_of-result : goal.invariant_of-result
 invariant_of-result c =
     let content = spec.whole (made_spec.building c.args.self) in
-    let is = ap made_spec.building c.maker.view_is ∙ c.close_all.ensures in
+    let is = ap made_spec.building c.maker.view_is ∙ c.close_all.ensures.top in
     record {
       tree = subst (λ ns. ArePreorder ns 0) (sym c.from_vec.ensures)
           (finish_tree c.maker.inside.origins c.maker.inside.nodes.items c.maker.inside.hrefs.items
@@ -20,7 +20,7 @@ invariant_of-result c =
 pub returns-clause-content : goal.returns-clause-content
 returns-clause-content c =
     let content = spec.whole (made_spec.building c.args.self) in
-    let is = ap made_spec.building c.maker.view_is ∙ c.close_all.ensures in
+    let is = ap made_spec.building c.maker.view_is ∙ c.close_all.ensures.top in
     ap₂ (λ origins nodes. made_spec.written_from origins c.from_vec-2.result 0 (tree_of nodes))
     c.into_names.ensures.names c.from_vec.ensures
     ∙ ap (λ hrefs. made_spec.written_from c.maker.inside.origins hrefs 0 (tree_of c.maker.inside.nodes.items))

@@ -1,4 +1,4 @@
-use Rattle.std.proofs.Common.{◌≡◌, ◌+◌, ◌∙◌, ap, length, rules}
+use Rattle.std.proofs.Common.{◌≡◌, ◌+◌, ◌∙◌, ◌++◌, ◌∷◌, [], ap, length, rules}
 use Rattle.doc_maker.specs.Building as spec
 use Rattle.doc_maker.specs.Made as made_spec
 use Rattle.map_spec.specs.Written as written_spec
@@ -24,7 +24,8 @@ returns-in_err-end-clause-failed c = on_err c.from_residual-in_err-end.result
     c.self.inside.opened.items c.args.self.now c.in_ok-home.ensures.grows c.self.invariant c.self.view_is)
 
 pub invariant_of-self-in_err-put : goal.invariant_of-self-in_err-put
-invariant_of-self-in_err-put c = rw (c.in_err-put.ensures.no_nodes, c.in_err-put.ensures.no_hrefs)
+invariant_of-self-in_err-put c =
+    rw (c.in_err-put.ensures.no_nodes, c.in_err-put.ensures.no_hrefs, c.in_err-put.ensures.none_declared)
     (names_made c.self.inside.origins c.place.new.self c.self.inside.nodes.items c.self.inside.hrefs.items
     c.self.inside.opened.items c.in_ok-home.ensures.grows c.self.invariant)
 
@@ -40,10 +41,12 @@ invariant_of-self-2 c =
     let put = chars_put c.self.inside.nodes.items c.put.new.nodes.items c.args.text c.new.result c.in_ok-home.home
     c.in_ok-end.end c.new.ensures c.in_ok-put.ensures.nodes in
     chars_made c.place.new.self c.self.inside.nodes.items c.put.new.nodes.items c.self.inside.hrefs.items
-    c.put.new.hrefs.items c.self.inside.opened.items c.args.text c.args.origin.now c.in_ok-home.home c.in_ok-end.end
+    c.put.new.hrefs.items c.self.inside.opened.items c.put.new.declared.items c.args.text c.args.origin.now
+    c.in_ok-home.home c.in_ok-end.end
     (names_made c.self.inside.origins c.place.new.self c.self.inside.nodes.items c.self.inside.hrefs.items
     c.self.inside.opened.items c.in_ok-home.ensures.grows c.self.invariant)
     c.in_ok-home.ensures.place at c.in_ok-end.ensures.small put c.in_ok-put.ensures.hrefs
+    (c.in_ok-put.ensures.declared ∙ ap (λ names. c.self.inside.declared.items ++ names ∷ []) c.new-names.ensures)
 
 pub returns-clause-put : goal.returns-clause-put
 returns-clause-put c =

@@ -5,6 +5,7 @@ use Rattle.html_blocks.specs.Walk.{element_of, inside_of, names_of}
 use Rattle.html_forms.specs.Shown.{form_shown_of}
 use Rattle.html_tables.specs.Walk.{HasColumns, columns_within}
 use Rattle.map_spec.specs.Elements.{tokens_of}
+use Rattle.html_spec.specs.Blocks.{marks_at}
 use Rattle.readers.specs.Named.{name_at}
 use Rattle.html_blocks.proofs.ContextLaws.{within_some}
 use Rattle.html_blocks.proofs.WayLaws.{more_text}
@@ -24,7 +25,8 @@ returns-clause-begun c = λ around is words.
     let own = subst (λ group. HasColumns groups group (columns_within (tokens_of element) inside around.columns))
     (sym c.within.ensures.group) near in
     let next = c.within.ensures in
-    let start = start_by around href element c.args.name.now form in
+    let marks = marks_at c.args.marks.now.marks.now c.args.element.place in
+    let start = start_by around href marks element c.args.name.now form in
     let begun = content_begun (href_within form href) inside label in
     record {
       within = within_some c.args.self.now.groups groups c.args.context c.within.result element inside around is own

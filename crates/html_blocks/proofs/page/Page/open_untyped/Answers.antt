@@ -9,12 +9,12 @@ use Rattle.html_blocks.proofs.WayLaws.{more_faults, same_groups}
 use Rattle.html_blocks.proofs.page.Page.open_untyped.Goals as goal
 
 pub returns : goal.returns
-returns c = λ around anchors is none.
+returns c = λ around overlay is none.
     let old = c.args.self.now in
     let new = c.append_class_fault.new.self in
     let faults = class_faults (element_of c.args.element) in
     let kept = same_groups old.groups new.groups c.append_class_fault.ensures.groups in
-    open_untyped old new _ anchors c.args.element around none
+    open_untyped old new _ overlay c.args.element around none
     (kept_within old.groups new.groups c.args.context around kept is)
     (more_faults old new (shown_with faults (shown [])) refl kept c.append_class_fault.ensures.text
     (c.in_ok-append_class_fault.ensures.faults ∙ ap (λ some. old.faults ++ some) (sym (append-nil faults))))

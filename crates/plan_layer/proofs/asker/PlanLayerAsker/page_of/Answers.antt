@@ -1,4 +1,7 @@
 use Rattle.std.proofs.Common.{[], ◌∷◌, ◌∙◌, ap, refl, sym}
+use Rattle.std.specs.Arc.{arc_value}
+use Rattle.dita_doc.specs.declared.plan.Context.{Context}
+use Rattle.map_spec.specs.Pages.{page_for}
 use Rattle.plan_layer.specs.Carried.{made_for}
 use Rattle.plan_layer.proofs.CarryLaws as carry
 use Rattle.pushed_docs.proofs.MadeLaws.{memo_tried}
@@ -21,18 +24,22 @@ invariant_of-self-clause-made g c = memo_tried _ _ _ c.args.self.now.memo.now _ 
 pub invariant_of-self-clause-carried : goal.invariant_of-self-clause-carried
 invariant_of-self-clause-carried g c =
     let layer = c.args.self.now in
-    carry.note_known _ _ (page_of layer.pages.now c.args.name.now c.args.context.now.page c.in_ok-place.place) _ _ _ _
+    carry.note_known _ _
+    (page_of layer.pages.now c.args.name.now (arc_value c.args.context.now).page c.in_ok-place.place) _ _ _ _
     layer.carried (c.in_ok-note.ensures (made_for layer.documents.now layer.pages.now g.S.Since.stand.setting))
-    c.begin.ensures.either (λ world agrees. sym (c.in_ok-place.ensures layer.pages.now layer.paged))
+    c.begin.ensures.either (λ world agrees.
+    ap (λ (context : Context). page_for layer.pages.now c.args.name.now context.page) (sym c.deref.ensures)
+    ∙ sym (c.in_ok-place.ensures layer.pages.now layer.paged))
     (λ roots base. none_allowed roots _)
 
 pub invariant_of-self-clause-passed : goal.invariant_of-self-clause-passed
 invariant_of-self-clause-passed g c =
     let layer = c.args.self.now in
-    pass.note_known _ _ _ (page_of layer.pages.now c.args.name.now c.args.context.now.page c.in_ok-place.place) _ _ _ _
+    pass.note_known _ _ _
+    (page_of layer.pages.now c.args.name.now (arc_value c.args.context.now).page c.in_ok-place.place) _ _ _ _
     layer.passed (c.in_ok-note.ensures (made_for layer.documents.now layer.pages.now g.S.Since.stand.setting))
     c.begin.ensures.either (pass.page_follows layer.documents.now layer.pages.now c.args.name.now
-    c.args.context.now.page c.in_ok-place.place)
+    (arc_value c.args.context.now).page c.in_ok-place.place)
 
 pub returns-in_err-place-clause-stand : goal.returns-in_err-place-clause-stand
 returns-in_err-place-clause-stand g c = refl

@@ -1,0 +1,82 @@
+use Rattle.std.specs.Option.{option_copied}
+use Rattle.std.specs.Prelude.{◌≡◌, Err, IfOk, Option}
+use Rattle.std.proofs.Common.{sym, ap, subst, ◌∙◌}
+use Rattle.std.proofs.lemmas.Result.{IfOk-weaker}
+use Rattle.build_plan.specs.declared.scoped.Planned.{Planned}
+use Rattle.dita_doc.specs.declared.fact.Html.{Html}
+use Rattle.map_spec.specs.PlanOf.{limits, plan_of}
+use Rattle.part_spec.specs.Parts.{clean_build, parts_of, rooms}
+use Rattle.reader_spec.specs.World.{world_of}
+use Rattle.readers.specs.Setting.{Stand}
+use Rattle.clean_build.specs.Clean.{HasPageNames, clean_seen}
+use Rattle.clean_build.specs.Gathering.{IsBuilt}
+use Rattle.clean_build.specs.Terms.{page_of_build, page_of_plan}
+use Rattle.clean_build.specs.declared.built.Clean.{Clean}
+use Rattle.clean_build.proofs.PartLaws.{built_of_plan, plan_named, stop_given, stopped}
+use Rattle.clean_build.proofs.TermLaws.{no_terms, terms_built}
+use Rattle.clean_build.proofs.whole_build.build_of_map.Goals as goal
+
+abbrev Given : Type 0
+Given = Clean × Option Html
+
+pub returns-in-Ok-clause-built : goal.returns-in-Ok-clause-built
+returns-in-Ok-clause-built c =
+    let map = c.args.map.now in
+    let val = option_copied c.args.val in
+    let plan = c.in-Ok.found.plan in
+    let at_start = ap (λ (s : Stand). s.world) c.in-Ok.ensures.stand ∙ ap world_of c.new-reader.ensures.sources
+    ∙ ap world_of c.new.ensures in
+    let world = world_of c.planned.new.asker.known.sources.now in
+    let is = c.in-Ok.ensures.known world c.planned.new.asker.agrees in
+    subst (λ w. IfOk c.build_of_plan.result (λ (gave : Given). clean_seen gave.0 ≡ clean_build w map val)) at_start
+    (IfOk-weaker c.build_of_plan.result (λ (gave : Given). IsBuilt plan (parts_of rooms world plan val) gave.0)
+    (λ (gave : Given). clean_seen gave.0 ≡ clean_build world map val)
+    (λ gave built. built_of_plan world map val plan gave.0 is built) c.build_of_plan.ensures.built)
+
+pub returns-in-Ok-clause-names : goal.returns-in-Ok-clause-names
+returns-in-Ok-clause-names c =
+    let map = c.args.map.now in
+    let val = option_copied c.args.val in
+    let plan = c.in-Ok.found.plan in
+    let world = world_of c.planned.new.asker.known.sources.now in
+    let is = c.in-Ok.ensures.known world c.planned.new.asker.agrees in
+    IfOk-weaker c.build_of_plan.result (λ (gave : Given). IsBuilt plan (parts_of rooms world plan val) gave.0)
+    (λ (gave : Given). HasPageNames gave.0)
+    (λ gave built. built.names (plan_named world map val plan is)) c.build_of_plan.ensures.built
+
+pub returns-in-Ok-clause-terms : goal.returns-in-Ok-clause-terms
+returns-in-Ok-clause-terms c =
+    let map = c.args.map.now in
+    let val = option_copied c.args.val in
+    let plan = c.in-Ok.found.plan in
+    let wanted = c.args.with_terms in
+    let at_start = ap (λ (s : Stand). s.world) c.in-Ok.ensures.stand ∙ ap world_of c.new-reader.ensures.sources
+    ∙ ap world_of c.new.ensures in
+    let world = world_of c.planned.new.asker.known.sources.now in
+    let is = c.in-Ok.ensures.known world c.planned.new.asker.agrees in
+    subst (λ w. IfOk c.build_of_plan.result (λ (gave : Given). gave.1 ≡ page_of_build wanted w map val)) at_start
+    (IfOk-weaker c.build_of_plan.result (λ (gave : Given). gave.1 ≡ page_of_plan wanted world plan val)
+    (λ (gave : Given). gave.1 ≡ page_of_build wanted world map val)
+    (λ gave made. terms_built wanted world map val plan gave.1 is made) c.build_of_plan.ensures.terms)
+
+pub returns-in-Err-Fault-clause-built : goal.returns-in-Err-Fault-clause-built
+returns-in-Err-Fault-clause-built c =
+    let map = c.args.map.now in
+    let val = option_copied c.args.val in
+    let at_start = ap (λ (s : Stand). s.world) c.in-Err-Fault.ensures.stand ∙ ap world_of c.new-reader.ensures.sources
+    ∙ ap world_of c.new.ensures in
+    let is = stop_given (λ (p : Planned). p.plan) _ _ _ c.in-Err-Fault.field-0-is
+    (c.in-Err-Fault.ensures.known _ c.planned.new.asker.agrees) in
+    stopped (world_of c.args.sources.now) map val _
+    (ap (λ w. plan_of limits w map val) (sym at_start) ∙ is ∙ ap (λ stop. Err stop) (sym c.in-Err-Fault.stop-is))
+
+pub returns-in-Err-Fault-clause-terms : goal.returns-in-Err-Fault-clause-terms
+returns-in-Err-Fault-clause-terms c =
+    let map = c.args.map.now in
+    let val = option_copied c.args.val in
+    let at_start = ap (λ (s : Stand). s.world) c.in-Err-Fault.ensures.stand ∙ ap world_of c.new-reader.ensures.sources
+    ∙ ap world_of c.new.ensures in
+    let is = stop_given (λ (p : Planned). p.plan) _ _ _ c.in-Err-Fault.field-0-is
+    (c.in-Err-Fault.ensures.known _ c.planned.new.asker.agrees) in
+    no_terms c.args.with_terms (world_of c.args.sources.now) map val _
+    (ap (λ w. plan_of limits w map val) (sym at_start) ∙ is ∙ ap (λ stop. Err stop) (sym c.in-Err-Fault.stop-is))

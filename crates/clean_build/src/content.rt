@@ -1,0 +1,59 @@
+//! The content of a page, for what it is made for.
+
+ghost use Rattle.std.specs.Arc.{arc_value};
+ghost use Rattle.std.specs.Prelude.{◌≡◌, ◌++◌, ◌∷◌, List, ℕ, IfOk, OnOk};
+ghost use Rattle.clean_build.specs.Bodies as bodies_spec;
+ghost use Rattle.clean_build.specs.Bodies.{AreKnown};
+ghost use Rattle.clean_build.specs.Tables.{made_for};
+ghost use Rattle.conref_pull.specs.Asking as asking_spec;
+ghost use Rattle.conref_pull.specs.Resolved.{IsResolved};
+ghost use Rattle.conref_pull.specs.Rules.{AreRules, HasAll, ditavals};
+ghost use Rattle.conref_pull.specs.Setting.{documents_in};
+ghost use Rattle.conref_pull.specs.Tables.{AreTables};
+ghost use Rattle.dita_doc.specs.declared.plan.Plan.{Plan};
+ghost use Rattle.doc_maker.specs.Made as resolved_spec;
+ghost use Rattle.reader_spec.specs.World.{World};
+ghost use Rattle.readers.specs.Documents.{AsksOnly};
+ghost use Rattle.readers.specs.Founded as founded_spec;
+ghost use Rattle.readers.specs.Founded.{AreAllowed, Grows, StaysFounded};
+ghost use Rattle.readers.specs.Named as named_spec;
+ghost use Rattle.readers.specs.Told.{Agrees};
+
+use conref_pull::{Tables, resolve_page_with};
+use dita_doc::{Context, NoMemory, Resolved};
+use readers::Asker;
+use std::alloc::Global;
+use std::sync::Arc;
+
+/// The content of the page of a context, with its references resolved. The tables have all rules of
+/// the page then.
+pub(crate) fn resolved_for<A: Asker>(
+    alloc: Global,
+    asker: &mut A,
+    tables: &mut Tables,
+    context: &Arc<Context>,
+) -> Result<Resolved, NoMemory>
+    ensures known { (world : World) (plan : Plan) → Agrees world (A.told asker.new)
+        → (A.stand asker.old).setting ≡ made_for plan → AreKnown world plan tables.old
+        → IfOk result (λ resolved.
+        IsResolved resolved (bodies_spec.content_of world plan (arc_value context.now))) }
+    ensures kept { (world : World) (plan : Plan) → Agrees world (A.told asker.new)
+        → (A.stand asker.old).setting ≡ made_for plan → AreKnown world plan tables.old
+        → OnOk result (AreRules world tables.new.rules
+        × AreTables (documents_in world (made_for plan)) tables.new.places) }
+    ensures has { OnOk result (HasAll tables.new.rules
+        (ditavals (arc_value context.now).val (arc_value context.now).page.filters)) }
+    ensures stand { A.stand asker.new ≡ A.stand asker.old }
+    ensures founded { StaysFounded (founded_spec.homes (A.stand asker.old).setting.nodes
+        ++ (arc_value context.now).page.doc
+        ∷ ditavals (arc_value context.now).val (arc_value context.now).page.filters)
+        (A.told asker.old) (A.told asker.new) }
+    ensures asks { AsksOnly asking_spec.of_content ((arc_value context.now).page.doc
+        ∷ ditavals (arc_value context.now).val (arc_value context.now).page.filters)
+        (A.told asker.old) (A.told asker.new) }
+    ensures given { IfOk result (λ resolved. (roots : List (List ℕ)) → AreAllowed roots
+        (A.told asker.new) (named_spec.linked_in (resolved_spec.resolved_tree resolved))) }
+    ensures grows { Grows (A.told asker.old) (A.told asker.new) }
+{
+    resolve_page_with(alloc, asker, tables, context)
+}

@@ -1,0 +1,120 @@
+//! The modes `clean` and `terms`: a script, on one thread, from bytes to pages.
+
+ghost use Rattle.std.specs.Prelude.{◌≡◌, IfOk, OnOk};
+ghost use Rattle.dita_outside.specs.Cause as cause_spec;
+ghost use Rattle.dita_outside.specs.Pages as pages_spec;
+ghost use Rattle.run_spec.specs.CleanRun as clean_run_spec;
+ghost use Rattle.script_text.specs.Script as script_spec;
+ghost use Rattle.desk_top.specs.Ends as ends_spec;
+ghost use Rattle.desk_top.specs.Outside as outside_spec;
+
+use crate::outside::{read_all, write_all};
+use crate::run::answer_all;
+use dita_doc::{List, Stop};
+use dita_outside::{Failed, Outlet, Sink, Source};
+use run_spec::Status;
+use script_text::{SCRIPT_LIMIT, ScriptFault, read_script};
+use std::alloc::{AllocError, Global};
+
+// One byte more than the longest script has.
+const READ_LIMIT: usize = SCRIPT_LIMIT + 1;
+
+/// Reads a script, answers its requests in order, puts the pages of each build into the outlet and
+/// writes the transcript.
+pub fn run_clean<S: Source, K: Sink, O: Outlet>(
+    alloc: Global,
+    source: &mut S,
+    sink: &mut K,
+    outlet: &mut O,
+) -> Status
+    ensures { let outside = outside_spec.outside_at
+        S.left S.faults K.taken K.faults O.pages O.faults in
+        ends_spec.EndsClean (outside source.old sink.old outlet.old)
+        (outside source.new sink.new outlet.new) result }
+{
+    run(alloc, source, sink, outlet, false)
+}
+
+/// The same, and behind the pages of each build it puts the page of its terms, if it has any.
+pub fn run_terms<S: Source, K: Sink, O: Outlet>(
+    alloc: Global,
+    source: &mut S,
+    sink: &mut K,
+    outlet: &mut O,
+) -> Status
+    ensures { let outside = outside_spec.outside_at
+        S.left S.faults K.taken K.faults O.pages O.faults in
+        ends_spec.EndsTerms (outside source.old sink.old outlet.old)
+        (outside source.new sink.new outlet.new) result }
+{
+    run(alloc, source, sink, outlet, true)
+}
+
+// A run with pages of terms or without.
+fn run<S: Source, K: Sink, O: Outlet>(
+    alloc: Global,
+    source: &mut S,
+    sink: &mut K,
+    outlet: &mut O,
+    with_terms: bool,
+) -> Status
+    ensures { let outside = outside_spec.outside_at
+        S.left S.faults K.taken K.faults O.pages O.faults in
+        ends_spec.EndsWith with_terms (outside source.old sink.old outlet.old)
+        (outside source.new sink.new outlet.new) result }
+{
+    let input = match read_all(alloc, source, READ_LIMIT) {
+        Ok(input) => input,
+        Err(Stop::Fault(_)) => return Status::ReadFault,
+        Err(Stop::NoMemory) => return Status::NoMemory,
+    };
+    match answered(alloc, input.as_slice(), with_terms, outlet) {
+        Ok((status, output)) => written(sink, output.as_slice(), status),
+        Err(Stop::Fault(_)) => Status::OutletFault,
+        Err(Stop::NoMemory) => Status::NoMemory,
+    }
+}
+
+// The status and the output of a run over these bytes, whose pages the outlet takes.
+fn answered<O: Outlet>(
+    alloc: Global,
+    input: &[u8],
+    with_terms: bool,
+    outlet: &mut O,
+) -> Result<(Status, List<u8>), Stop<Failed>>
+    ensures ok { let run = clean_run_spec.run_over with_terms input.now in
+        IfOk result (λ answer. (run.status ≡ answer.0) × (run.output ≡ answer.1)) }
+    ensures form { OnOk result (clean_run_spec.HasForm (script_spec.script_of input.now)) }
+    ensures pages { pages_spec.PutsPages (O.pages outlet.old) (O.pages outlet.new) result
+        (clean_run_spec.run_over with_terms input.now).pages }
+    ensures cause { cause_spec.HasCauseOrNoMemory
+        (O.faults outlet.old) (O.faults outlet.new) result }
+{
+    match read_script(alloc, input) {
+        Ok(script) => Ok((Status::Done, answer_all(alloc, script, with_terms, outlet)?)),
+        Err(Stop::Fault(fault)) => Ok((Status::Script, rejection(alloc, fault)?)),
+        Err(Stop::NoMemory) => Err(Stop::NoMemory),
+    }
+}
+
+// The one line of output if a script is rejected.
+fn rejection(alloc: Global, fault: ScriptFault) -> Result<List<u8>, AllocError>
+    ensures { IfOk result (λ text. text ≡ clean_run_spec.rejection_line fault) }
+{
+    let code = fault.code.text();
+    let line = fault.line;
+    let text = format!(in alloc; "script {code} {line}\n")?;
+    Ok(List::from_vec(text.into_bytes()))
+}
+
+// The status of a run whose output is written last.
+fn written<K: Sink>(sink: &mut K, output: &[u8], status: Status) -> Status
+    ensures { ends_spec.WritesLast (K.taken sink.old) (K.taken sink.new) (K.faults sink.old)
+        (K.faults sink.new) output.now status result }
+{
+    match write_all(sink, output) {
+        Ok(()) => status,
+        Err(Stop::Fault(_)) => Status::WriteFault,
+        Err(Stop::NoMemory) => Status::NoMemory,
+    }
+}
