@@ -8,9 +8,10 @@ import posixpath
 import re
 from collections.abc import Callable, Collection, Iterator
 
+import style
 from publishing import names
 from publishing.closure import Sources
-from publishing.document import Document, KeyUse, Place, Reference, html_id
+from publishing.document import Document, KeyUse, Place, Reference, Term, html_id
 from publishing.message import Message, counted
 from publishing.pages import Link, Page
 
@@ -48,6 +49,7 @@ class Checks:
                 self.told.update(self.link(page, link))
             self.told.update(message for name, count in page.ids.items() if count > 1 for message in self.twice(page, name))
         self.told.update(self.hidden_by_pages())
+        self.told.update(self.empty_index())
         return sorted(self.told)
 
     def index(self) -> None:
@@ -131,6 +133,12 @@ class Checks:
                 if reference.asks == "file" and (self.sources.folder / path).is_file():
                     yield self.at(document, reference.place, f"the file `{names.shown(path)}` is not copied: a page has its name")
 
+    def empty_index(self) -> Iterator[Message]:
+        """An index that is too large is an empty page, of which the desk tells nothing."""
+        index = self.pages.get(style.TERMS_PAGE)
+        if index is not None and not index.links:
+            yield self.on(index, "the index has more than 4 MiB: it is empty")
+
 
 def is_published(document: Document, pages: Collection[str], names_of_pages: str) -> bool:
     """Whether a document has a page, as far as its name tells: a page in a branch has the name of its document within its own."""
@@ -138,13 +146,25 @@ def is_published(document: Document, pages: Collection[str], names_of_pages: str
     return pages_of(document) in pages or base in names_of_pages
 
 
-def passed_over(sources: Sources, pages: Collection[str]) -> Iterator[Message]:
-    """A warning for each kind of element whose content no page shows without a fault of the desk, at its first place."""
+def unseen(document: Document, term: Term, has_index: bool) -> str | None:
+    """How a warning names an index term of which nothing is shown; none if there is an index that has it, or if it is a part of another
+    one. An index has nothing of maps, of elements such as `index-see`, and of terms without a text."""
+    if not has_index or document.is_map:
+        return f"<{term.name}>{' in maps' if has_index else ''}" if term.is_term and term.is_outermost else None
+    if not term.is_term:
+        return f"<{term.name}>"
+    return f"<{term.name}> without a text" if term.needs_text and not term.has_text else None
+
+
+def passed_over(sources: Sources, pages: Collection[str], has_index: bool) -> Iterator[Message]:
+    """A warning for each kind of index term of which no page, and no index, shows anything, at its first place."""
     found: dict[str, list[tuple[str, int, int]]] = collections.defaultdict(list)
     names_of_pages = "\n".join(map(posixpath.basename, pages))
     for document in sources.documents.values():
-        if document.passed_over and is_published(document, pages, names_of_pages):
-            for element, places in document.passed_over.items():
-                found[element] += [(sources.place(document.name), *place) for place in places]
-    for element, places in sorted(found.items()):
-        yield Message(*min(places), f"pages show nothing of <{element}>: {counted(len(places), 'element')} of the sources", is_warning=True)
+        if document.terms and (has_index and document.is_map or is_published(document, pages, names_of_pages)):
+            for term in document.terms:
+                if kind := unseen(document, term, has_index):
+                    found[kind].append((sources.place(document.name), *term.place))
+    show = "the index shows" if has_index else "pages show"
+    for kind, places in sorted(found.items()):
+        yield Message(*min(places), f"{show} nothing of {kind}: {counted(len(places), 'element')} of the sources", is_warning=True)

@@ -8,6 +8,7 @@ import subprocess
 from publishing.message import Stop
 
 ENDS = {
+    2: "the desk is of another version than this tool, and does not know what it is asked for",
     3: "the script could not be read by the desk",
     4: "the transcript could not be written by the desk",
     5: "memory ran out",
@@ -24,15 +25,15 @@ def why(status: int, output: str, errors: str, folder: pathlib.Path) -> str:
     """What is told of a run that did not end as it should."""
     if status < 0:
         return f"the desk was stopped by signal {-status}"
-    last = errors.strip().split("\n")[-1].replace(f"{folder}/", "")
-    detail = output.strip() if status == 6 else last
+    lines = errors.strip().replace(f"{folder}/", "").split("\n")
+    detail = output.strip() if status == 6 else lines[0] if status == 2 else lines[-1]
     return f"{ENDS.get(status, f'the desk ended with status {status}')}: {detail}"
 
 
-def run(program: list[str], script: bytes, folder: pathlib.Path) -> str:
-    """The transcript of a script. The pages of the build with number N are then in `folder`/bN."""
+def run(program: list[str], mode: str, script: bytes, folder: pathlib.Path) -> str:
+    """The transcript of a script, by a mode of the desk. The pages of the build with number N are then in `folder`/bN."""
     try:
-        child = subprocess.Popen([*program, "clean", "--out", str(folder)], stdin=subprocess.PIPE, stdout=subprocess.PIPE,
+        child = subprocess.Popen([*program, mode, "--out", str(folder)], stdin=subprocess.PIPE, stdout=subprocess.PIPE,
                                  stderr=subprocess.PIPE)
     except OSError as error:
         raise Stop(f"{program[0]}: the program does not start: {error.strerror}{HINTS.get(error.errno, '')}") from None

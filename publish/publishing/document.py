@@ -49,6 +49,19 @@ class KeyUse:
 
 
 @dataclasses.dataclass(slots=True)
+class Term:
+    """An index term, or an element in one whose text is not the term's, such as `index-see`; `is_outermost` if it stands in no other.
+    A term in an index needs a text, unless it is the end of a range or brings its content in."""
+
+    name: str
+    place: Place
+    is_term: bool
+    is_outermost: bool
+    needs_text: bool
+    has_text: bool = False
+
+
+@dataclasses.dataclass(slots=True)
 class Document:
     """A document that is well formed. `parts` are its lines for the desk, one or several in each. `ids` has each id as pages have it,
     with the id as written and its places. `pages` are the targets of which a map makes pages, with the place of their key scope, and
@@ -62,7 +75,7 @@ class Document:
     references: list[Reference] = dataclasses.field(default_factory=list)
     keys: list[KeyUse] = dataclasses.field(default_factory=list)
     ids: dict[str, tuple[str, list[Place]]] = dataclasses.field(default_factory=dict)
-    passed_over: dict[str, list[Place]] = dataclasses.field(default_factory=dict)
+    terms: list[Term] = dataclasses.field(default_factory=list)
     pages: list[tuple[str, Place]] = dataclasses.field(default_factory=list)
     nodes: int = 0
     split: list[str] | None = None

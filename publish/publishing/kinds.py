@@ -26,7 +26,8 @@ class Kind:
     is_node: bool
     is_topicref: bool
     is_image: bool
-    is_index: bool
+    is_term: bool
+    is_beside_term: bool
     refers: bool
 
 
@@ -62,7 +63,8 @@ def kind_of(name: str, own_class: str | None, is_in_map: bool) -> Kind:
         "is_node": bool(types & {"map/topicref", "map/reltable", "map/relrow", "map/relcell"}),
         "is_topicref": "map/topicref" in types,
         "is_image": "topic/image" in types,
-        "is_index": "topic/indexterm" in types,
+        "is_term": "topic/indexterm" in types,
+        "is_beside_term": "topic/index-base" in types,
         "refers": bool(types & {"topic/xref", "topic/link", "map/topicref"}),
     }
     head = "\n".join(["(" + name, *(f"A{key} {value}" for key, value in given)])

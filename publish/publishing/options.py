@@ -28,6 +28,7 @@ class Options:
     map: pathlib.Path
     out: pathlib.Path
     filter: pathlib.Path | None
+    index: bool
     strict: bool
     clean: bool
     style: pathlib.Path | None
@@ -56,6 +57,7 @@ def parser() -> Parser:
     it.add_argument("-m", "--map", type=pathlib.Path, metavar="MAP", help="the map; else the one map that FOLDER has")
     it.add_argument("-o", "--out", type=pathlib.Path, metavar="OUT", help="the folder of the pages; else `out`")
     it.add_argument("--filter", type=pathlib.Path, metavar="DITAVAL", help="filters by this DITAVAL, which may lie anywhere")
+    it.add_argument("--index", action="store_true", help="makes an index of the index terms, as the page terms.htm")
     it.add_argument("--strict", action="store_true", help="with faults the status is 1")
     it.add_argument("--clean", action="store_true", help="removes from OUT what this tool did not make")
     style = it.add_mutually_exclusive_group()
@@ -109,5 +111,5 @@ def read(words: Sequence[str]) -> Options:
             raise BadWords(f"{folder}: there is no such folder")
         map_path = inside(folder, given.map) if given.map is not None else only_map(folder)
     filter_path = inside(folder, given.filter) if given.filter is not None else None
-    return Options(folder, map_path, given.out or pathlib.Path("out"), filter_path, given.strict, given.clean,
-                   given.style, given.no_style, given.keep, given.quiet, given.verbose)
+    return Options(folder, map_path, given.out or pathlib.Path("out"), filter_path, given.index, given.strict,
+                   given.clean, given.style, given.no_style, given.keep, given.quiet, given.verbose)

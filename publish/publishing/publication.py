@@ -45,7 +45,7 @@ class Publication:
             self.keep("script", given)
             limits.check(self.sources, len(given))
             self.progress.tell(f"the desk builds from {counted(len(documents), 'document')}")
-            answer = desk.run(words, given, output.desk)
+            answer = desk.run(words, "terms" if self.asked.index else "clean", given, output.desk)
             self.keep("transcript", answer.encode("utf-8"))
             self.judge(documents, roots, transcript.entries_of(answer))
             self.take_pages(output, len(documents) + 1)
@@ -125,7 +125,8 @@ class Publication:
             raise Stop(f"{names.shown(path.name)}: can't be written beside {self.asked.out}: {error.strerror}") from None
 
     def dresser(self, output: Output, made: pathlib.Path) -> Callable[[bytes, str], bytes]:
-        """What gives a page its style sheet, which is put there, and the line to the contents; nothing, if the call wants none."""
+        """What gives a page its style sheet, which is put there, and the line to the contents and the index; nothing, if the call wants
+        none."""
         if self.asked.no_style:
             return lambda page, path: page
         try:
@@ -133,14 +134,16 @@ class Publication:
         except OSError as error:
             raise Stop(f"{self.asked.style}: the style sheet can't be read: {error.strerror}") from None
         self.write(output.pages / style.SHEET, sheet)
-        title = style.title_of((made / "index.html").read_bytes())
-        return lambda page, path: style.dress(page, path, title)
+        title = style.title_of((made / style.CONTENTS_PAGE).read_bytes())
+        index = made / style.TERMS_PAGE
+        terms = style.title_of(index.read_bytes()) if index.is_file() else None
+        return lambda page, path: style.dress(page, path, title, terms)
 
     def finish(self, output: Output) -> None:
         """Checks the pages, copies the files to which they lead, and puts all in the place of OUT."""
         self.progress.tell("checking the links")
         self.told.update(checks.Checks(self.sources, self.pages, self.shown).all())
-        self.told.update(checks.passed_over(self.sources, self.pages))
+        self.told.update(checks.passed_over(self.sources, self.pages, self.asked.index))
         copied = beside.wanted(self.asked.folder, self.pages)
         self.progress.tell(f"copying {counted(len(copied), 'file')}")
         beside.copy(self.asked.folder, copied, output.pages)
@@ -160,6 +163,8 @@ class Publication:
         for message in self.messages():
             self.say(str(message))
         if not self.asked.quiet:
+            if self.asked.index and style.TERMS_PAGE not in self.pages:
+                self.say("there is no index: no page has an index term with a text")
             wrong, warnings = len(self.faults()), len(self.told) - len(self.faults())
             and_warnings = f", {counted(warnings, 'warning')}" if warnings else ""
             self.say(f"{counted(len(self.pages), 'page')} in {os.path.abspath(self.asked.out)}, {counted(wrong, 'fault')}{and_warnings}")

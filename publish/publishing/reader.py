@@ -7,7 +7,7 @@ import re
 import xml.parsers.expat as expat
 
 from publishing import names
-from publishing.document import Document, KeyUse, Place, Reference, html_id
+from publishing.document import Document, KeyUse, Place, Reference, Term, html_id
 from publishing.kinds import Kind, kind_of
 from publishing.message import Message
 
@@ -15,6 +15,7 @@ PREDEFINED = frozenset({"lt", "gt", "amp", "apos", "quot"})
 TAG = re.compile(rb"<[^\s/>]+(?:[^>\"']|\"[^\"]*\"|'[^']*')*>")
 ENTITY = re.compile(rb"&([^#;&\s][^;&\s]*);")
 AWAY = ("external", "peer")
+BLANKS = " \t\r\n"
 
 
 class Unread(Exception):
@@ -102,13 +103,15 @@ def read(folder: str, name: str, path: str) -> Document | None:
 
 
 class Reader:
-    """Reads one file. `files` are those that are open, the document first."""
+    """Reads one file. `files` are those that are open, the document first, and `terms` the index terms that are open, each with how
+    many elements stand around it."""
 
     def __init__(self, folder: str, document: Document) -> None:
         self.folder, self.document, self.parts = folder, document, document.parts
         self.text: list[str] = []
         self.open: list[Open] = []
         self.files: list[Opened] = []
+        self.terms: list[tuple[int, Term]] = []
         self.declared = set(PREDEFINED)
         self.has_unread_dtd = False
 
@@ -184,25 +187,31 @@ class Reader:
         if self.text:
             self.flush()
         self.open.pop()
+        if self.terms and self.terms[-1][0] == len(self.open):
+            self.terms.pop()
         if self.open:
             self.open[-1].is_behind_element = True
         self.parts.append(")" + name)
 
     def flush(self) -> None:
-        text = escaped(self.text[0] if len(self.text) == 1 else "".join(self.text))
+        text = self.text[0] if len(self.text) == 1 else "".join(self.text)
         self.text.clear()
-        if text:
-            self.parts.append("-" + text)
+        if line := escaped(text):
+            self.parts.append("-" + line)
             if self.open:
                 self.open[-1].is_behind_element = False
+            if self.terms and text.strip(BLANKS):
+                self.terms[-1][1].has_text = True
 
     def note(self, kind: Kind, pairs: dict[str, str], place: Place) -> None:
         """Brings the references of an element into the desk's form, and remembers them with its ids and keys."""
         document, opened = self.document, self.open[-1]
         if kind.is_node or kind.is_map:
             document.nodes += 1
-        if kind.is_index and not any(it.kind.is_index for it in self.open[:-1]):
-            document.passed_over.setdefault(kind.name, []).append(place)
+        if kind.is_term or kind.is_beside_term:
+            needs_text = kind.is_term and not pairs.keys() & {"end", "conref", "conkeyref"}
+            document.terms.append(Term(kind.name, place, kind.is_term, not self.terms, needs_text))
+            self.terms.append((len(self.open) - 1, document.terms[-1]))
         if "id" in pairs:
             key = pairs["id"] if kind.is_topic else html_id(opened.topic, pairs["id"])
             document.ids.setdefault(key, (pairs["id"], []))[1].append(place)

@@ -11,6 +11,8 @@ import sys
 import tempfile
 import unittest
 
+from publishing import program
+
 TOOL = pathlib.Path(__file__).resolve().parent.parent
 TOP = TOOL.parent
 PUBLISH = TOOL / "publish"
@@ -69,6 +71,19 @@ class Case(unittest.TestCase):
 
     def page(self, name: str) -> str:
         return (self.out / name).read_text(encoding="utf-8")
+
+    def pages(self, folder: str = "out") -> dict[str, bytes]:
+        """Each page of a folder, by its path."""
+        found = [path for path in (self.root / folder).rglob("*") if path.suffix in (".html", ".htm")]
+        return {path.relative_to(self.root / folder).as_posix(): path.read_bytes() for path in found}
+
+    def desk_pages(self, mode: str, kept: str = "kept") -> dict[str, bytes]:
+        """Each page that the desk itself makes in this mode of the one build of a script, which a call left in a folder."""
+        own = self.root / f"desk-{mode}"
+        with open(self.root / kept / "script", "rb") as script:
+            subprocess.run([*program.find(), mode, "--out", str(own)], stdin=script, stdout=subprocess.DEVNULL, check=True)
+        [made] = own.iterdir()
+        return self.pages(made.relative_to(self.root).as_posix())
 
     def left(self) -> list[str]:
         """What stands in `root` beside the documents."""

@@ -10,6 +10,8 @@ ONE = {"m.ditamap": map_of("t.dita")}
 TWO = {"m.ditamap": map_of("t.dita", "u.dita"), "u.dita": topic("<p id='a'/>", "u")}
 BROKEN = "<topic id='b'>\n <title>B</title>\n <body><p>x</body></topic>"
 TERM = "<indexterm>a</indexterm>"
+OF_MAP = f"<map><topicref href='t.dita'><topicmeta><keywords>{TERM}</keywords></topicmeta></topicref></map>"
+INDEXED = ["docs", "m.ditamap", "out", "--index"]
 SVG = "<svg-container><svg/></svg-container>"
 LATIN = "<topic id='t'>\n<title>\u00e9</title></topic>"
 LARGE = "<map>" + "".join(f"<mapref keyscope='s{place}' href='n.ditamap'/>" for place in range(65)) + "</map>"
@@ -33,7 +35,11 @@ CASES: dict[str, tuple[dict[str, str | bytes], list[str]]] = {
     "a map that includes itself": ({"m.ditamap": "<map><mapref href='n.ditamap'/></map>", "n.ditamap": "<map><mapref href='m.ditamap'/></map>"}, []),
     "a reference out of FOLDER": ({"m.ditamap": map_of("../t.dita")}, []),
     "SVG or an object in the text": ({**ONE, "t.dita": topic(f"<p/>\n<p>{SVG}{SVG}</p><p>{SVG}</p>")}, []),
-    "index terms": ({**ONE, "t.dita": topic(f"<p>{TERM}{TERM}{TERM}</p>")}, []),
+    "index terms without `--index`": ({**ONE, "t.dita": topic(f"<p>{TERM}{TERM}{TERM}</p>")}, []),
+    "`--index`, and no index term in any page": ({**ONE, "t.dita": topic("")}, INDEXED),
+    "`index-see`, with `--index`": ({**ONE, "t.dita": topic("<p><indexterm>a<index-see>b</index-see></indexterm></p>")}, INDEXED),
+    "an index term without a text, with `--index`": ({**ONE, "t.dita": topic(f"<p><indexterm/>{TERM}</p>")}, INDEXED),
+    "an index term in a map, with `--index`": ({"m.ditamap": OF_MAP, "t.dita": topic(f"<p>{TERM}</p>")}, INDEXED),
     "spaces, umlauts, `%`, `#` in names and hrefs": ({"m.ditamap": map_of("a file.dita", "b\u00e4.dita", "100%25.dita", "n%23.dita"), **NAMED}, []),
     "CRLF, a BOM, UTF-16, ISO-8859-1 as the file says": ({"m.ditamap": map_of(*ENCODED), **ENCODED}, []),
     "Latin-1 in a file that says UTF-8 or nothing": ({**ONE, "t.dita": LATIN.encode("latin-1")}, []),

@@ -129,7 +129,7 @@ class Reach(Case):
         for word in ("--help", "-h"):
             result = self.call(word)
             self.assertEqual((result.status, result.errors), (0, ""))
-            for option in ("-i", "-m", "-o", "--filter", "--strict", "--clean", "--style", "--no-style", "--keep", "-q", "-v", "--version"):
+            for option in ("-i", "-m", "-o", "--filter", "--index", "--strict", "--clean", "--style", "--no-style", "--keep", "-q", "-v", "--version"):
                 self.assertIn(option, result.output)
         self.assertEqual(self.call("--version").status, 0)
 

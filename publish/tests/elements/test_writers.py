@@ -1,4 +1,7 @@
 """What docs/WRITERS.md says of its examples is what the pages have: each example stands there, and its page has this piece."""
+import re
+
+import style
 from cases import TOP, Case
 
 WRITERS = (TOP / "docs" / "WRITERS.md").read_text(encoding="utf-8")
@@ -51,6 +54,13 @@ OTHERS = {
 }
 TASK = "<task id='d'><title>Topic</title><taskbody><steps>{}</steps></taskbody></task>"
 KEYS = "<keydef keys='v'><topicmeta><keywords><keyword>4.2</keyword></keywords></topicmeta></keydef><keydef keys='k' href='b.dita'/>"
+
+
+def fenced(heading: str, language: str) -> str:
+    """The block of this language in the section of WRITERS under a heading."""
+    section = WRITERS.partition(f"\n## {heading}\n")[2].partition("\n## ")[0]
+    [block] = re.findall(f"```{language}\n(.*?)```", section, re.DOTALL)
+    return block
 
 
 def topic(title: str, body: str = "", more: str = "") -> str:
@@ -141,3 +151,52 @@ class Writers(Case):
         self.has(site, "a.html", '<li class="related"><a href="https://ex.org">Site</a></li>')
         self.has(words, "c.html", '<ul><li class="sibling"><a href="b.html">Beta</a></li></ul>')
         self.has(listed, "f.html", '<ul><li class="related"><a href="b.html">Beta</a></li></ul>')
+
+    def test_flags(self):
+        part, whole = '<info><p audience="expert">B.</p></info>', '<info audience="expert">B.</info>'
+        body = "<p audience='expert'>P</p><note audience='expert'>N</note><p platform='linux'>L</p><p audience='internal'>I</p>"
+        steps = "".join(f"<step><cmd>A.</cmd>{info}</step>" for info in (part, whole))
+        documents = {"a.dita": topic("<title>T</title>", body), "s.dita": TASK.format(steps), "w.ditaval": fenced("Flags", "xml")}
+        self.pages(documents, "<topicref href='a.dita' audience='expert'/><topicref href='s.dita'/>", "", "<title>M</title>", "--filter", "w.ditaval")
+        self.has('<p class="flag-audience-expert">', "a.html", '<p class="flag-audience-expert">P</p>')
+        self.has('<div class="note flag-audience-expert">', "a.html", '<div class="note flag-audience-expert">N</div>\n<p class="flag-platform-linux">L')
+        self.assertNotIn("I</p>", self.page("a.html"))
+        self.has(part, "s.html", '<p class="flag-audience-expert">B.</p>')
+        self.has(whole, "s.html", "<li><span>A.</span>\nB.</li>")
+        self.has('nav.toc [data-audience~="expert"] { background: var(--tint); }', "index.html", '<li data-audience="expert">')
+
+    def test_flags_with_a_look_of_their_own(self):
+        rules = fenced("Flags", "css")
+        self.assertEqual(set(re.findall(r"\.(flag-[a-z-]+)", rules)), {"flag-audience-expert"})
+        self.assertLessEqual(set(re.findall(r"(--[a-z]+): #", rules)), set(re.findall(r"var\((--[a-z]+)\)", style.sheet_bytes().decode())))
+        self.put({"a.dita": topic("<title>T</title>", "<p audience='expert' product='v2.1'>P</p>"), "m.ditamap": "<map><topicref href='a.dita'/></map>",
+                  "w.ditaval": fenced("Flags", "xml").replace("</val>", "<prop att='product' action='flag'/></val>")})
+        (self.root / "own.css").write_bytes(style.sheet_bytes() + rules.encode())
+        self.assertEqual(self.call("docs", "m.ditamap", "out", "w.ditaval", "--style", "own.css").told, [])
+        self.assertTrue(self.page(style.SHEET).endswith(rules))
+        self.has(".flag-product-v2\\.1", "a.html", '<p class="flag-audience-expert flag-product-v2.1">P</p>')
+
+    def test_what_a_ditaval_says_of_flags_beside_their_names(self):
+        colour, revision = '<prop att="audience" val="new" action="flag" color="red"/>', '<revprop val="2.1" action="flag"/>'
+        documents = {"a.dita": topic("<title>T</title>", "<p audience='new'>N</p><p rev='2.1'>R</p>"), "w.ditaval": f"<val>{colour}{revision}</val>"}
+        self.pages(documents, "<topicref href='a.dita'/>", "", "<title>M</title>", "--filter", "w.ditaval")
+        self.has(colour, "a.html", '<p class="flag-audience-new">N</p>')
+        self.has(revision, "a.html", "<p>R</p>")
+
+    def test_the_index(self):
+        term, see = "<indexterm>valve</indexterm>", "<indexterm>tap<index-see>valve</index-see></indexterm>"
+        first, last, keyed = '<indexterm start="r">rain</indexterm>', '<indexterm end="r"/>', '<indexterm keyref="v"/>'
+        of_map, link = f"<topicmeta><keywords>{term}</keywords></topicmeta>", '<topicref href="terms.htm" format="html" navtitle="Index"/>'
+        prolog = "<title>One</title>" + fenced("An index", "xml")
+        body = f"<p>x{see}{first}{keyed}<indexterm>Valve</indexterm><indexterm>\u00e4</indexterm></p>"
+        documents = {"a.dita": f"<topic id='d'>{prolog}</topic>", "c.dita": topic("<title>Two</title>", body),
+                     "f.dita": topic("<title>Three</title>", f"<p>{last}{term}</p>")}
+        references = f"<topicref href='b.dita'>{of_map}</topicref><topicref href='a.dita'/><topicref href='c.dita'/><topicref href='f.dita'/>{link}"
+        self.publish({**OTHERS, **documents, "m.ditamap": f"<map>{references}{KEYS}</map>"}, "--index")
+        two = '<a href="c.html">Two</a>'
+        self.assertIn(f'<ul><li>Valve {two}</li><li>rain {two}</li><li>tap {two}</li><li>valve <a href="f.html">Three</a></li>'
+                      f'<li>valves<ul><li>cleaning <a href="a.html">One</a></li></ul></li><li>\u00e4 {two}</li></ul>', self.page("terms.htm"))
+        for example in (term, see, first, last, keyed, of_map):
+            self.assertIn(f"`{example}`", WRITERS)
+        self.has(link, "index.html", '<li><a href="terms.htm">Index</a></li>')
+        self.assertNotIn("valve", self.page("f.html"))

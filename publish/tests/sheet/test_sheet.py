@@ -46,6 +46,16 @@ class Dressed(unittest.TestCase):
         self.assertEqual(LINE.findall(style.dress(page, "use/create.html")), [(b"../index.html", b"Contents")])
         self.assertEqual(LINE.findall(style.dress(page, "use/create.html", b"A &amp; B")), [(b"../index.html", b"A &amp; B")])
 
+    def test_the_line_leads_to_the_index_if_there_is_one(self):
+        pages = manual()
+        contents, index = b'<a href="%sindex.html">A</a>', b'<a class="terms" href="%sterms.htm">I</a>'
+        for path, up, links in [("index.html", b"", index), ("terms.htm", b"", contents), ("data.html", b"", contents + b" " + index),
+                                ("use/create.html", b"../", contents + b" " + index)]:
+            page = pages.get(path, pages["data.html"])
+            line = b'<nav class="contents">%s</nav>\n' % links.replace(b"%s", up)
+            dressed = style.dress(page, path, b"A", b"I")
+            self.assertEqual((dressed.count(line), HEAD.sub(b"", dressed).replace(line, b"")), (1, page), path)
+
     def test_the_title_is_that_of_the_page(self):
         self.assertEqual(style.title_of(manual()["index.html"]), b"Heron watering controller: owner's manual")
         self.assertEqual(style.title_of(b"no page"), b"")
@@ -89,6 +99,20 @@ class Sheet(unittest.TestCase):
         self.assertEqual(kinds, ["previous", "next", "sibling", "related"])
         for kind in kinds:
             self.assertRegex(self.sheet, rf"nav\.related \.{kind} {{ --label: var\(--{kind}\);")
+
+    def test_flags_are_shown_on_the_screen_in_the_dark_and_in_print(self):
+        [rule] = re.findall(r'^\[class\*="flag-"\] \{\n(.*?)^\}', self.sheet, re.MULTILINE | re.DOTALL)
+        self.assertIn("--mark: var(--flag);", rule)
+        self.assertIn("background: var(--marked);", rule)
+        self.assertEqual(len(re.findall(r"^ +--flag: #", self.sheet, re.MULTILINE)), 2)
+        self.assertRegex(self.sheet.partition("@media print")[2], r'\[class\*="flag-"\] \{ print-color-adjust: exact;')
+
+    def test_a_rule_for_one_flag_behind_the_others_wins(self):
+        """No selector of flags weighs more than one class: the names of elements stand in `:where`, which weighs nothing."""
+        selectors = [line.partition("[class*=")[0] for line in self.sheet.splitlines() if line.endswith("}") and "--mark" in line and "[class" in line]
+        self.assertEqual(len(selectors), 3)
+        for selector in selectors:
+            self.assertRegex(selector, r"^:where\([a-z, ]+\)$")
 
     def test_a_sheet_of_ones_own(self):
         own = pathlib.Path(__file__)
