@@ -22,8 +22,8 @@ def asked_id(reference: Reference) -> str:
     return html_id(reference.topic if topic == "." else topic, element) if slash else topic
 
 
-def pages_of(document: Document) -> str:
-    """The path of the first page of a document, if nothing renames it."""
+def own_page(document: Document) -> str:
+    """The path of the page of a document, if nothing renames it."""
     return names.decoded(posixpath.splitext(document.name)[0]) + ".html"
 
 
@@ -33,7 +33,8 @@ class Checks:
     def __init__(self, sources: Sources, pages: dict[str, Page], place_of_page: Callable[[str], str]) -> None:
         self.sources, self.pages, self.place_of_page = sources, pages, place_of_page
         self.documents = list(sources.documents.values())
-        self.document_of_page = {pages_of(document): document.name for document in self.documents if not document.is_map}
+        self.away = {value for document in self.documents for value in document.away}
+        self.document_of_page = {own_page(document): document.name for document in self.documents if not document.is_map}
         self.told: set[Message] = set()
         self.of_target: dict[str, list[tuple[Document, Reference]]] = collections.defaultdict(list)
         self.of_id: dict[str, list[tuple[Document, Reference]]] = collections.defaultdict(list)
@@ -70,7 +71,7 @@ class Checks:
     def link(self, page: Page, link: Link) -> Iterator[Message]:
         """What is wrong with a link of a page."""
         if link.path is None:
-            yield self.on(page, f"`{link.written}` leads out of the folder of the pages")
+            yield from self.unknown(page, link, f"`{link.written}` leads out of the folder of the pages")
         elif link.path in self.pages:
             if link.fragment and link.fragment not in self.pages[link.path].ids:
                 yield from self.no_id(page, link)
@@ -83,8 +84,12 @@ class Checks:
         return Message(self.sources.place(document.name), *place, sentence)
 
     def on(self, page: Page, sentence: str) -> Message:
-        """A message where nothing in the sources is known that asks for what is missing."""
+        """A message where nothing in the sources is known that it is about."""
         return Message(self.place_of_page(page.path), 0, 0, sentence)
+
+    def unknown(self, page: Page, link: Link, sentence: str) -> list[Message]:
+        """A link for which nothing in the sources is known that asks for it: nothing is told if its scope says that it leads elsewhere."""
+        return [] if link.written in self.away else [self.on(page, sentence)]
 
     def no_id(self, page: Page, link: Link) -> list[Message]:
         """A link to an id that is in no page: told at each reference that asks for it. Else, it was brought in from another topic, or a
@@ -94,7 +99,7 @@ class Checks:
         asked = [(document, it) for document, it in self.of_id.get(link.fragment, ()) if target in (None, it.target)]
         told = [self.at(document, it.place, f"`{it.written}` {so}") for document, it in asked or self.of_dot.get(element, ())]
         by_key = [self.at(document, use.place, f"`{use.value}` {so}") for document, use in self.by_key.get(element, ())]
-        return told or by_key or [self.on(page, f"`{link.written}` {so}")]
+        return told or by_key or self.unknown(page, link, f"`{link.written}` {so}")
 
     def no_file(self, page: Page, link: Link, why: str) -> list[Message]:
         """A link to a file that is not there: told at each reference to it."""
@@ -102,7 +107,7 @@ class Checks:
         alike = self.sources.alike(names.encoded(link.path or "")) if why == "is missing" else None
         sentence = f"the {kind} `{names.shown(link.path or '')}` {why}{f' (there is `{alike}`)' if alike else ''}"
         found = self.of_target.get(names.encoded(link.path or ""), ())
-        return [self.at(document, it.place, sentence) for document, it in found] or [self.on(page, sentence)]
+        return [self.at(document, it.place, sentence) for document, it in found] or self.unknown(page, link, sentence)
 
     def twice(self, page: Page, name: str) -> Iterator[Message]:
         """An id that stands twice in a page: told at the second element of the document that has it."""
@@ -140,10 +145,10 @@ class Checks:
             yield self.on(index, "the index has more than 4 MiB: it is empty")
 
 
-def is_published(document: Document, pages: Collection[str], names_of_pages: str) -> bool:
-    """Whether a document has a page, as far as its name tells: a page in a branch has the name of its document within its own."""
-    base = posixpath.basename(pages_of(document)).removesuffix(".html")
-    return pages_of(document) in pages or base in names_of_pages
+def is_published(document: Document, names_of_pages: str) -> bool:
+    """Whether a document is a map or has a page, as far as its name tells: a page in a branch has the name of its document within its
+    own."""
+    return document.is_map or posixpath.basename(own_page(document)).removesuffix(".html") in names_of_pages
 
 
 def unseen(document: Document, term: Term, has_index: bool) -> str | None:
@@ -159,9 +164,10 @@ def unseen(document: Document, term: Term, has_index: bool) -> str | None:
 def passed_over(sources: Sources, pages: Collection[str], has_index: bool) -> Iterator[Message]:
     """A warning for each kind of index term of which no page, and no index, shows anything, at its first place."""
     found: dict[str, list[tuple[str, int, int]]] = collections.defaultdict(list)
-    names_of_pages = "\n".join(map(posixpath.basename, pages))
+    names_of_pages = "\n".join(posixpath.basename(page).removesuffix(".html") for page in pages
+                               if page not in (style.CONTENTS_PAGE, style.TERMS_PAGE))
     for document in sources.documents.values():
-        if document.terms and (has_index and document.is_map or is_published(document, pages, names_of_pages)):
+        if document.terms and is_published(document, names_of_pages):
             for term in document.terms:
                 if kind := unseen(document, term, has_index):
                     found[kind].append((sources.place(document.name), *term.place))

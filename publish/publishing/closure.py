@@ -45,7 +45,7 @@ class Sources:
         return os.path.isfile(self.path(name))
 
     def alike(self, name: str) -> str | None:
-        """A file whose path differs from that of this name in capitals alone, or in how its accents are written."""
+        """What has another path than this name, but by its capitals alone, or by how its accents are written."""
         wanted, found = names.decoded(name).split("/"), ""
         for segment in wanted:
             try:
@@ -56,7 +56,7 @@ class Sources:
             if not same:
                 return None
             found = os.path.join(found, segment if segment in same else same[0])
-        return names.shown(found)
+        return names.shown(found) if found != names.decoded(name) else None
 
     def name_of(self, path: str) -> str:
         """The document name of a file of the command. One that lies outside of FOLDER has a name that no file of FOLDER can have."""

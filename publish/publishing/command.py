@@ -14,12 +14,8 @@ from publishing.publication import Publication
 PUBLISHED, FAULTY, NOTHING = 0, 1, 2
 
 
-class Interrupted(KeyboardInterrupt):
-    """The system asks for an end."""
-
-
 def interrupt(_number: int, _frame: object) -> None:
-    raise Interrupted
+    raise KeyboardInterrupt
 
 
 def say(text: str, stream: TextIO | None) -> None:

@@ -64,8 +64,8 @@ class Term:
 @dataclasses.dataclass(slots=True)
 class Document:
     """A document that is well formed. `parts` are its lines for the desk, one or several in each. `ids` has each id as pages have it,
-    with the id as written and its places. `pages` are the targets of which a map makes pages, with the place of their key scope, and
-    `nodes` counts its nodes, as the desk counts them."""
+    with the id as written and its places. `away` are the references that lead elsewhere by their scope. `pages` are the targets of which
+    a map makes pages, with the place of their key scope, and `nodes` counts its nodes, as the desk counts them."""
 
     name: str
     path: str
@@ -76,6 +76,7 @@ class Document:
     keys: list[KeyUse] = dataclasses.field(default_factory=list)
     ids: dict[str, tuple[str, list[Place]]] = dataclasses.field(default_factory=dict)
     terms: list[Term] = dataclasses.field(default_factory=list)
+    away: set[str] = dataclasses.field(default_factory=set)
     pages: list[tuple[str, Place]] = dataclasses.field(default_factory=list)
     nodes: int = 0
     split: list[str] | None = None

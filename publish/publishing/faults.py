@@ -51,7 +51,7 @@ class Teller:
     def missing(self, fault: Fault, reference: Reference | None) -> str | None:
         """Why a document or an element is not there, if the tool knows better than the desk."""
         name = reference.target if reference is not None else names.split(fault.detail)[0]
-        if not name:
+        if not name or (reference is not None and reference.asks == "file"):
             return None
         so, title = MISSING[fault.code], self.sources.shown(name)
         why = self.unread(name)

@@ -11,7 +11,6 @@ SCRIPT_BYTES = 64 << 20
 DOCUMENTS = 10_000
 PAGES = 4_096
 NODES = 65_536
-PAGE_BYTES = 256 << 20
 
 
 def mebibytes(count: int) -> str:

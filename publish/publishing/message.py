@@ -27,12 +27,9 @@ class Message:
 
 
 class Stop(Exception):
-    """Why nothing is published: what is told, line by line."""
-
-    def __init__(self, *lines: object) -> None:
-        super().__init__("\n".join(map(str, lines)))
+    """Why nothing is published."""
 
 
-def counted(count: int, one: str, many: str = "") -> str:
+def counted(count: int, one: str) -> str:
     """`1 page`, `2,000 pages`."""
-    return f"{count:,} {one if count == 1 else many or one + 's'}"
+    return f"{count:,} {one}{'' if count == 1 else 's'}"

@@ -13,7 +13,7 @@ DESCRIPTION = """Publishes DITA 1.3 documents as HTML.
 
   publish docs manual.ditamap pages               the pages of docs/manual.ditamap, into the folder `pages`
   publish -m docs/manual.ditamap -o pages         the same
-  publish docs manual.ditamap pages pro.ditaval   filtered"""
+  publish docs manual.ditamap pages pro.ditaval   filtered and flagged"""
 
 EPILOG = """What the map reaches is published; what is wrong with it is told by file, line and column, and the rest is published
 nevertheless. The status is 0 if the pages are there, 1 if they are there with faults and --strict is given, and 2 if nothing is
@@ -56,7 +56,7 @@ def parser() -> Parser:
     it.add_argument("-i", "--input", type=pathlib.Path, metavar="FOLDER", help="the folder of the documents; else that of MAP")
     it.add_argument("-m", "--map", type=pathlib.Path, metavar="MAP", help="the map; else the one map that FOLDER has")
     it.add_argument("-o", "--out", type=pathlib.Path, metavar="OUT", help="the folder of the pages; else `out`")
-    it.add_argument("--filter", type=pathlib.Path, metavar="DITAVAL", help="filters by this DITAVAL, which may lie anywhere")
+    it.add_argument("--filter", type=pathlib.Path, metavar="DITAVAL", help="filters and flags by this DITAVAL, which may lie anywhere")
     it.add_argument("--index", action="store_true", help="makes an index of the index terms, as the page terms.htm")
     it.add_argument("--strict", action="store_true", help="with faults the status is 1")
     it.add_argument("--clean", action="store_true", help="removes from OUT what this tool did not make")
@@ -65,7 +65,7 @@ def parser() -> Parser:
     style.add_argument("--no-style", action="store_true", help="leaves the pages as the desk made them")
     it.add_argument("--keep", type=pathlib.Path, metavar="FOLDER", help="leaves the script and the transcript of the desk there")
     loud = it.add_mutually_exclusive_group()
-    loud.add_argument("-q", "--quiet", action="store_true", help="tells faults alone")
+    loud.add_argument("-q", "--quiet", action="store_true", help="tells what is wrong and nothing else")
     loud.add_argument("-v", "--verbose", action="store_true", help="names each file")
     it.add_argument("--version", action="version", version=VERSION)
     return it

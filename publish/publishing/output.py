@@ -47,13 +47,15 @@ def files_of(folder: pathlib.Path) -> Iterator[str]:
 
 
 class Output:
-    """OUT while it is made anew: `desk` is the folder for the desk, and what lies in `pages` takes the place of OUT."""
+    """OUT while it is made anew: `desk` is the folder for the desk, and what lies in `pages` takes the place of OUT. `is_put` says whether
+    it stands there."""
 
     def __init__(self, out: pathlib.Path, folder: pathlib.Path, is_clean: bool) -> None:
         self.named, self.out, self.is_clean = out, pathlib.Path(os.path.realpath(out)), is_clean
         self.work = self.out.parent / f".{self.out.name}.publish-{os.getpid()}"
         self.desk, self.pages, self.old = self.work / "desk", self.work / "pages", self.work / "old"
         self.made_parents: list[pathlib.Path] = []
+        self.is_put = False
         self.check(pathlib.Path(os.path.realpath(folder)))
 
     def check(self, folder: pathlib.Path) -> None:
@@ -95,8 +97,8 @@ class Output:
             with contextlib.suppress(OSError):
                 parent.rmdir()
 
-    def put(self) -> bool:
-        """Moves what was made into the place of OUT; True, since else it stops."""
+    def put(self) -> None:
+        """Moves what was made into the place of OUT."""
         try:
             made = sorted(names.encoded(path) for path in files_of(self.pages))
             (self.pages / MARKER).write_text(HEAD + "".join(f"{path}\n" for path in made), encoding="utf-8")
@@ -105,7 +107,6 @@ class Output:
                     self.keep_others()
                 shutil.copystat(self.out, self.pages)
             self.swap()
-            return True
         except OSError as error:
             raise Stop(f"{self.named}: can't be replaced: {error.strerror}") from None
 
@@ -139,6 +140,7 @@ class Output:
                     os.rename(self.old, self.out)
                 raise
             self.made_parents.clear()
+            self.is_put = True
 
 
 def link(source: pathlib.Path, target: pathlib.Path) -> None:

@@ -45,9 +45,9 @@ def is_away(value: str) -> bool:
 
 @functools.lru_cache(maxsize=1 << 16)
 def target_of(folder: str, path: str) -> str | None:
-    """The path below OUT to which a path leads from a page of a folder; none if it leads out of OUT."""
-    target = posixpath.normpath(posixpath.join(folder, path))
-    return None if target.startswith(("../", "/")) or target == ".." else names.decoded(target)
+    """The path below OUT to which a path leads from a page of a folder, both as the desk has them; none if it leads out of OUT."""
+    target = posixpath.normpath(names.decoded(posixpath.join(folder, path)))
+    return None if target.startswith(("../", "/")) or target == ".." else target
 
 
 def link_of(page: str, value: str, is_picture: bool) -> Link:

@@ -3,7 +3,6 @@ from __future__ import annotations
 
 import sys
 import time
-from typing import TextIO
 
 CLEARED = "\r\033[K"
 INTERVAL = 0.1
@@ -12,8 +11,8 @@ INTERVAL = 0.1
 class Progress:
     """The line, on standard error if that is a terminal and the call is not quiet."""
 
-    def __init__(self, is_quiet: bool, stream: TextIO | None = None) -> None:
-        self.stream = stream if stream is not None else sys.stderr
+    def __init__(self, is_quiet: bool) -> None:
+        self.stream = sys.stderr
         self.is_on = not is_quiet and self.stream is not None and self.stream.isatty()
         self.last = 0.0
 

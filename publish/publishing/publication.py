@@ -25,7 +25,12 @@ class Publication:
         self.sources = closure.Sources(asked.folder)
         self.told: set[Message] = set()
         self.pages: dict[str, pages.Page] = {}
-        self.is_put = False
+        self.output: Output | None = None
+
+    @property
+    def is_put(self) -> bool:
+        """Whether the pages stand in OUT."""
+        return self.output is not None and self.output.is_put
 
     def messages(self) -> list[Message]:
         return sorted(self.told)
@@ -39,8 +44,9 @@ class Publication:
         words = program.find()
         roots = self.roots()
         with Output(self.asked.out, self.asked.folder, self.asked.clean) as output:
+            self.output = output
             self.read(roots)
-            documents = sorted(self.sources.documents.values(), key=lambda it: it.name.encode("utf-8"))
+            documents = script.in_order(self.sources.documents.values())
             given = script.script_of(documents, roots)
             self.keep("script", given)
             limits.check(self.sources, len(given))
@@ -147,7 +153,7 @@ class Publication:
         copied = beside.wanted(self.asked.folder, self.pages)
         self.progress.tell(f"copying {counted(len(copied), 'file')}")
         beside.copy(self.asked.folder, copied, output.pages)
-        self.is_put = output.put()
+        output.put()
         self.progress.clear()
         if self.asked.verbose:
             for path in copied:

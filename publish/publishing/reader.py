@@ -227,6 +227,7 @@ class Reader:
     def note_href(self, kind: Kind, pairs: dict[str, str], place: Place) -> None:
         said = self.open[-1].cascade if self.document.is_map else NOTHING_SAID.below(kind, pairs, place)
         if said.scope in AWAY:
+            self.document.away.add(pairs["href"])
             return
         is_ditaval = "ditavalref-d/ditavalref" in kind.types
         is_document = not kind.is_image and (is_ditaval or said.format == "dita" or (kind.is_topicref and said.format == "ditamap"))

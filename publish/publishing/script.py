@@ -6,9 +6,14 @@ from collections.abc import Iterable, Sequence
 from publishing.document import Document
 
 
-def script_of(documents: Iterable[Document], asked: Sequence[str]) -> bytes:
-    """The script over these documents, in the order of the bytes of their names; `asked` is the map, and perhaps a DITAVAL."""
+def in_order(documents: Iterable[Document]) -> list[Document]:
+    """Documents by the bytes of their names."""
+    return sorted(documents, key=lambda it: it.name.encode("utf-8"))
+
+
+def script_of(documents: Sequence[Document], asked: Sequence[str]) -> bytes:
+    """The script over these documents, in this order; `asked` is the map, and perhaps a DITAVAL."""
     parts = []
-    for document in sorted(documents, key=lambda it: it.name.encode("utf-8")):
+    for document in documents:
         parts += [f"1 put {document.name}", *document.parts, "."]
     return "\n".join([*parts, "1 build " + " ".join(asked), ""]).encode("utf-8")

@@ -8,6 +8,7 @@ from collections.abc import Iterator, Sequence
 
 from publishing import closure, names, script
 from publishing.document import place_in
+from publishing.faults import shown
 from publishing.message import Message
 from publishing.sentences import REFUSALS, STOPS, sentence_of
 from publishing.transcript import Edit, Request, entries_of, fault_of, requests_of
@@ -40,7 +41,7 @@ def to_script(words: Sequence[str]) -> int:
         print(f"{sources.place(name)}: there is no such document", file=sys.stderr)
     if missing:
         return 2
-    sys.stdout.buffer.write(script.script_of(sources.documents.values(), roots))
+    sys.stdout.buffer.write(script.script_of(script.in_order(sources.documents.values()), roots))
     return 1 if sources.unread else 0
 
 
@@ -90,7 +91,7 @@ class Told:
                 yield Message(self.folder, 0, 0, STOPS[reply[0]].format(" ".join(request.words[1:])), reply[0])
             for line in entry.faults():
                 fault = fault_of(line)
-                sentence = sentence_of(fault.code, fault.detail)
+                sentence = sentence_of(fault.code, shown(fault))
                 yield self.message(fault.name, self.bodies.get(fault.name, []), fault.line, sentence, fault.code)
 
 

@@ -2,6 +2,8 @@
 
 Names in a page are as the desk writes them (docs/RULES.md): `</head>`, a line feed and `<body>` stand once in a page, since a title is
 escaped. All else of a page stays as it is."""
+from __future__ import annotations
+
 import pathlib
 
 SHEET = "dita_desk.css"
@@ -13,17 +15,17 @@ _SEAM = b"</head>\n<body>\n"
 _VIEWPORT = b'<meta name="viewport" content="width=device-width, initial-scale=1">'
 
 
-def sheet_bytes(file=None):
+def sheet_bytes(file: pathlib.Path | None = None) -> bytes:
     """The bytes of the sheet FILE, or of the one that comes with the tool."""
     return pathlib.Path(file or _OWN).read_bytes()
 
 
-def title_of(page):
+def title_of(page: bytes) -> bytes:
     """What stands in the title of a page, escaped as it is there."""
     return page.partition(b"<title>")[2].partition(b"</title>")[0]
 
 
-def dress(page, page_path, contents=b"Contents", terms=None):
+def dress(page: bytes, page_path: str, contents: bytes = b"Contents", terms: bytes | None = None) -> bytes:
     """The page with a line in its head that links the sheet, and a line at the top of its body that leads to the contents with the words
     CONTENTS, and to the index with the words TERMS if there is one (both escaped already). A page does not lead to itself, and without a
     link there is no line. Bytes that are no page of the desk stay as they are."""

@@ -33,6 +33,12 @@ class Classes(Case):
         self.assertEqual(self.body(content, is_filtered=False), '<p>1<b>2</b></p>\n<div class="note">3</div>')
         self.assertEqual(re.sub(' class="flag-[^"]*"| flag-[^" ]*', "", flagged), '<p>1<b>2</b></p>\n<div class="note">3</div>')
 
+    def test_an_attribute_that_the_document_declares_is_flagged(self):
+        topic_of = "<topic id='t' domains='a(props vendor)'><title>T</title><body><p vendor='x'>1</p></body></topic>"
+        self.put({**ONE, "v.ditaval": RULES.replace("'audience' val='x'", "'vendor' val='x'"), "t.dita": topic_of})
+        self.assertEqual(self.call("docs", "m.ditamap", "out", "v.ditaval").told, [])
+        self.assertIn('<p class="flag-vendor-x">1</p>', self.page("t.html"))
+
     def test_a_branch_is_flagged_by_its_own_ditaval(self):
         branch = "<map><topicref href='t.dita'><ditavalref href='v.ditaval'/></topicref></map>"
         self.assertEqual(self.body("<p audience='x'>1</p>", False, **{"m.ditamap": branch}), '<p class="flag-audience-x">1</p>')

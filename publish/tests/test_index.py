@@ -169,9 +169,10 @@ class Lost(Index):
 class Desk(Case):
     def test_a_desk_without_an_index(self):
         older = self.root / "older"
-        older.write_text("#!/bin/sh\n[ \"$1\" = clean ] && exit 0\necho >&2 \"error: invalid value '$1'\"\necho >&2\necho >&2 'dita_desk: Words'\nexit 2\n")
+        older.write_text("#!/bin/sh\necho >&2 \"error: invalid value '$1'\"\necho >&2\necho >&2 'dita_desk: Words'\nexit 2\n")
         older.chmod(0o755)
         self.put(FILES)
         result = self.call("docs", "m.ditamap", "out", "--index", env=os.environ | {"DITA_DESK": str(older)})
-        self.assertEqual((result.status, result.errors), (2, "publish: the desk is of another version than this tool, and does not know what it is "
-                                                             "asked for: error: invalid value 'terms'\npublish: nothing is published\n"))
+        self.assertEqual((result.status, result.errors), (
+            2, "publish: the desk is of another version than this tool, and does not know what it is asked for: error: invalid value 'terms'\n"
+            "publish: nothing is published\n"))

@@ -20,6 +20,10 @@ class Lost(Case):
             "docs/t.dita:3:6: the picture `p/a.png` is missing",
             "docs/t.dita:3:38: the file `p` is a folder"])
 
+    def test_a_picture_that_is_a_link_to_nothing(self):
+        (self.docs / "a.png").symlink_to("gone.png")
+        self.assertEqual(self.told("<image href='a.png'/>"), ["docs/t.dita:1:37: the picture `a.png` is missing"])
+
     def test_a_picture_by_a_key(self):
         result = self.publish({"m.ditamap": "<map>\n<keydef keys='k' href='gone.png' format='png'/><topicref href='t.dita'/></map>",
                                "t.dita": topic("<image keyref='k'/>")})
@@ -100,6 +104,13 @@ class Lost(Case):
             "docs/t.dita:1:40: warning: pages show nothing of <indexterm>: 3 elements of the sources",
             "docs/t.dita:2:4: the content of <svg-container> can't be published: it is left out (Foreign)",
             "docs/t.dita:2:50: the content of <object> can't be published: it is left out (here, and 1 time more) (Foreign)"])
+
+    def test_index_terms_of_a_map_are_told_and_those_of_a_topic_without_a_page_are_not(self):
+        term = "<indexterm>a</indexterm>"
+        files = {"m.ditamap": f"<map><topicref href='t.dita'><topicmeta><keywords>{term}</keywords></topicmeta></topicref>"
+                              "<topicref href='m.dita' processing-role='resource-only'/></map>",
+                 "t.dita": topic(""), "m.dita": topic(f"<p>{term}</p>", "m")}
+        self.assertEqual(self.publish(files).told, ["docs/m.ditamap:1:51: warning: pages show nothing of <indexterm>: 1 element of the sources"])
 
     def test_the_key_of_a_picture_needs_no_text(self):
         keys = "<map><keydef keys='k' href='a.png' format='png'/><topicref href='t.dita'/><topicref href='u.dita'/></map>"

@@ -103,6 +103,8 @@ class Mistakes(Case):
                 lines = [*result.told, *result.errors.splitlines()]
                 if said.startswith("nothing"):
                     self.assertEqual(lines, [])
+                else:
+                    self.assertNotEqual(spans(said), [])
                 for span in spans(said):
                     pattern = ".*".join(map(re.escape, span.split("..")))
                     self.assertTrue(any(re.search(pattern, line) for line in lines), (span, lines))

@@ -68,14 +68,28 @@ class Files(Case):
         self.assertEqual(result.told, [
             f"docs/m.ditamap:1:22: `{name}` can't be read (docs/{name}): nothing comes of it (BadReference)",
             f"docs/{name}: the path of the file is longer than 255 bytes: the document is left out"])
+        picture = "x" * 260 + ".png"
+        result = self.publish({"m.ditamap": map_of("t.dita"), "t.dita": topic(f"<image href='{picture}'/>")})
+        self.assertEqual(result.told, [f"docs/t.dita:1:37: the reference `{picture}` can't be read, or leads out of the folder (BadReference)"])
 
     def test_references_that_lead_away_stay_as_they_are(self):
         away = "https://example.com/a%2Fb?c=%20d"
-        self.publish({"m.ditamap": map_of("t.dita"),
-                      "t.dita": topic(f"<p><xref href='{away}' scope='external' format='html'>A</xref><xref href='mailto:a@b.c' format='html'/>"
-                                      "<xref href='/a%2Fb' scope='peer'>P</xref></p>")})
-        for value in (away, "mailto:a@b.c", "/a%2Fb"):
+        result = self.publish({
+            "m.ditamap": map_of("t.dita"),
+            "t.dita": topic(f"<p><xref href='{away}' scope='external' format='html'>A</xref><xref href='mailto:a@b.c' format='html'/>"
+                            "<xref href='/a%2Fb' scope='peer'>P</xref><xref href='../other/u.html#a' scope='peer' format='html'>U</xref>"
+                            "<xref href='later.html' scope='peer' format='html'>L</xref></p>")})
+        self.assertEqual(result.told, [])
+        for value in (away, "mailto:a@b.c", "/a%2Fb", "../other/u.html#a", "later.html"):
             self.assertIn(f'href="{value}"', self.page("t.html"))
+
+    def test_nothing_outside_is_copied_for_a_link_with_escapes(self):
+        away = ["%2E%2E/%2E%2E/secret", "..%2F..%2Fsecret", "%2Fetc%2Fhostname", "x/%2E%2E/%2E%2E/%2E%2E/secret"]
+        links = "".join(f"<xref href='{value}' scope='peer' format='txt'>S</xref>" for value in away)
+        self.put({"secret": "mine", "a/b/m.ditamap": map_of("t.dita"), "a/b/t.dita": topic(f"<p>{links}</p>")})
+        result = self.call("docs/a/b", "m.ditamap", "out", "-v")
+        self.assertEqual((result.status, "copied" in result.output, self.left()), (0, False, ["out"]), result)
+        self.assertEqual(sorted(path.name for path in self.out.iterdir()), [".publish-made-this", "dita_desk.css", "index.html", "t.html"])
 
     def test_other_capitals_and_other_accents(self):
         files = {"m.ditamap": map_of("Sub/T.dita", "b\u00e4.dita"), "sub/t.dita": topic(""), "ba\u0308.dita": topic("<image href='A.png'/>"),

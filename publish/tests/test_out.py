@@ -7,9 +7,10 @@ import signal
 import subprocess
 import sys
 import time
+from unittest import mock
 
 from cases import PUBLISH, Case, map_of, topic
-from publishing.output import MARKER
+from publishing.output import MARKER, Output
 
 FILES = {"m.ditamap": map_of("t.dita", "u.dita"), "t.dita": topic("<image href='a.png'/>"), "u.dita": topic("", "u"), "a.png": b"x"}
 
@@ -150,8 +151,27 @@ class Ends(Case):
             self.assertEqual((child.returncode, output, errors), (2, b"", b"publish: interrupted: nothing is published\n"), number)
             self.same()
 
+    def test_an_interrupt_while_out_is_replaced(self):
+        """It comes when OUT stands there, and not between its two renames, of which this test has the first one interrupt."""
+        output = Output(self.out, self.docs, False)
+        rename = os.rename
+
+        def interrupting(old: os.PathLike, new: os.PathLike) -> None:
+            os.kill(os.getpid(), signal.SIGINT)
+            rename(old, new)
+
+        before = signal.signal(signal.SIGINT, signal.default_int_handler)
+        self.addCleanup(signal.signal, signal.SIGINT, before)
+        with self.assertRaises(KeyboardInterrupt), output:
+            (output.pages / "new.html").write_text("new")
+            with mock.patch("os.rename", interrupting):
+                output.put()
+        self.assertTrue(output.is_put)
+        self.assertEqual(((self.out / "new.html").is_file(), (self.out / "t.html").exists(), self.left()), (True, False, ["out"]))
+
     def test_a_desk_that_fails(self):
-        for words, said in [("false", "the desk ended with status 1"), ("true", "the desk's answer has not as many entries"), ("/no/such/program", "the program does not start: No such file"),
+        for words, said in [("false", "the desk ended with status 1"), ("true", "the desk's answer has not as many entries"),
+                            ("/no/such/program", "the program does not start: No such file"),
                             ("sh -c 'kill -9 $$'", "the desk was stopped by signal 9"), ("sh -c 'exit 5'", "memory ran out"),
                             ("sh -c 'echo >&2 dita_desk: OutletFault; echo >&2 b3/t.html: No space left; exit 7'",
                              "a page could not be written: b3/t.html: No space left")]:

@@ -1,8 +1,9 @@
 """What the map reaches decides."""
 import os
 import re
+import subprocess
 
-from cases import Case, map_of, topic
+from cases import PUBLISH, Case, map_of, topic
 
 BROKEN = "<topic id='b'>\n <title>B</title>\n <body><p>x</body></topic>"
 WHY = "not well-formed XML: mismatched tag; the innermost open element is <p> of line 3"
@@ -129,13 +130,12 @@ class Reach(Case):
         for word in ("--help", "-h"):
             result = self.call(word)
             self.assertEqual((result.status, result.errors), (0, ""))
-            for option in ("-i", "-m", "-o", "--filter", "--index", "--strict", "--clean", "--style", "--no-style", "--keep", "-q", "-v", "--version"):
-                self.assertIn(option, result.output)
+            for option in ("-i", "-m", "-o", "--filter", "--index", "--strict", "--clean", "--style", "--no-style", "--keep", "-q", "-v",
+                           "--version"):
+                self.assertRegex(result.output, rf"(?m)^  {option}[ ,\n]")
         self.assertEqual(self.call("--version").status, 0)
 
     def test_through_a_link_and_from_any_folder(self):
-        import subprocess
-        from cases import PUBLISH
         self.put({"m.ditamap": map_of("t.dita"), "t.dita": topic("")})
         (self.root / "bin").mkdir()
         os.symlink(PUBLISH, self.root / "bin" / "publish")

@@ -37,7 +37,7 @@ class Steps(Case):
             "docs/a.dita: edit 1 of its group is refused, so none of its 2 edits is done (refused Unclosed 2)",
             "docs/m.ditamap:7:3: the element <map> has no class: only what it holds is published (NoClass)",
             "docs/m.ditamap:8: the element <topicref> has no class: only what it holds is published (NoClass)",
-            "docs/m.ditamap:8: there is no topic `a%20b.dita`: it gets no page (TopicMissing)",
+            "docs/m.ditamap:8: there is no topic `a b.dita`: it gets no page (TopicMissing)",
             "docs: `gone.ditamap`: there is no such map, so nothing was built (nomap)"])
 
     def test_a_transcript_that_says_there_is_no_script(self):

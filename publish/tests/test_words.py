@@ -46,7 +46,6 @@ class Words(Case):
 
     def test_each_type_of_the_list_is_one_of_the_table(self):
         known = {word for pairs in kinds.class_table().values() for word in dict(pairs)["class"].split()}
-        # Types from which the table specializes nothing that it names by itself.
         self.assertEqual(sorted(kinds.element_only() - known), [])
 
     def test_types_with_text_are_not_in_the_list(self):

@@ -157,9 +157,11 @@ class Writers(Case):
         body = "<p audience='expert'>P</p><note audience='expert'>N</note><p platform='linux'>L</p><p audience='internal'>I</p>"
         steps = "".join(f"<step><cmd>A.</cmd>{info}</step>" for info in (part, whole))
         documents = {"a.dita": topic("<title>T</title>", body), "s.dita": TASK.format(steps), "w.ditaval": fenced("Flags", "xml")}
-        self.pages(documents, "<topicref href='a.dita' audience='expert'/><topicref href='s.dita'/>", "", "<title>M</title>", "--filter", "w.ditaval")
+        references = "<topicref href='a.dita' audience='expert'/><topicref href='s.dita'/>"
+        self.pages(documents, references, "", "<title>M</title>", "--filter", "w.ditaval")
         self.has('<p class="flag-audience-expert">', "a.html", '<p class="flag-audience-expert">P</p>')
-        self.has('<div class="note flag-audience-expert">', "a.html", '<div class="note flag-audience-expert">N</div>\n<p class="flag-platform-linux">L')
+        self.has('<div class="note flag-audience-expert">', "a.html",
+                 '<div class="note flag-audience-expert">N</div>\n<p class="flag-platform-linux">L</p>')
         self.assertNotIn("I</p>", self.page("a.html"))
         self.has(part, "s.html", '<p class="flag-audience-expert">B.</p>')
         self.has(whole, "s.html", "<li><span>A.</span>\nB.</li>")
@@ -168,8 +170,9 @@ class Writers(Case):
     def test_flags_with_a_look_of_their_own(self):
         rules = fenced("Flags", "css")
         self.assertEqual(set(re.findall(r"\.(flag-[a-z-]+)", rules)), {"flag-audience-expert"})
-        self.assertLessEqual(set(re.findall(r"(--[a-z]+): #", rules)), set(re.findall(r"var\((--[a-z]+)\)", style.sheet_bytes().decode())))
-        self.put({"a.dita": topic("<title>T</title>", "<p audience='expert' product='v2.1'>P</p>"), "m.ditamap": "<map><topicref href='a.dita'/></map>",
+        self.assertLessEqual(set(re.findall(r"--[a-z]+", rules)), set(re.findall(r"var\((--[a-z]+)\)", style.sheet_bytes().decode())))
+        self.put({"m.ditamap": "<map><topicref href='a.dita'/></map>",
+                  "a.dita": topic("<title>T</title>", "<p audience='expert' product='v2.1'>P</p>"),
                   "w.ditaval": fenced("Flags", "xml").replace("</val>", "<prop att='product' action='flag'/></val>")})
         (self.root / "own.css").write_bytes(style.sheet_bytes() + rules.encode())
         self.assertEqual(self.call("docs", "m.ditamap", "out", "w.ditaval", "--style", "own.css").told, [])

@@ -30,8 +30,3 @@ class Pages(Case):
             self.assertEqual(len(HEAD.findall(page)), 1, path)
             words = [words for _, words in LINE.findall(page)]
             self.assertEqual(words, [] if path == "index.html" else [style.title_of(self.desk["index.html"])], path)
-
-    def test_with_a_sheet_of_ones_own(self):
-        (self.root / "own.css").write_bytes(b"body { margin: 0 }\n")
-        self.assertEqual(self.call("docs", "manual.ditamap", "out", "--style", "own.css").status, 0)
-        self.assertEqual((self.out / style.SHEET).read_bytes(), b"body { margin: 0 }\n")

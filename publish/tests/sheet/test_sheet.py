@@ -105,14 +105,17 @@ class Sheet(unittest.TestCase):
         self.assertIn("--mark: var(--flag);", rule)
         self.assertIn("background: var(--marked);", rule)
         self.assertEqual(len(re.findall(r"^ +--flag: #", self.sheet, re.MULTILINE)), 2)
-        self.assertRegex(self.sheet.partition("@media print")[2], r'\[class\*="flag-"\] \{ print-color-adjust: exact;')
+        self.assertRegex(self.sheet.partition("@media print")[2], r', \[class\*="flag-"\] \{ print-color-adjust: exact;')
 
     def test_a_rule_for_one_flag_behind_the_others_wins(self):
         """No selector of flags weighs more than one class: the names of elements stand in `:where`, which weighs nothing."""
-        selectors = [line.partition("[class*=")[0] for line in self.sheet.splitlines() if line.endswith("}") and "--mark" in line and "[class" in line]
-        self.assertEqual(len(selectors), 3)
-        for selector in selectors:
+        selectors = re.findall(r'^(.*)\[class\*="flag-"\] \{', self.sheet, re.MULTILINE)
+        self.assertEqual((selectors[0], len(selectors)), ("", 5))
+        for selector in selectors[1:4]:
             self.assertRegex(selector, r"^:where\([a-z, ]+\)$")
+
+    def test_drawings_have_white_paper_in_the_dark_if_they_are_flagged_too(self):
+        self.assertIn("  img, img[class] { background: #ffffff; }\n", self.sheet.partition("(prefers-color-scheme: dark)")[2])
 
     def test_a_sheet_of_ones_own(self):
         own = pathlib.Path(__file__)
