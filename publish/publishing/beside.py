@@ -1,6 +1,7 @@
 """The files beside the pages: pictures, PDFs, downloads. Only those to which a page leads are copied."""
 from __future__ import annotations
 
+import os
 import pathlib
 import shutil
 from collections.abc import Iterable
@@ -12,7 +13,7 @@ from publishing.pages import Page
 def wanted(folder: pathlib.Path, pages: dict[str, Page]) -> list[str]:
     """The files of FOLDER to which pages lead, by their paths."""
     paths = {link.path for page in pages.values() for link in page.links if link.path is not None and link.path not in pages}
-    return sorted(path for path in paths if (folder / path).is_file())
+    return sorted(path for path in paths if os.path.isfile(folder / path))  # no name is too long for this one
 
 
 def copy(folder: pathlib.Path, paths: Iterable[str], to: pathlib.Path) -> None:

@@ -4,6 +4,7 @@ The pages decide whether something is told, so what a filter took away is not; t
 from __future__ import annotations
 
 import collections
+import os
 import posixpath
 import re
 from collections.abc import Callable, Collection, Iterator
@@ -77,8 +78,8 @@ class Checks:
                 yield from self.no_id(page, link)
         else:
             path = self.sources.folder / link.path
-            if not path.is_file():
-                yield from self.no_file(page, link, "is a folder" if path.is_dir() else "is missing")
+            if not os.path.isfile(path):
+                yield from self.no_file(page, link, "is a folder" if os.path.isdir(path) else "is missing")
 
     def at(self, document: Document, place: Place, sentence: str) -> Message:
         return Message(self.sources.place(document.name), *place, sentence)

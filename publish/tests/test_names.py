@@ -78,7 +78,7 @@ class Files(Case):
             "m.ditamap": map_of("t.dita"),
             "t.dita": topic(f"<p><xref href='{away}' scope='external' format='html'>A</xref><xref href='mailto:a@b.c' format='html'/>"
                             "<xref href='/a%2Fb' scope='peer'>P</xref><xref href='../other/u.html#a' scope='peer' format='html'>U</xref>"
-                            "<xref href='later.html' scope='peer' format='html'>L</xref></p>")})
+                            f"<xref href='later.html' scope='peer' format='html'>L</xref><xref href='{'x' * 300}' scope='peer'>X</xref></p>")})
         self.assertEqual(result.told, [])
         for value in (away, "mailto:a@b.c", "/a%2Fb", "../other/u.html#a", "later.html"):
             self.assertIn(f'href="{value}"', self.page("t.html"))
@@ -86,7 +86,7 @@ class Files(Case):
     def test_nothing_outside_is_copied_for_a_link_with_escapes(self):
         away = ["%2E%2E/%2E%2E/secret", "..%2F..%2Fsecret", "%2Fetc%2Fhostname", "x/%2E%2E/%2E%2E/%2E%2E/secret"]
         links = "".join(f"<xref href='{value}' scope='peer' format='txt'>S</xref>" for value in away)
-        self.put({"secret": "mine", "a/b/m.ditamap": map_of("t.dita"), "a/b/t.dita": topic(f"<p>{links}</p>")})
+        self.put({"secret": "mine", "a/b/x/y": "", "a/b/m.ditamap": map_of("t.dita"), "a/b/t.dita": topic(f"<p>{links}</p>")})
         result = self.call("docs/a/b", "m.ditamap", "out", "-v")
         self.assertEqual((result.status, "copied" in result.output, self.left()), (0, False, ["out"]), result)
         self.assertEqual(sorted(path.name for path in self.out.iterdir()), [".publish-made-this", "dita_desk.css", "index.html", "t.html"])
