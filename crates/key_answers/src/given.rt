@@ -1,6 +1,6 @@
 //! What a key gives.
 
-ghost use Rattle.std.specs.Prelude.{◌≡◌, ◌++◌, ℕ, List, [], Some, map, slice_get, IfOk};
+ghost use Rattle.std.specs.Prelude.{◌≡◌, ◌++◌, ◌||◌, ℕ, List, [], Some, map, slice_get, IfOk};
 ghost use Rattle.std.specs.Option.{option_to_list};
 ghost use Rattle.key_answers.specs.Seen as spec;
 ghost use Rattle.key_scopes.specs.Made as made_spec;
@@ -14,6 +14,8 @@ ghost use Rattle.readers.specs.Documents as documents_spec;
 ghost use Rattle.readers.specs.Documents.{AsksOnly};
 ghost use Rattle.readers.specs.Founded as founded_spec;
 ghost use Rattle.readers.specs.Founded.{AreAllowed, Grows, StaysFounded};
+ghost use Rattle.readers.specs.Only as only_spec;
+ghost use Rattle.readers.specs.Only.{TellsOnly};
 ghost use Rattle.readers.specs.Told.{Agrees};
 
 use crate::chain::{Chain, chain_of, last_of};
@@ -43,10 +45,10 @@ pub fn answer<T: Titles>(
     scope: u32,
     keyref: &Text,
 ) -> Result<KeyAnswer, NoMemory>
-    ensures known { (world : World) → Agrees world (T.told asker.new)
-        → made_spec.IsTableOf world nodes.now table.now
-        → carried_spec.CarryValues world nodes.now → carried_spec.CarryScopes nodes.now
-        → IfOk result (λ answer. answer
+    ensures known { made_spec.IsTableOf (T.stand asker.old).world nodes.now table.now
+        → carried_spec.CarryValues (T.stand asker.old).world nodes.now
+        → carried_spec.CarryScopes nodes.now
+        → (world : World) → Agrees world (T.told asker.new) → IfOk result (λ answer. answer
         ≡ keys_spec.key_answer world nodes.now scope (keys_spec.key_of keyref.now)) }
     ensures value { made_spec.IsTableOf (T.stand asker.old).world nodes.now table.now
         → carried_spec.CarryValues (T.stand asker.old).world nodes.now
@@ -60,6 +62,9 @@ pub fn answer<T: Titles>(
         (T.told asker.new) }
     ensures asks { AsksOnly documents_spec.nothing (founded_spec.homes nodes.now)
         (T.told asker.old) (T.told asker.new) }
+    ensures only { IfOk result (λ answer. TellsOnly (λ t.
+        only_spec.is_document_of (founded_spec.homes nodes.now) t
+        || only_spec.is_title_at answer.target t) (T.told asker.old) (T.told asker.new)) }
     ensures grows { Grows (T.told asker.old) (T.told asker.new) }
 {
     answer_asked(alloc, asker, nodes.as_slice(), table, scope, keyref)
@@ -74,10 +79,10 @@ fn answer_asked<T: Titles>(
     scope: u32,
     keyref: &Text,
 ) -> Result<KeyAnswer, NoMemory>
-    ensures known { (world : World) → Agrees world (T.told asker.new)
-        → made_spec.IsTableOf world nodes.now table.now
-        → carried_spec.CarryValues world nodes.now → carried_spec.CarryScopes nodes.now
-        → IfOk result (λ answer. answer
+    ensures known { made_spec.IsTableOf (T.stand asker.old).world nodes.now table.now
+        → carried_spec.CarryValues (T.stand asker.old).world nodes.now
+        → carried_spec.CarryScopes nodes.now
+        → (world : World) → Agrees world (T.told asker.new) → IfOk result (λ answer. answer
         ≡ keys_spec.key_answer world nodes.now scope (keys_spec.key_of keyref.now)) }
     ensures given { (roots : List (List ℕ)) → IfOk result (λ answer. AreAllowed roots
         (T.told asker.new) (option_to_list (pages_spec.local_name answer.target))) }
@@ -86,6 +91,9 @@ fn answer_asked<T: Titles>(
         (T.told asker.new) }
     ensures asks { AsksOnly documents_spec.nothing (founded_spec.homes nodes.now)
         (T.told asker.old) (T.told asker.new) }
+    ensures only { IfOk result (λ answer. TellsOnly (λ t.
+        only_spec.is_document_of (founded_spec.homes nodes.now) t
+        || only_spec.is_title_at answer.target t) (T.told asker.old) (T.told asker.new)) }
     ensures grows { Grows (T.told asker.old) (T.told asker.new) }
 {
     let homes = Homes::of(alloc, asker, nodes)?;
@@ -120,6 +128,8 @@ pub fn answer_with<T: Titles>(
     ensures founded { given_spec.AreTold (T.told asker.old) homes.now
         → StaysFounded [] (T.told asker.old) (T.told asker.new) }
     ensures asks { AsksOnly documents_spec.nothing [] (T.told asker.old) (T.told asker.new) }
+    ensures only { IfOk result (λ answer. TellsOnly (only_spec.is_title_at answer.target)
+        (T.told asker.old) (T.told asker.new)) }
     ensures grows { Grows (T.told asker.old) (T.told asker.new) }
 {
     let (key, _) = split_key(keyref.as_str());
@@ -152,6 +162,8 @@ pub fn answer_key<T: Titles>(
     ensures founded { given_spec.AreTold (T.told asker.old) homes.now
         → StaysFounded [] (T.told asker.old) (T.told asker.new) }
     ensures asks { AsksOnly documents_spec.nothing [] (T.told asker.old) (T.told asker.new) }
+    ensures only { IfOk result (λ answer. TellsOnly (only_spec.is_title_at answer.target)
+        (T.told asker.old) (T.told asker.new)) }
     ensures grows { Grows (T.told asker.old) (T.told asker.new) }
 {
     let defined = Defined {
@@ -182,6 +194,8 @@ fn answer_of<T: Titles>(
     ensures founded { given_spec.AreTold (T.told asker.old) defined.entry.homes.now
         → StaysFounded [] (T.told asker.old) (T.told asker.new) }
     ensures asks { AsksOnly documents_spec.nothing [] (T.told asker.old) (T.told asker.new) }
+    ensures only { IfOk result (λ answer. TellsOnly (only_spec.is_title_at answer.target)
+        (T.told asker.old) (T.told asker.new)) }
     ensures grows { Grows (T.told asker.old) (T.told asker.new) }
 {
     let Chain { met, faults } = chain;

@@ -1,6 +1,6 @@
 //! The text of a key.
 
-ghost use Rattle.std.specs.Prelude.{◌≡◌, ℕ, [], List, codes, map, IfOk};
+ghost use Rattle.std.specs.Prelude.{◌≡◌, ℕ, [], List, codes, map, IfOk, OnOk};
 ghost use Rattle.std.specs.Option.{option_to_list};
 ghost use Rattle.map_spec.specs.Keys as keys_spec;
 ghost use Rattle.map_spec.specs.Elements as elements_spec;
@@ -10,6 +10,8 @@ ghost use Rattle.reader_spec.specs.World.{World};
 ghost use Rattle.readers.specs.Documents as documents_spec;
 ghost use Rattle.readers.specs.Documents.{AsksOnly};
 ghost use Rattle.readers.specs.Founded.{Grows, StaysFounded};
+ghost use Rattle.readers.specs.Only as only_spec;
+ghost use Rattle.readers.specs.Only.{TellsOnly};
 ghost use Rattle.readers.specs.Told.{Agrees};
 ghost use Rattle.doc_elements.specs.Walk as walk_spec;
 ghost use Rattle.key_answers.specs.Seen as spec;
@@ -37,6 +39,8 @@ pub(crate) fn label_of<T: Titles>(
     ensures founded { StaysFounded (option_to_list (pages_spec.local_name target.now))
         (T.told asker.old) (T.told asker.new) }
     ensures asks { AsksOnly documents_spec.nothing [] (T.told asker.old) (T.told asker.new) }
+    ensures only { OnOk result (TellsOnly (only_spec.is_title_at target.now) (T.told asker.old)
+        (T.told asker.new)) }
     ensures grows { Grows (T.told asker.old) (T.told asker.new) }
 {
     let own = own_text(alloc, defined, met)?;
@@ -54,6 +58,8 @@ fn title_of<T: Titles>(alloc: Global, asker: &mut T, target: &Target) -> Result<
     ensures founded { StaysFounded (option_to_list (pages_spec.local_name target.now))
         (T.told asker.old) (T.told asker.new) }
     ensures asks { AsksOnly documents_spec.nothing [] (T.told asker.old) (T.told asker.new) }
+    ensures only { OnOk result (TellsOnly (only_spec.is_title_at target.now) (T.told asker.old)
+        (T.told asker.new)) }
     ensures grows { Grows (T.told asker.old) (T.told asker.new) }
 {
     match target {

@@ -29,3 +29,4 @@ pub mod RiseLaws
 pub mod FindLaws
 pub mod ScopedLaws
 pub mod Walking
+pub mod WorldLaws

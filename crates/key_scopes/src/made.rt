@@ -1,6 +1,6 @@
 //! The making of the table.
 
-ghost use Rattle.std.specs.Prelude.{◌≡◌, map, IfOk};
+ghost use Rattle.std.specs.Prelude.{◌≡◌, map, IfOk, OnOk};
 ghost use Rattle.key_scopes.specs.Defined as defined_spec;
 ghost use Rattle.key_scopes.specs.Made as made_spec;
 ghost use Rattle.key_scopes.specs.Numbered as numbered_spec;
@@ -12,6 +12,8 @@ ghost use Rattle.readers.specs.Documents as documents_spec;
 ghost use Rattle.readers.specs.Documents.{AsksOnly};
 ghost use Rattle.readers.specs.Founded as founded_spec;
 ghost use Rattle.readers.specs.Founded.{Grows, StaysFounded};
+ghost use Rattle.readers.specs.Only as only_spec;
+ghost use Rattle.readers.specs.Only.{TellsOnly};
 ghost use Rattle.readers.specs.Told.{Agrees};
 
 use crate::children::ChildNames;
@@ -54,6 +56,8 @@ pub fn scopes<R: Reader>(
         (R.told reader.new) }
     ensures asks { AsksOnly documents_spec.nothing (founded_spec.homes nodes.now)
         (R.told reader.old) (R.told reader.new) }
+    ensures only { OnOk result (TellsOnly (only_spec.is_document_of (founded_spec.homes nodes.now))
+        (R.told reader.old) (R.told reader.new)) }
     ensures grows { Grows (R.told reader.old) (R.told reader.new) }
 {
     into_scopes(alloc, reader, copy_nodes(alloc, nodes.as_slice())?)
@@ -79,6 +83,8 @@ pub fn into_scopes<R: Reader>(
         (R.told reader.new) }
     ensures asks { AsksOnly documents_spec.nothing (founded_spec.homes nodes)
         (R.told reader.old) (R.told reader.new) }
+    ensures only { OnOk result (TellsOnly (only_spec.is_document_of (founded_spec.homes nodes))
+        (R.told reader.old) (R.told reader.new)) }
     ensures grows { Grows (R.told reader.old) (R.told reader.new) }
 {
     scopes_of(alloc, reader, nodes)
@@ -99,6 +105,8 @@ fn scopes_of<R: Reader>(
         (R.told reader.new) }
     ensures asks { AsksOnly documents_spec.nothing (founded_spec.homes nodes)
         (R.told reader.old) (R.told reader.new) }
+    ensures only { OnOk result (TellsOnly (only_spec.is_document_of (founded_spec.homes nodes))
+        (R.told reader.old) (R.told reader.new)) }
     ensures grows { Grows (R.told reader.old) (R.told reader.new) }
 {
     let homes = Homes::of(alloc, reader, nodes.as_slice())?;

@@ -13,4 +13,5 @@ pub mod TargetLaws
 pub mod TextSetLaws
 pub mod ToldLaws
 pub mod Walking
+pub mod WorldLaws
 pub mod WordLaws

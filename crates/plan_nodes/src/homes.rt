@@ -16,6 +16,8 @@ ghost use Rattle.readers.specs.Documents as documents_spec;
 ghost use Rattle.readers.specs.Documents.{AsksOnly};
 ghost use Rattle.readers.specs.Founded as founded_spec;
 ghost use Rattle.readers.specs.Founded.{Grows, StaysFounded};
+ghost use Rattle.readers.specs.Only as only_spec;
+ghost use Rattle.readers.specs.Only.{TellsOnly};
 ghost use Rattle.readers.specs.Told as told_spec;
 ghost use Rattle.readers.specs.Told.{Agrees};
 
@@ -78,6 +80,9 @@ impl Homes {
             (R.told reader.new) }
         ensures asks { AsksOnly documents_spec.nothing (founded_spec.homes nodes.now)
             (R.told reader.old) (R.told reader.new) }
+        ensures only { OnOk result (TellsOnly
+            (only_spec.is_document_of (founded_spec.homes nodes.now)) (R.told reader.old)
+            (R.told reader.new)) }
         ensures grows { Grows (R.told reader.old) (R.told reader.new) }
     {
         homes_of(alloc, reader, nodes)
@@ -128,6 +133,8 @@ fn homes_of<R: Reader>(alloc: Global, reader: &mut R, nodes: &[PlanNode]) -> Res
         (R.told reader.new) }
     ensures asks { AsksOnly documents_spec.nothing (founded_spec.homes nodes.now)
         (R.told reader.old) (R.told reader.new) }
+    ensures only { OnOk result (TellsOnly (only_spec.is_document_of (founded_spec.homes nodes.now))
+        (R.told reader.old) (R.told reader.new)) }
     ensures grows { Grows (R.told reader.old) (R.told reader.new) }
 {
     let mut docs = Vec::new(alloc);
@@ -158,6 +165,8 @@ fn home_of<R: Reader>(
     ensures founded { StaysFounded (node.now.doc ∷ []) (R.told reader.old) (R.told reader.new) }
     ensures asks { AsksOnly documents_spec.nothing (node.now.doc ∷ []) (R.told reader.old)
         (R.told reader.new) }
+    ensures only { OnOk result (TellsOnly (only_spec.is_document_of (node.now.doc ∷ []))
+        (R.told reader.old) (R.told reader.new)) }
     ensures grows { Grows (R.told reader.old) (R.told reader.new) }
 {
     if !has_element(node.kind) {
@@ -185,6 +194,8 @@ fn doc_of<R: Reader>(
     ensures founded { StaysFounded (name.now ∷ []) (R.told reader.old) (R.told reader.new) }
     ensures asks { AsksOnly documents_spec.nothing (name.now ∷ []) (R.told reader.old)
         (R.told reader.new) }
+    ensures only { OnOk result (TellsOnly (only_spec.is_document_of (name.now ∷ []))
+        (R.told reader.old) (R.told reader.new)) }
     ensures grows { Grows (R.told reader.old) (R.told reader.new) }
 {
     if let Some(doc) = known.get(name) {

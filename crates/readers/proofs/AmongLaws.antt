@@ -1,5 +1,5 @@
 -- Names among those of two lists.
-use Rattle.std.proofs.Common.{◌++◌, ℕ, List, [], ◌∷◌, IsTrue, false, bytes_eq}
+use Rattle.std.proofs.Common.{◌++◌, ℕ, List, [], ◌∷◌, IsTrue, bytes_eq}
 use Rattle.std.proofs.Math.Logic.{⊎_elim}
 use Rattle.std.proofs.lemmas.Bool.{false≢true, or_cases, or_left, or_right}
 use Rattle.readers.specs.Founded.{is_among}

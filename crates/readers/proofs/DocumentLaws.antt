@@ -1,5 +1,5 @@
 -- Which documents are asked for by calls one after another.
-use Rattle.std.proofs.Common.{◌≡◌, ℕ, List, [], ◌∷◌, ◌++◌, IsTrue, false, sym, ap, subst, ◌∙◌}
+use Rattle.std.proofs.Common.{◌≡◌, ℕ, List, [], ◌∷◌, ◌++◌, IsTrue, sym, ap, subst}
 use Rattle.std.proofs.Math.Logic.{∥∥₁_elim}
 use Rattle.std.proofs.Props.{props}
 use Rattle.std.proofs.lemmas.Bool.{false≢true, or_left, or_right}
@@ -7,7 +7,7 @@ use Rattle.readers.specs.Documents.{AskedBy, AsksOnly, Covers, Follows, MayAsk, 
 use Rattle.readers.specs.Founded.{Grows, is_among}
 use Rattle.readers.specs.Noted.{told_of, told_onto}
 use Rattle.readers.specs.Setting.{Setting}
-use Rattle.readers.specs.Told.{Told, tried}
+use Rattle.readers.specs.Told.{Told}
 use Rattle.readers.specs.declared.questions.Note.{Note}
 use Rattle.readers.proofs.FoundedLaws.{among_one}
 

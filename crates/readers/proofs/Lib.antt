@@ -1,6 +1,7 @@
 pub mod GrowthLaws
 pub mod FoundedLaws
 pub mod DocumentLaws
+pub mod OnlyLaws
 pub mod LayerLaws
 pub mod TitleLaws
 pub mod AnsweredLaws

@@ -2,6 +2,7 @@ pub mod Setting
 pub mod Told
 pub mod Founded
 pub mod Documents
+pub mod Only
 pub mod Named
 pub mod Noted
 pub mod Props

@@ -2,6 +2,8 @@ use Rattle.std.proofs.Common.{refl}
 use Rattle.readers.proofs.DocumentLaws.{asks_same}
 use Rattle.readers.proofs.FoundedLaws.{stays_same}
 use Rattle.readers.proofs.GrowthLaws.{grows_same, told_answer}
+use Rattle.readers.proofs.OnlyLaws.{document_is_of, only_held, only_told}
+use Rattle.readers.specs.Told.{tree_found}
 use Rattle.plan_nodes.proofs.HomeLaws.{place_found}
 use Rattle.plan_nodes.proofs.ToldLaws.{docs_told_if}
 use Rattle.plan_nodes.proofs.homes.doc_of.Goals as goal
@@ -45,3 +47,7 @@ returns-clause-asks g c = c.in_ok-found.ensures.asks
 
 pub returns-clause-grows : goal.returns-clause-grows
 returns-clause-grows g c = c.in_ok-found.ensures.grows
+
+pub returns-clause-only : goal.returns-clause-only
+returns-clause-only g c = only_held c.keep_doc.result _ _ _
+    (only_told _ _ _ _ (document_is_of c.args.name.now (tree_found c.in_ok-found.found)) c.in_ok-found.ensures.told)

@@ -5,7 +5,7 @@ use Rattle.map_spec.specs.Cascade.{whole_at}
 use Rattle.readers.proofs.GrowthLaws.{agrees_before, grows_trans}
 use Rattle.plan_nodes.proofs.HomeLaws.{homes_push, push_of}
 use Rattle.plan_nodes.proofs.ToldLaws.{homes_told}
-use Rattle.plan_nodes.proofs.Walking.{asks_walking, stays_walking}
+use Rattle.plan_nodes.proofs.Walking.{asks_walking, only_walking, stays_walking}
 use Rattle.plan_nodes.proofs.homes.homes_of.Goals as goal
 
 pub loop-node-preserved : goal.loop-node-preserved
@@ -24,6 +24,8 @@ loop-node-preserved g c = record {
       c.node-item.is _ _ _ c.loop-node.invariant.grows c.loop-node.invariant.founded c.in_ok-home.ensures.founded;
   asks = asks_walking c.args.nodes.now c.loop-node.node-index c.node-item.result c.loop-node-test.true c.node-item.is
       _ _ _ c.loop-node.invariant.grows c.loop-node.invariant.asks c.in_ok-home.ensures.asks;
+  only = only_walking c.args.nodes.now c.loop-node.node-index c.node-item.result c.loop-node-test.true c.node-item.is
+      _ _ _ c.loop-node.invariant.only c.in_ok-home.ensures.only;
   grows = grows_trans _ _ _ c.loop-node.invariant.grows c.in_ok-home.ensures.grows;
 }
 

@@ -1,6 +1,7 @@
 use Rattle.std.proofs.Common.{◌≡◌, take}
 use Rattle.readers.specs.Documents.{AsksOnly, nothing}
 use Rattle.readers.specs.Founded.{Grows, StaysFounded, homes}
+use Rattle.readers.specs.Only.{TellsOnly, is_document_of}
 use Rattle.readers.specs.Told.{Agrees}
 use Rattle.reader_spec.specs.World.{World}
 use Rattle.plan_nodes.specs.HomeDocs.{AreHomesOf}
@@ -15,5 +16,6 @@ invariant-loop-node g l = record {
   stand : g.R.Reader.stand l.reader ≡ g.R.Reader.stand l.fn.reader;
   founded : StaysFounded (homes l.nodes) (g.R.Reader.told l.fn.reader) (g.R.Reader.told l.reader);
   asks : AsksOnly nothing (homes l.nodes) (g.R.Reader.told l.fn.reader) (g.R.Reader.told l.reader);
+  only : TellsOnly (is_document_of (homes l.nodes)) (g.R.Reader.told l.fn.reader) (g.R.Reader.told l.reader);
   grows : Grows (g.R.Reader.told l.fn.reader) (g.R.Reader.told l.reader);
 }

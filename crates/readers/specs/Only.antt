@@ -1,0 +1,42 @@
+-- Which questions are told (own): those alone that a test lets through, of whatever kind they are. A note without an
+-- answer counts by the documents that it is about, since it tells nothing of a world.
+use Rattle.std.specs.Prelude.{◌≡◌, ◌++◌, ◌&&◌, ℕ, Bool, false, List, [], ◌∷◌, IsTrue, bytes_eq}
+use Rattle.std.specs.List.{list_all}
+use Rattle.dita_doc.specs.declared.plan.Target.{Target}
+use Rattle.dita_doc.specs.declared.plan.Target.TheVariants as targets
+use Rattle.readers.specs.Founded.{is_among}
+use Rattle.readers.specs.Told.{Told, document, title, pushes, page_of, tried, sought}
+
+-- it asks for one of these documents as a whole
+abbrev pub is_document_of : List (List ℕ) → Told → Bool
+is_document_of names (document name tree) = is_among names name
+is_document_of names (sought name) = is_among names name
+is_document_of names (tried about) = list_all (is_among names) about
+is_document_of names _ = false
+
+-- it asks for the title of this topic of a document
+abbrev pub is_title_of : List ℕ → List ℕ → Told → Bool
+is_title_of name topic (title name' topic' text) = bytes_eq name name' && bytes_eq topic topic'
+is_title_of name topic (tried about) = list_all (is_among (name ∷ [])) about
+is_title_of name topic _ = false
+
+-- it asks for the title of the topic that a target leads to
+abbrev pub is_title_at : Target → Told → Bool
+is_title_at (targets.Local name reference) t = is_title_of name reference.topic t
+is_title_at _ t = false
+
+-- it asks for the pushes into one of these documents
+abbrev pub is_pushes_of : List (List ℕ) → Told → Bool
+is_pushes_of names (pushes documents name answer) = is_among names name
+is_pushes_of names (tried about) = list_all (is_among names) about
+is_pushes_of names _ = false
+
+-- it asks for the page of one of these documents
+abbrev pub is_page_of : List (List ℕ) → Told → Bool
+is_page_of names (page_of pages name context answer) = is_among names name
+is_page_of names (tried about) = list_all (is_among names) about
+is_page_of names _ = false
+
+-- what a call does that tells those questions alone
+pub record TellsOnly (test : Told → Bool) (old new : List Told) : Type 0 where
+  pub is : ∥ ((more : List Told) × ((new ≡ more ++ old) × IsTrue (list_all test more))) ∥₁
