@@ -14,7 +14,8 @@ use Rattle.map_spec.specs.MapTree.{Head, node_of}
 use Rattle.reader_spec.specs.World.{World}
 use Rattle.branch_copies.specs.Appended.{AreAppended, branches_for, if_ditavalref}
 use Rattle.branch_copies.specs.BranchRead.{IsBranchOf, place_of}
-use Rattle.branch_copies.specs.Ditavals.{AreKnown, IsWithin, Known, Longer, rules_at}
+use Rattle.plan_nodes.specs.HomeDocs.{IsWithin, Known}
+use Rattle.branch_copies.specs.Ditavals.{AreKnown, Longer, rules_at}
 use Rattle.branch_copies.specs.Placed.{faults_in}
 use Rattle.branch_copies.specs.Read.{AreRead, IsRead}
 use Rattle.branch_copies.specs.declared.branch.Branch.{Branch}

@@ -13,7 +13,8 @@ use Rattle.map_spec.specs.Written.{Element}
 use Rattle.ditaval_rules.specs.declared.rules.RulesRead.{RulesRead}
 use Rattle.reader_spec.specs.World.{World}
 use Rattle.branch_copies.specs.BranchRead.{IsFilterOf, documents_named, targets_of}
-use Rattle.branch_copies.specs.Ditavals.{AreKnown, IsDitavalOf, IsKnown, Known, Longer, faults_at}
+use Rattle.plan_nodes.specs.HomeDocs.{Known}
+use Rattle.branch_copies.specs.Ditavals.{AreKnown, IsDitavalOf, IsKnown, Longer, faults_at}
 
 -- no place within a list is empty
 not_none : {X : Type 0} (xs : List X) (at : ℕ) → at < length xs → slice_get xs at ≡ None → ⊥

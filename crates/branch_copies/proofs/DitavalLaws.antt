@@ -10,17 +10,15 @@ use Rattle.dita_doc.specs.declared.fault.Fault.{Fault}
 use Rattle.ditaval_rules.specs.declared.rules.RulesRead.{RulesRead}
 use Rattle.plan_nodes.proofs.ListLaws.{get_more}
 use Rattle.plan_nodes.proofs.MemoLaws.{IsEach, each_found, each_kept, each_put}
+use Rattle.node_filter.proofs.DomainLaws.{within_more}
 use Rattle.reader_spec.specs.World.{World}
-use Rattle.branch_copies.specs.Ditavals.{AreKnown, IsDitavalOf, IsKnown, IsWithin, Known, Longer, ditaval_at, faults_at}
+use Rattle.plan_nodes.specs.HomeDocs.{IsWithin, Known}
+use Rattle.branch_copies.specs.Ditavals.{AreKnown, IsDitavalOf, IsKnown, Longer, ditaval_at, faults_at}
 
 pub ditaval_more : (read more : List RulesRead) (place : Option ℕ) → IsWithin (length read) place
     → ditaval_at (read ++ more) place ≡ ditaval_at read place
 ditaval_more read more None within = refl
 ditaval_more read more (Some at) within = get_more read more at within
-
-pub within_more : (count larger : ℕ) (place : Option ℕ) → count ≤ larger → IsWithin count place → IsWithin larger place
-within_more count larger None grows within = tt
-within_more count larger (Some at) grows within = omega (arith, within)
 
 pub within_longer : (read more : List RulesRead) (place : Option ℕ) → IsWithin (length read) place
     → IsWithin (length (read ++ more)) place

@@ -24,7 +24,7 @@ use Rattle.reader_spec.specs.World.{World}
 use Rattle.branch_copies.specs.BranchRead.{documents_named, targets_of}
 use Rattle.branch_copies.specs.Ditavalrefs.{AreDitavalrefs, AreGiven, AsksDitavals, MayAskRefs, ditaval_targets, is_ref, ref_targets}
 use Rattle.branch_copies.specs.Stands.{is_ditavalref_at}
-use Rattle.branch_copies.proofs.HomeLaws.{whole_found}
+use Rattle.node_filter.proofs.HomeLaws.{whole_found}
 
 pub given_of : (world : World) (told : List Told) (nodes : List PlanNode) (homes : List (Option Whole))
     → homes ≡ map (whole_at world) nodes → AreTold told homes → AreGiven told nodes homes

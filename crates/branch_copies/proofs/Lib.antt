@@ -1,7 +1,6 @@
 mod AppendedLaws
 mod BranchLaws
 mod DitavalLaws
-pub mod DomainLaws
 mod EndLaws
 mod FirstLaws
 mod LeavesLaws
@@ -19,7 +18,4 @@ mod ThroughLaws
 mod TopLaws
 mod TreeLaws
 pub mod DitavalrefLaws
-pub mod Growing
-pub mod HomeLaws
 pub mod LeftLaws
-pub mod SieveLaws

@@ -10,7 +10,8 @@ use Rattle.map_spec.specs.Branches.{branches_of, ditavalrefs, has_branches, is_d
 use Rattle.map_spec.specs.MapTree.{Head, MapTree, MapNode}
 use Rattle.reader_spec.specs.World.{World}
 use Rattle.branch_copies.specs.Appended.{AreAppended, branches_for, has_branches_at, if_ditavalref}
-use Rattle.branch_copies.specs.Ditavals.{AreKnown, Known}
+use Rattle.plan_nodes.specs.HomeDocs.{Known}
+use Rattle.branch_copies.specs.Ditavals.{AreKnown}
 use Rattle.branch_copies.specs.Reading.{next_behind}
 use Rattle.branch_copies.specs.Stands.{StandsAt, end_at, is_ditavalref_at}
 use Rattle.branch_copies.specs.declared.branches.Branches.{Branches}

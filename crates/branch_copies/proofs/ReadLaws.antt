@@ -20,7 +20,7 @@ use Rattle.plan_nodes.specs.Home as home
 use Rattle.reader_spec.specs.World.{World}
 use Rattle.branch_copies.specs.BranchRead.{name_of, place_of}
 use Rattle.branch_copies.specs.Ditavals.{ditaval_at}
-use Rattle.branch_copies.specs.Domains.{names_at}
+use Rattle.node_filter.specs.Domains.{names_at}
 use Rattle.branch_copies.specs.Leaves.{chosen}
 use Rattle.branch_copies.specs.Marks.{affixes_of, copied_node, filters_of, if_affix}
 use Rattle.branch_copies.specs.Read.{AreRead, IsRead}

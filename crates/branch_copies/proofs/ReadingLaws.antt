@@ -10,7 +10,8 @@ use Rattle.map_spec.specs.Branches.{branches_of, is_ditavalref}
 use Rattle.map_spec.specs.MapTree.{Head, MapTree, MapNode, NoNodes, count}
 use Rattle.reader_spec.specs.World.{World}
 use Rattle.branch_copies.specs.Appended.{AreAppended}
-use Rattle.branch_copies.specs.Ditavals.{AreKnown, Known}
+use Rattle.plan_nodes.specs.HomeDocs.{Known}
+use Rattle.branch_copies.specs.Ditavals.{AreKnown}
 use Rattle.branch_copies.specs.Placed.{faults_in, joined, placed, span_of, spans_of}
 use Rattle.branch_copies.specs.Read.{AllRead, AreRead, HaveBranches}
 use Rattle.branch_copies.specs.Reading.{AreDone, AreLeft, IsReading, StandAll, Trees, count_all, next_behind, placed_all}

@@ -7,7 +7,8 @@ use Rattle.map_spec.specs.Branches.{ditavalrefs, is_ditavalref}
 use Rattle.map_spec.specs.MapTree.{Head, MapTree, MapNode, NoNodes, count}
 use Rattle.reader_spec.specs.World.{World}
 use Rattle.branch_copies.specs.Appended.{AreAppended, AreRefsRead, RefsLeft, branches_for, if_ditavalref}
-use Rattle.branch_copies.specs.Ditavals.{AreKnown, Known}
+use Rattle.plan_nodes.specs.HomeDocs.{Known}
+use Rattle.branch_copies.specs.Ditavals.{AreKnown}
 use Rattle.branch_copies.specs.Stands.{StandsAt, end_at, next_at}
 use Rattle.branch_copies.specs.declared.branches.Branches.{Branches}
 use Rattle.branch_copies.proofs.AppendedLaws.{appended_none, appended_then, branches_both}

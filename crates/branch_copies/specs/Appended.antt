@@ -9,7 +9,8 @@ use Rattle.map_spec.specs.Branches.{branch_of, ditavalrefs, has_branches, is_dit
 use Rattle.map_spec.specs.Judged.{whole_of}
 use Rattle.map_spec.specs.MapTree.{Head, MapTree, count}
 use Rattle.reader_spec.specs.World.{World}
-use Rattle.branch_copies.specs.Ditavals.{AreKnown, Known, Longer}
+use Rattle.plan_nodes.specs.HomeDocs.{Known}
+use Rattle.branch_copies.specs.Ditavals.{AreKnown, Longer}
 use Rattle.branch_copies.specs.Placed.{faults_in}
 use Rattle.branch_copies.specs.Read.{AreRead}
 use Rattle.branch_copies.specs.Stands.{StandsAt}

@@ -9,7 +9,8 @@ use Rattle.map_spec.specs.Target.{Named, Document, Elsewhere, Unreadable, named_
 use Rattle.map_spec.specs.Written.{Element, Written}
 use Rattle.ditaval_rules.specs.declared.rules.RulesRead.{RulesRead}
 use Rattle.reader_spec.specs.World.{World}
-use Rattle.branch_copies.specs.Ditavals.{AreKnown, IsWithin, Known, Longer, rules_at}
+use Rattle.plan_nodes.specs.HomeDocs.{IsWithin, Known}
+use Rattle.branch_copies.specs.Ditavals.{AreKnown, Longer, rules_at}
 use Rattle.branch_copies.specs.declared.branch.Branch.{Branch}
 use Rattle.branch_copies.specs.declared.branch.Filter.{Filter}
 

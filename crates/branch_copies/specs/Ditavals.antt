@@ -1,10 +1,11 @@
 -- The DITAVALs that were asked for (own): for each name its place among those that were read, if one stands under it.
-use Rattle.std.specs.Prelude.{◌≡◌, ◌<◌, ◌++◌, ℕ, List, [], ◌∷◌, Option, Some, None, length, slice_get}
+use Rattle.std.specs.Prelude.{◌≡◌, ◌++◌, ℕ, List, [], ◌∷◌, Option, Some, None, length, slice_get}
 use Rattle.std.specs.Option.{option_map_or}
 use Rattle.dita_doc.specs.declared.content.Rule.{Rule}
 use Rattle.dita_doc.specs.declared.fault.Fault.{Fault}
 use Rattle.ditaval_rules.specs.declared.rules.RulesRead.{RulesRead}
 use Rattle.map_spec.specs.Branches.{ditaval_in}
+use Rattle.plan_nodes.specs.HomeDocs.{IsWithin, Known}
 use Rattle.reader_spec.specs.World.{World}
 
 abbrev pub ditaval_at : List RulesRead → Option ℕ → Option RulesRead
@@ -17,14 +18,6 @@ faults_at read at = option_map_or (λ (ditaval : RulesRead). ditaval.faults) (sl
 
 abbrev pub rules_at : List RulesRead → Option ℕ → List Rule
 rules_at read at = option_map_or (λ (ditaval : RulesRead). ditaval.rules) (ditaval_at read at) []
-
--- places among so many
-abbrev pub IsWithin : ℕ → Option ℕ → Type 0
-IsWithin count None = Unit {0}
-IsWithin count (Some at) = at < count
-
-abbrev pub Known : Type 0
-Known = List ℕ × Option ℕ
 
 -- a name has the place of its DITAVAL
 pub record IsKnown (world : World) (read : List RulesRead) (name : List ℕ) (place : Option ℕ) : Type 0 where

@@ -4,8 +4,6 @@ pub mod Chained
 pub mod Copied
 pub mod Ditavalrefs
 pub mod Ditavals
-pub mod Domains
-pub mod Filtered
 pub mod Going
 pub mod Leaves
 pub mod Left
@@ -14,7 +12,6 @@ pub mod Placed
 pub mod Read
 pub mod Reading
 pub mod Seen
-pub mod Sieve
 pub mod Source
 pub mod Stands
 pub mod Through

@@ -7,7 +7,8 @@ use Rattle.map_spec.specs.Branches.{branch_faults, branches_of, is_ditavalref}
 use Rattle.map_spec.specs.MapTree.{Head, MapTree, MapNode, NoNodes, count, node_of}
 use Rattle.reader_spec.specs.World.{World}
 use Rattle.branch_copies.specs.BranchRead.{name_of, place_of}
-use Rattle.branch_copies.specs.Ditavals.{IsWithin, rules_at}
+use Rattle.plan_nodes.specs.HomeDocs.{IsWithin}
+use Rattle.branch_copies.specs.Ditavals.{rules_at}
 use Rattle.branch_copies.specs.declared.branch.Branch.{Branch}
 use Rattle.branch_copies.specs.declared.branches.Branches.{Branches}
 use Rattle.branch_copies.specs.declared.branches.Span.{Span}

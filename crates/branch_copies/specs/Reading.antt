@@ -7,7 +7,8 @@ use Rattle.map_spec.specs.Branches as branches
 use Rattle.map_spec.specs.Branches.{is_ditavalref}
 use Rattle.map_spec.specs.MapTree.{Head, MapTree, count}
 use Rattle.reader_spec.specs.World.{World}
-use Rattle.branch_copies.specs.Ditavals.{AreKnown, Known}
+use Rattle.plan_nodes.specs.HomeDocs.{Known}
+use Rattle.branch_copies.specs.Ditavals.{AreKnown}
 use Rattle.branch_copies.specs.Placed.{faults_in, joined, placed, spans_of}
 use Rattle.branch_copies.specs.Read.{AreRead}
 use Rattle.branch_copies.specs.Stands.{StandsAt}

@@ -14,7 +14,7 @@ use Rattle.map_spec.specs.Written.{Whole}
 use Rattle.plan_nodes.specs.Home as home
 use Rattle.reader_spec.specs.World.{World}
 use Rattle.branch_copies.specs.BranchRead.{place_of}
-use Rattle.branch_copies.specs.Domains.{names_at, shown}
+use Rattle.node_filter.specs.Domains.{names_at, shown}
 use Rattle.branch_copies.specs.Read.{AreRead, HaveBranches, branches_in}
 use Rattle.branch_copies.specs.Stands.{StandsAt, is_map_at}
 use Rattle.branch_copies.specs.declared.branch.Branch.{Branch}

@@ -4,7 +4,7 @@ ghost use Rattle.std.specs.Prelude.{◌≡◌, ℕ, List, IfErr, IfOk, Some, map
 ghost use Rattle.std.specs.Result.{result_map_both};
 ghost use Rattle.branch_copies.specs.Copied as copied_spec;
 ghost use Rattle.branch_copies.specs.Ditavalrefs as ditavalrefs_spec;
-ghost use Rattle.branch_copies.specs.Domains as domains_spec;
+ghost use Rattle.node_filter.specs.Domains as domains_spec;
 ghost use Rattle.branch_copies.specs.Read as read_spec;
 ghost use Rattle.branch_copies.specs.Stands as stands_spec;
 ghost use Rattle.dita_doc.specs.Gives.{Gives};
@@ -23,11 +23,10 @@ ghost use Rattle.readers.specs.Told.{Agrees};
 use crate::branches::{Branches, read_branches};
 use crate::copying::Copying;
 use crate::ditavals::Ditavals;
-use crate::domains::DeclaredNames;
-use crate::elements::Elements;
 use crate::names::scope_names;
 use crate::node::Source;
 use dita_doc::{Expanded, List, PlanNode, PlanStop, Stop, Text};
+use node_filter::{DeclaredNames, Elements};
 use plan_nodes::Homes;
 use readers::Reader;
 use std::alloc::Global;
@@ -129,7 +128,7 @@ fn copy_all<'a>(
     let source = Source {
         nodes,
         homes,
-        declared: declared.each(alloc, nodes)?,
+        declared: declared.each(alloc, nodes)?.into_vec(),
         names,
         branches: &read.branches,
         spans: &read.spans,

@@ -4,6 +4,7 @@ ghost use Rattle.std.specs.Prelude.{◌≡◌, ◌++◌, [], ◌∷◌, Some, If
 ghost use Rattle.branch_copies.specs.Ditavals as ditavals_spec;
 ghost use Rattle.ditaval_rules.specs.declared.rules.RulesRead.{RulesRead};
 ghost use Rattle.map_spec.specs.Branches as branches_spec;
+ghost use Rattle.plan_nodes.specs.HomeDocs as home_docs_spec;
 ghost use Rattle.reader_spec.specs.World.{World};
 ghost use Rattle.readers.specs.Documents as documents_spec;
 ghost use Rattle.readers.specs.Documents.{AsksOnly};
@@ -35,7 +36,7 @@ impl Ditavals {
     }
 
     /// The DITAVAL of a name, if there is one. No document is asked for or read twice.
-    #[tactic(auto, using(crate::proofs::Growing::telling))]
+    #[tactic(auto, using(node_filter::proofs::Growing::telling))]
     pub fn find<R: Reader>(
         &mut self,
         alloc: Global,
@@ -65,7 +66,7 @@ impl Ditavals {
     fn put(&mut self, read: Option<RulesRead>) -> Result<Option<usize>, NoMemory>
         ensures longer { OnOk result (ditavals_spec.Longer self.old.read.items
             self.new.read.items) }
-        ensures within { IfOk result (λ place. ditavals_spec.IsWithin
+        ensures within { IfOk result (λ place. home_docs_spec.IsWithin
             (length self.new.read.items) place) }
         ensures is { IfOk result (λ place.
             ditavals_spec.ditaval_at self.new.read.items place ≡ read) }
@@ -104,7 +105,7 @@ impl Ditavals {
 }
 
 // What is read of the DITAVAL that stands under a name.
-#[tactic(auto, using(crate::proofs::Growing::telling))]
+#[tactic(auto, using(node_filter::proofs::Growing::telling))]
 fn read_under<R: Reader>(
     alloc: Global,
     reader: &mut R,

@@ -1,7 +1,6 @@
-//! The nodes of a map filtered by rules, and the copies of its branches.
+//! The copies of a map's branches.
 //!
-//! What is used above it: the contracts of `filter_nodes` and `copy_branches`, which give what
-//! their definitions give.
+//! What is used above it: the contract of `copy_branches`, which gives what its definition gives.
 #![tactic(auto)]
 
 mod branch;
@@ -10,14 +9,8 @@ mod chains;
 mod copies;
 mod copying;
 mod ditavals;
-mod domains;
-mod elements;
-mod filter;
-mod groups;
 mod names;
 mod node;
-mod sieve;
 mod work;
 
 pub use copies::copy_branches;
-pub use filter::filter_nodes;

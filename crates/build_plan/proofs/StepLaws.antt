@@ -21,7 +21,7 @@ use Rattle.plan_nodes.specs.Carried.{CarryValues}
 use Rattle.plan_nodes.specs.Given.{AreTold}
 use Rattle.plan_nodes.specs.Preorder.{HasParentsBefore, IsTree, shape}
 use Rattle.plan_nodes.proofs.PreorderLaws.{tree_has_parents}
-use Rattle.branch_copies.specs.Filtered.{IsFiltered}
+use Rattle.node_filter.specs.Filtered.{IsFiltered}
 use Rattle.branch_copies.specs.Copied.{AreCopied}
 use Rattle.build_plan.specs.Documents.{filters_of}
 use Rattle.build_plan.specs.Stages.{AreMapNodes, AreNew, IsMapTree, branched_map, cascaded_map, copied_map, judged_map}

@@ -16,10 +16,11 @@ ghost use Rattle.readers.specs.Founded.{AreAllowed, Grows, StaysFounded};
 ghost use Rattle.readers.specs.Told.{Agrees, Knows};
 
 use attr_cascade::cascade;
-use branch_copies::{copy_branches, filter_nodes};
+use branch_copies::copy_branches;
 use dita_doc::{Expanded, List, Name, PlanStop, Rule, Stop};
 use doc_elements::append_faults;
 use map_expand::expand;
+use node_filter::filter_nodes;
 use readers::Reader;
 use std::alloc::Global;
 

@@ -2,7 +2,7 @@ use Rattle.std.proofs.Common.{◌≡◌, false, refl}
 use Rattle.dita_doc.specs.declared.plan.PlanKind.{PlanKind}
 use Rattle.dita_doc.specs.declared.plan.PlanKind.TheVariants.{Map, Reference, Included, DitavalRef, Group, RelTable, RelRow, RelCell}
 use Rattle.map_spec.specs.Branches.{is_map_node}
-use Rattle.branch_copies.proofs.HomeLaws.{node_there}
+use Rattle.node_filter.proofs.HomeLaws.{node_there}
 use Rattle.branch_copies.proofs.branches.is_map_at.Goals as goal
 
 no_map : (kind : PlanKind) → (kind ≡ Map → ⊥) → false ≡ is_map_node kind

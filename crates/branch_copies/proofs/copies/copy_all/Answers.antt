@@ -1,7 +1,8 @@
-use Rattle.std.proofs.Common.{map, refl, subst, sym}
+use Rattle.std.proofs.Common.{◌∙◌, ap, map, refl, subst, sym}
 use Rattle.map_spec.specs.Branches.{copied}
 use Rattle.map_spec.specs.MapTree.{MapNode, MapTree, NoNodes, plan_nodes}
 use Rattle.plan_nodes.specs.Preorder.{without_end}
+use Rattle.node_filter.specs.Domains.{shown}
 use Rattle.branch_copies.specs.Read.{AreRead, HaveBranches}
 use Rattle.branch_copies.specs.Source.{IsSource}
 use Rattle.branch_copies.specs.declared.node.Source.{Source}
@@ -14,7 +15,7 @@ returns-in-Err-clause-copied c = λ world head below defined kind are homes decl
     let source : Source = record {
       nodes = c.args.nodes;
       homes = c.args.homes;
-      declared = c.in_ok-each.field-0;
+      declared = c.into_vec.result;
       names = c.args.names;
       branches = c.deref.result;
       spans = c.deref-2.result;
@@ -23,7 +24,7 @@ returns-in-Err-clause-copied c = λ world head below defined kind are homes decl
     let is : IsSource world source defined = record {
       ditavals = c.args.ditavals.now.read.items;
       homes = homes;
-      declared = c.in_ok-each.ensures world declared;
+      declared = ap shown c.into_vec.ensures ∙ c.in_ok-each.ensures world declared;
       names = names;
       read = subst (λ all. AreRead c.args.ditavals.now.read.items c.args.nodes.now all defined)
           (sym c.deref.ensures.value) read;
@@ -41,7 +42,7 @@ returns-clause-copied c = λ world head below defined kind are homes declared na
     let source : Source = record {
       nodes = c.args.nodes;
       homes = c.args.homes;
-      declared = c.in_ok-each.field-0;
+      declared = c.into_vec.result;
       names = c.args.names;
       branches = c.deref.result;
       spans = c.deref-2.result;
@@ -50,7 +51,7 @@ returns-clause-copied c = λ world head below defined kind are homes declared na
     let is : IsSource world source defined = record {
       ditavals = c.args.ditavals.now.read.items;
       homes = homes;
-      declared = c.in_ok-each.ensures world declared;
+      declared = ap shown c.into_vec.ensures ∙ c.in_ok-each.ensures world declared;
       names = names;
       read = subst (λ all. AreRead c.args.ditavals.now.read.items c.args.nodes.now all defined)
           (sym c.deref.ensures.value) read;

@@ -9,7 +9,7 @@ use Rattle.readers.proofs.GrowthLaws.{grows_same}
 use Rattle.branch_copies.specs.BranchRead.{IsBranchOf}
 use Rattle.branch_copies.proofs.AppendedLaws.{none_appended, one_appended}
 use Rattle.branch_copies.proofs.DitavalrefLaws.{asks_ref, ditavals_same, stays_ref}
-use Rattle.branch_copies.proofs.HomeLaws.{node_there, whole_found}
+use Rattle.node_filter.proofs.HomeLaws.{node_there, whole_found}
 use Rattle.branch_copies.proofs.StandLaws.{whole_here}
 use Rattle.branch_copies.proofs.branches.Branches.read.Goals as goal
 

@@ -1,5 +1,5 @@
 use Rattle.std.proofs.lemmas.Option.{slice_get_past}
-use Rattle.branch_copies.proofs.HomeLaws.{node_there}
+use Rattle.node_filter.proofs.HomeLaws.{node_there}
 use Rattle.branch_copies.proofs.node.Source.group.Goals as goal
 
 pub returns-in_default : goal.returns-in_default

@@ -1,0 +1,4 @@
+pub mod DomainLaws
+pub mod Growing
+pub mod HomeLaws
+mod SieveLaws
