@@ -4,9 +4,9 @@ use Rattle.std.proofs.Common.{refl, ap, subst, ◌∙◌}
 use Rattle.std.proofs.Math.Logic.{⊎_elim}
 use Rattle.std.proofs.lemmas.Bool.{or_cases, or_left}
 use Rattle.conref_pull.specs.Resolved.{IsResolved}
-use Rattle.conref_pull.specs.Rules.{AreRules, HasAll, all_kept, ditavals}
-use Rattle.conref_pull.specs.declared.rules.RuleLists.{RuleLists}
-use Rattle.conref_pull.proofs.RuleLaws.{rules_of_page}
+use Rattle.conref_targets.specs.Rules.{AreRules, HasAll, all_kept, ditavals}
+use Rattle.conref_targets.specs.declared.rules.RuleLists.{RuleLists}
+use Rattle.conref_targets.proofs.RuleLaws.{rules_of_page}
 use Rattle.dita_doc.specs.Tree as tree
 use Rattle.dita_doc.specs.Tree.{Content, size_of, tree_of}
 use Rattle.dita_doc.specs.declared.content.Mark.{Mark}

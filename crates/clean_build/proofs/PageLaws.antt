@@ -4,9 +4,9 @@ use Rattle.std.specs.List.{flat_map}
 use Rattle.std.specs.Option.{option_copied, option_map_or, option_to_list}
 use Rattle.std.proofs.Common.{refl, sym, ap, subst, ◌∙◌}
 use Rattle.conref_pull.specs.Resolved.{page_made, root_faults}
-use Rattle.conref_pull.specs.Rules as kept
-use Rattle.conref_pull.specs.Rules.{ditavals, rules_under}
-use Rattle.conref_pull.specs.Setting as pulled
+use Rattle.conref_targets.specs.Rules as kept
+use Rattle.conref_targets.specs.Rules.{ditavals}
+use Rattle.conref_targets.specs.Setting as pulled
 use Rattle.dita_doc.specs.declared.content.PageLink.{PageLink}
 use Rattle.dita_doc.specs.declared.content.Rule.{Rule}
 use Rattle.dita_doc.specs.declared.content.TermEntry.{TermEntry}

@@ -14,7 +14,7 @@ use Rattle.html_spec.specs.Terms.{terms_html}
 use Rattle.map_spec.specs.PlanOf.{limits, plan_of}
 use Rattle.map_spec.specs.Scopes.{places_from}
 use Rattle.map_spec.specs.Titles.{title_in}
-use Rattle.part_spec.specs.Parts.{clean_terms, page_titles, parts_of, rooms, terms_by, terms_part, total_limit, total_of}
+use Rattle.part_spec.specs.Parts.{clean_terms, page_titles, parts_of, rooms, terms_by, total_limit, total_of}
 use Rattle.reader_spec.specs.World.{World}
 use Rattle.readers.specs.Founded.{is_among}
 use Rattle.readers.proofs.FoundedLaws.{among_behind, among_first}

@@ -2,8 +2,8 @@
 -- their marks; and the terms of the content.
 use Rattle.std.specs.Prelude.{◌≡◌, ◌++◌, ℕ, List, [], Option, Some, None}
 use Rattle.conref_pull.specs.Resolved.{page_made}
-use Rattle.conref_pull.specs.Rules.{AreRules, ditavals, page_rules}
-use Rattle.conref_pull.specs.Tables as kept
+use Rattle.conref_targets.specs.Rules.{AreRules, ditavals, page_rules}
+use Rattle.conref_targets.specs.Tables as kept
 use Rattle.conref_pull.specs.declared.tables.Tables.{Tables}
 use Rattle.dita_doc.specs.declared.content.Rule.{Rule}
 use Rattle.dita_doc.specs.declared.content.TermEntry.{TermEntry}

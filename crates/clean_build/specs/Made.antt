@@ -15,9 +15,9 @@ use Rattle.map_spec.specs.Written.{Whole}
 use Rattle.node_links.specs.NodeTable.{AreNodeLinks}
 use Rattle.node_links.specs.declared.table.NodeLinks.{NodeLinks}
 use Rattle.html_spec.specs.Anchors.{element_links}
-use Rattle.conref_spec.specs.Content.{Made, nothing_made}
+use Rattle.conref_spec.specs.Content.{Made}
 use Rattle.html_spec.specs.PageHtml.{page_within}
-use Rattle.part_spec.specs.Parts.{Rooms, content_of_root, contents_part, here_of, links_of, no_html, page_content, page_rules, rooms}
+use Rattle.part_spec.specs.Parts.{Rooms, content_of_page, content_of_root, contents_part, here_of, links_of, no_html, page_content, page_rules, rooms}
 use Rattle.reader_spec.specs.World.{World}
 use Rattle.readers.specs.Setting.{Setting}
 use Rattle.clean_build.specs.Bodies.{AreKnown, body_of, content_of, rules_for, terms_wanted}
@@ -54,10 +54,9 @@ IsRootLine world name (Some line) = IsRootAt world name line
 
 -- The content of a page
 
--- none without a root
+-- in the room that pages have
 abbrev pub page_content_of : World → Plan → Option (List ℕ) → PagePlan → Made
-page_content_of world plan val page =
-    option_map_or (content_of_root rooms world plan val page) (root_in world page.id.doc) nothing_made
+page_content_of world plan val page = content_of_page rooms world plan val page
 
 abbrev pub MakesContent : ContentWork → World → Setting → Resolved → Type 0
 MakesContent work world setting made = IsReady world work.ground setting

@@ -2,7 +2,7 @@
 use Rattle.std.specs.Prelude.{ℕ, List, [], ◌∷◌, ◌++◌, slice_get}
 use Rattle.std.specs.List.{filter_map, flat_map}
 use Rattle.std.specs.Option.{option_copied, option_map_or, option_to_list}
-use Rattle.conref_pull.specs.Rules.{ditavals}
+use Rattle.conref_targets.specs.Rules.{ditavals}
 use Rattle.dita_doc.specs.declared.plan.PagePlan.{PagePlan}
 use Rattle.dita_doc.specs.declared.plan.Plan.{Plan}
 use Rattle.map_spec.specs.Pages.{local_name}

@@ -8,7 +8,7 @@ use Rattle.dita_doc.specs.declared.plan.PagePlan.{PagePlan}
 use Rattle.dita_doc.specs.declared.plan.Plan.{Plan}
 use Rattle.html_spec.specs.Terms.{terms_html}
 use Rattle.map_spec.specs.Scopes.{places_from}
-use Rattle.map_spec.specs.Titles.{title_in}
+pub use Rattle.part_spec.specs.Parts.{titles_in}
 use Rattle.part_spec.specs.Parts.{clean_terms, page_content, page_titles, parts_of, rooms, terms_of_parts, terms_part, total_limit}
 use Rattle.reader_spec.specs.World.{World}
 use Rattle.readers.specs.Setting.{Setting}
@@ -47,9 +47,6 @@ page_of_build false world map val = None
 page_of_build true world map val = clean_terms world map val
 
 -- How it is made
-
-abbrev pub titles_in : World → List PagePlan → List (List ℕ)
-titles_in world pages = map (λ (page : PagePlan). title_in world page.id.doc []) pages
 
 abbrev pub documents_of : List PagePlan → List (List ℕ)
 documents_of pages = map (λ (page : PagePlan). page.id.doc) pages

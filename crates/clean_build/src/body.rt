@@ -5,8 +5,8 @@ ghost use Rattle.std.specs.Prelude.{◌≡◌, ◌++◌, ◌∷◌, ℕ, [], IfO
 ghost use Rattle.clean_build.specs.Bodies as bodies_spec;
 ghost use Rattle.clean_build.specs.Bodies.{AreKnown, IsBodyMade};
 ghost use Rattle.clean_build.specs.Tables.{made_for};
-ghost use Rattle.conref_pull.specs.Asking as asking_spec;
-ghost use Rattle.conref_pull.specs.Rules.{all_kept, ditavals};
+ghost use Rattle.conref_targets.specs.Asking as asking_spec;
+ghost use Rattle.conref_targets.specs.Rules.{all_kept, ditavals};
 ghost use Rattle.dita_doc.specs.declared.plan.PagePlan.{PagePlan};
 ghost use Rattle.flag_marks.specs.Marks as marks_spec;
 ghost use Rattle.html_spec.specs.Blocks as blocks_spec;

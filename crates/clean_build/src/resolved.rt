@@ -7,7 +7,7 @@ ghost use Rattle.clean_build.specs.Bodies.{content_of};
 ghost use Rattle.clean_build.specs.Ground.{IsReady, context_for};
 ghost use Rattle.clean_build.specs.Made as made_spec;
 ghost use Rattle.clean_build.specs.Names as names_spec;
-ghost use Rattle.conref_pull.specs.Asking as asking_spec;
+ghost use Rattle.conref_targets.specs.Asking as asking_spec;
 ghost use Rattle.conref_pull.specs.Resolved.{IsResolved};
 ghost use Rattle.conref_spec.specs.Content.{nothing_made};
 ghost use Rattle.map_spec.specs.PlanOf as plan_spec;
@@ -98,7 +98,7 @@ struct ContentWork<'p> {
 impl<'p> PlanWork for ContentWork<'p> {
     ghost use Rattle.clean_build.specs.Made as made_spec;
     ghost use Rattle.clean_build.specs.Names as names_spec;
-    ghost use Rattle.conref_pull.specs.Asking as asking_spec;
+    ghost use Rattle.conref_targets.specs.Asking as asking_spec;
 
     type Made = Resolved;
 

@@ -6,7 +6,7 @@ ghost use Rattle.clean_build.specs.Ground.{IsReady};
 ghost use Rattle.clean_build.specs.Names as names_spec;
 ghost use Rattle.clean_build.specs.Single as single_spec;
 ghost use Rattle.build_plan.specs.Documents as documents_spec;
-ghost use Rattle.conref_pull.specs.Asking as asking_spec;
+ghost use Rattle.conref_targets.specs.Asking as asking_spec;
 ghost use Rattle.dita_doc.specs.declared.plan.Plan as plan_declared;
 ghost use Rattle.map_spec.specs.PlanOf as plan_spec;
 ghost use Rattle.node_links.specs.NodeTable.{AreNodeLinks};
@@ -171,7 +171,7 @@ struct PartWork<'p> {
 
 impl<'p> PlanWork for PartWork<'p> {
     ghost use Rattle.clean_build.specs.Single as single_spec;
-    ghost use Rattle.conref_pull.specs.Asking as asking_spec;
+    ghost use Rattle.conref_targets.specs.Asking as asking_spec;
 
     type Made = Html;
 

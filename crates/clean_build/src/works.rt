@@ -6,8 +6,8 @@ ghost use Rattle.clean_build.specs.Made as made_spec;
 ghost use Rattle.clean_build.specs.Names as names_spec;
 ghost use Rattle.clean_build.specs.Bodies.{AreKnown, IsBodyMade};
 ghost use Rattle.clean_build.specs.Ground.{IsReady, context_for};
-ghost use Rattle.conref_pull.specs.Asking as asking_spec;
-ghost use Rattle.conref_pull.specs.Rules.{ditavals};
+ghost use Rattle.conref_targets.specs.Asking as asking_spec;
+ghost use Rattle.conref_targets.specs.Rules.{ditavals};
 ghost use Rattle.map_spec.specs.Titles.{title_in};
 ghost use Rattle.node_links.specs.NodeTable.{AreNodeLinks};
 ghost use Rattle.html_spec.specs.PageHtml as page_html_spec;
@@ -108,7 +108,7 @@ pub(crate) struct PageMade {
 impl<'p, 'b> PlanWork for PageWork<'p, 'b> {
     ghost use Rattle.clean_build.specs.Made as made_spec;
     ghost use Rattle.clean_build.specs.Names as names_spec;
-    ghost use Rattle.conref_pull.specs.Asking as asking_spec;
+    ghost use Rattle.conref_targets.specs.Asking as asking_spec;
 
     type Made = PageMade;
 

@@ -20,22 +20,23 @@ use Rattle.map_spec.specs.Written as written
 use Rattle.map_spec.specs.Written.{Element, Written, End, size}
 use Rattle.conref_spec.specs.Content as content
 use Rattle.conref_spec.specs.Content.{declared_around, depth_limit, is_place, path_limit, range_by, refused_by}
-use Rattle.conref_pull.specs.Accepting.{IsRangeEnd, IsUpTo, is_too_deep, link_of, refusal_by}
-use Rattle.conref_pull.specs.Found.{IsFound}
+use Rattle.conref_targets.specs.Ranges.{IsRangeEnd, IsUpTo}
+use Rattle.conref_targets.specs.Found.{IsFound}
+use Rattle.conref_targets.specs.Origin.{begins_element, first_whole, whole_of, whole_shown}
+use Rattle.conref_targets.specs.Parts.{IsPart, among_first}
+use Rattle.conref_targets.specs.Tables.{AreTables, Documents}
+use Rattle.conref_targets.specs.declared.find.Found.{Found}
+use Rattle.conref_targets.specs.declared.origin.Whole.{Whole}
+use Rattle.conref_targets.specs.declared.tables.PlaceTables.{PlaceTables}
+use Rattle.conref_targets.proofs.PartLaws.{size_named}
+use Rattle.conref_targets.proofs.RangeEndLaws.{end_there}
+use Rattle.conref_pull.specs.Accepting.{is_too_deep, link_of, refusal_by}
 use Rattle.conref_pull.specs.Linked.{IsLink, IsStep}
-use Rattle.conref_pull.specs.Origin.{begins_element, first_whole, whole_of, whole_shown}
-use Rattle.conref_pull.specs.Parts.{IsPart, among_first}
-use Rattle.conref_pull.specs.Setting.{place_shown}
+use Rattle.conref_pull.specs.State.{place_shown}
 use Rattle.conref_pull.specs.Step.{step_with, target_taken}
-use Rattle.conref_pull.specs.Tables.{AreTables, Documents}
 use Rattle.conref_pull.specs.declared.chain.Link.{Link}
-use Rattle.conref_pull.specs.declared.find.Found.{Found}
-use Rattle.conref_pull.specs.declared.origin.Whole.{Whole}
 use Rattle.conref_pull.specs.declared.place.Place as kept
 use Rattle.conref_pull.specs.declared.resolver.Resolver.{Resolver}
-use Rattle.conref_pull.specs.declared.tables.PlaceTables.{PlaceTables}
-use Rattle.conref_pull.proofs.PartLaws.{size_named}
-use Rattle.conref_pull.proofs.RangeEndLaws.{end_there}
 
 -- Paths
 
@@ -215,13 +216,6 @@ module _ (documents : Documents) (meant : content.Found) (found : Found) (is : I
       where
         size_is : size meant.standing.behind ≡ size_of is.stands.rest
         size_is = ap size is.stands.behind ∙ size_named (arc_value found.doc).origins is.stands.rest
-
--- the names that are declared around it, in a document that is the same
-pub around_as : (meant : content.Found) {nodes : Written} {place : ℕ} {names : List (List ℕ)} → nodes ≡ meant.nodes
-    → place ≡ meant.standing.place → names ≡ declared_around [] nodes place
-    → names ≡ declared_around [] meant.nodes meant.standing.place
-around_as meant {place = place} same at is = is ∙ ap (λ (all : Written). declared_around [] all place) same
-    ∙ ap (declared_around [] meant.nodes) at
 
 -- Steps
 

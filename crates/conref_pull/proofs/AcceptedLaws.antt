@@ -14,19 +14,20 @@ use Rattle.map_spec.specs.Elements.{attribute, fault_at, is_special}
 use Rattle.map_spec.specs.Written.{Element}
 use Rattle.conref_spec.specs.Content as content
 use Rattle.conref_spec.specs.Content.{declared_around, is_place, range_by, refused_by}
-use Rattle.conref_pull.specs.Accepting.{GoesOn, IsRangeEnd, IsUpTo, is_too_deep, link_of, place_of, refusal_by}
-use Rattle.conref_pull.specs.Found.{IsFound}
+use Rattle.conref_targets.specs.Ranges.{IsRangeEnd, IsUpTo}
+use Rattle.conref_targets.specs.Found.{IsFound}
+use Rattle.conref_targets.specs.Origin.{begins_element, first_whole, whole_of, whole_shown}
+use Rattle.conref_targets.specs.Parts.{IsPart}
+use Rattle.conref_targets.specs.Tables.{AreTables, Documents}
+use Rattle.conref_targets.specs.declared.find.Found.{Found}
+use Rattle.conref_targets.specs.declared.origin.Whole.{Whole}
+use Rattle.conref_targets.specs.declared.tables.PlaceTables.{PlaceTables}
+use Rattle.conref_pull.specs.Accepting.{GoesOn, is_too_deep, link_of, place_of, refusal_by}
 use Rattle.conref_pull.specs.Linked.{IsLink, IsStep}
-use Rattle.conref_pull.specs.Origin.{begins_element, first_whole, whole_of, whole_shown}
-use Rattle.conref_pull.specs.Parts.{IsPart}
-use Rattle.conref_pull.specs.Setting.{IsDepth, path_within, place_shown}
+use Rattle.conref_pull.specs.State.{IsDepth, path_within, place_shown}
 use Rattle.conref_pull.specs.Step.{Step, step_with, target_taken}
-use Rattle.conref_pull.specs.Tables.{AreTables, Documents}
 use Rattle.conref_pull.specs.declared.chain.Link.{Link}
-use Rattle.conref_pull.specs.declared.find.Found.{Found}
-use Rattle.conref_pull.specs.declared.origin.Whole.{Whole}
 use Rattle.conref_pull.specs.declared.resolver.Resolver.{Resolver}
-use Rattle.conref_pull.specs.declared.tables.PlaceTables.{PlaceTables}
 use Rattle.conref_pull.proofs.AcceptLaws.{count_within, deep_same, link_found, range_missing, range_there, refused_code, refused_none, refused_range, refused_type, step_refused, step_taken, target_found}
 
 module _ (documents : Documents) (meant : content.Found) (found : Found) (is : IsFound documents meant found)

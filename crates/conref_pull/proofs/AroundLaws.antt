@@ -14,21 +14,21 @@ use Rattle.doc_maker.proofs.BuildingLaws.{behind_end}
 use Rattle.map_spec.specs.Judged.{group_faults}
 use Rattle.map_spec.specs.Written.{Element, Written}
 use Rattle.conref_spec.specs.Content.{Around, Made, Setting, around_within, count_limit, declared_there, element_made, goes, made_with, merged_element, nothing_made, without_id}
+use Rattle.conref_targets.specs.Judging.{with_attributes}
+use Rattle.conref_targets.specs.Rules.{some_exclude}
 use Rattle.conref_pull.specs.Count.{OneMore}
-use Rattle.conref_pull.specs.Judging.{with_attributes}
 use Rattle.conref_pull.specs.Merging.{IsMerged}
 use Rattle.conref_pull.specs.Putting.{built, declared_put}
-use Rattle.conref_pull.specs.Rules.{some_exclude}
 use Rattle.reader_spec.specs.World.{World}
 use Rattle.readers.specs.Setting.{Stand}
-use Rattle.conref_pull.specs.Setting.{IsSamePage, path_within, place_shown}
-use Rattle.conref_pull.specs.Tables.{AreTables, Documents}
+use Rattle.conref_targets.specs.Tables.{AreTables, Documents}
+use Rattle.conref_targets.specs.declared.tables.PlaceTables.{PlaceTables}
+use Rattle.conref_pull.specs.State.{IsSamePage, path_within, place_shown}
 use Rattle.conref_pull.specs.Walking.{Here, IsReady, IsWalked, Walks, among_made, inside_of, merged_made, stays_made}
 use Rattle.conref_pull.specs.declared.merge.Merged.{Merged}
 use Rattle.conref_pull.specs.declared.place.Place as kept
 use Rattle.conref_pull.specs.declared.resolver.Resolver.{Resolver}
 use Rattle.conref_pull.specs.declared.resolver.TooMany.{TooMany}
-use Rattle.conref_pull.specs.declared.tables.PlaceTables.{PlaceTables}
 use Rattle.conref_pull.proofs.WalkLaws.{ready_inside, walks_as}
 
 -- the element that is opened, with the attributes that are left of it

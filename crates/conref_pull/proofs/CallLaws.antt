@@ -9,22 +9,21 @@ use Rattle.dita_doc.specs.declared.plan.Context.{Context}
 use Rattle.dita_doc.specs.declared.stop.Stop.{Stop}
 use Rattle.dita_doc.specs.declared.stop.Stop.TheVariants as stops
 use Rattle.doc_maker.specs.Building.{Building, behind, depth, nothing, whole}
-use Rattle.doc_maker.specs.Made.{resolved_tree}
 use Rattle.doc_maker.proofs.BuildingLaws.{whole_of_behind}
 use Rattle.map_spec.specs.Written.{Written, End}
 use Rattle.conref_spec.specs.Content as content
 use Rattle.conref_spec.specs.Content.{Around, Made, Setting, count_limit, depth_limit, nothing_made, page_root, resolved_in, resolved_page, within}
 use Rattle.reader_spec.specs.World.{World}
 use Rattle.readers.specs.Setting.{Stand}
-use Rattle.conref_pull.specs.Around.{alone_at, around_at, nothing_around}
+use Rattle.conref_targets.specs.Around.{alone_at, around_at, nothing_around}
+use Rattle.conref_targets.specs.Setting.{setting_of}
+use Rattle.conref_targets.specs.Tables.{AreTables, Documents}
+use Rattle.conref_targets.specs.declared.tables.PlaceTables.{PlaceTables}
 use Rattle.conref_pull.specs.Putting.{built, declared_put}
-use Rattle.conref_pull.specs.Resolved.{HasMemory, IsAll, IsDone, IsResolved, too_much}
-use Rattle.conref_pull.specs.Setting.{setting_of}
-use Rattle.conref_pull.specs.Tables.{AreTables, Documents}
+use Rattle.conref_pull.specs.Resolved.{HasMemory, IsDone, IsResolved, too_much}
 use Rattle.conref_pull.specs.Walking.{Here, IsReady, Walks, among_made}
 use Rattle.conref_pull.specs.declared.resolver.Resolver.{Resolver}
 use Rattle.conref_pull.specs.declared.resolver.TooMany.{TooMany}
-use Rattle.conref_pull.specs.declared.tables.PlaceTables.{PlaceTables}
 use Rattle.conref_pull.proofs.ElementLaws.{resolved_more}
 use Rattle.conref_pull.proofs.ResolvedLaws.{end_resolved}
 
@@ -40,19 +39,6 @@ pub within_not : (fault : List Fault) (made : Made) → count_limit < made.count
 within_not fault made full =
     let test : nat_le made.count count_limit ≡ false = grind (arith, nat_tests) in
     ap (λ (b : Bool). if b then made else too_much fault) (sym test)
-
-pub all_resolved : (fault : List Fault) (made : Made) (resolver : Resolver) (resolved : Resolved)
-    → IsAll made resolver → resolved_tree resolved ≡ whole (built resolver)
-    → resolved.declared ≡ declared_put resolver → resolved.count ≡ resolver.count
-    → resolved.faults ≡ resolver.faults → IsResolved resolved (within count_limit fault made)
-all_resolved fault made resolver resolved all nodes declared count faults =
-    subst (λ (m : Made). IsResolved resolved m) (within_room fault made all.room)
-    (record {
-      nodes = nodes ∙ all.nodes;
-      declared = declared ∙ all.declared;
-      count = count ∙ all.count;
-      faults = faults ∙ all.faults;
-    })
 
 pub full_resolved : (fault : List Fault) (made : Made) (resolved : Resolved) → count_limit < made.count
     → IsResolved resolved (too_much fault) → IsResolved resolved (within count_limit fault made)

@@ -14,18 +14,19 @@ use Rattle.conref_spec.specs.Content as content
 use Rattle.conref_spec.specs.Content.{Around, Followed, Made, Place, Setting, around_for, count_limit, followed, goes, has_reference, made_beside, made_with, merged_element, nothing_made, path_limit, sought_by}
 use Rattle.reader_spec.specs.World.{World}
 use Rattle.readers.specs.Setting.{Stand}
+use Rattle.conref_targets.specs.Setting.{documents_in, setting_of}
+use Rattle.conref_targets.specs.Sought.{if_reference, sought_found}
+use Rattle.conref_targets.specs.Tables.{AreTables, Documents}
+use Rattle.conref_targets.specs.declared.reference.Sought.{Sought}
+use Rattle.conref_targets.specs.declared.tables.PlaceTables.{PlaceTables}
 use Rattle.conref_pull.specs.Linked.{AreLinks, IsFollowed}
 use Rattle.conref_pull.specs.Putting.{built, declared_put}
-use Rattle.conref_pull.specs.Setting.{IsDepth, IsSamePage, documents_in, path_within, place_shown, setting_of}
-use Rattle.conref_pull.specs.Sought.{if_reference, sought_found}
+use Rattle.conref_pull.specs.State.{IsDepth, IsSamePage, path_within, place_shown}
 use Rattle.conref_pull.specs.Step.{Taken, declared_inside, followed_to_all, merged_onto}
-use Rattle.conref_pull.specs.Tables.{AreTables, Documents}
 use Rattle.conref_pull.specs.Walking.{Here, IsReady, IsWalked, Walks, kept_made, merged_made, ranges_put, whole_made}
 use Rattle.conref_pull.specs.declared.chain.Link.{Link}
-use Rattle.conref_pull.specs.declared.reference.Sought.{Sought}
 use Rattle.conref_pull.specs.declared.resolver.Resolver.{Resolver}
 use Rattle.conref_pull.specs.declared.resolver.TooMany.{TooMany}
-use Rattle.conref_pull.specs.declared.tables.PlaceTables.{PlaceTables}
 use Rattle.conref_pull.proofs.ElementLaws.{none_followed, whole_gone, whole_kept, whole_took}
 use Rattle.conref_pull.proofs.PutLaws.{put_nothing}
 use Rattle.conref_pull.proofs.TopicLaws.{took_types}
@@ -108,8 +109,12 @@ first_at path end one nearer (link ∷ items) linked = linked.1
 -- without a reference, the element is put as it is
 pub plain_walks : (result : Result (Unit {0}) (Stop TooMany)) (here : Here) (links : ℕ) (is_range : Bool)
     (around : Around) (element : Element) (inside : Written) (sought : Option Sought) (a b c : Resolver)
-    (after : PlaceTables) → b ≡ record a { faults = a.faults ++ group_faults (declared_by around.declared element.attributes) element }
-    → goes here.setting (declared_by around.declared element.attributes) element ≡ false → sought_found sought ≡ if_reference (sought_by element)
+    (after : PlaceTables) → b ≡ record a {
+      faults = a.faults ++ group_faults
+          (declared_by around.declared element.attributes) element;
+    }
+    → goes here.setting (declared_by around.declared element.attributes) element ≡ false
+    → sought_found sought ≡ if_reference (sought_by element)
     → is_some sought ≡ false
     → Walks result here.setting.pushed links
     (kept_made here is_range (around_for is_range element around) element inside) b c after
@@ -125,14 +130,19 @@ plain_walks result here links is_range around element inside sought a b c after 
 
 -- it goes
 pub gone_walked : (here : Here) (links : ℕ) (is_range : Bool) (around : Around) (element : Element) (inside : Written)
-    (a b : Resolver) (places : PlaceTables) → b ≡ record a { faults = a.faults ++ group_faults (declared_by around.declared element.attributes) element }
-    → goes here.setting (declared_by around.declared element.attributes) element ≡ true → path_within b links ≡ here.path → here.path ≡ path_within a links
+    (a b : Resolver) (places : PlaceTables) → b ≡ record a {
+      faults = a.faults ++ group_faults
+          (declared_by around.declared element.attributes) element;
+    }
+    → goes here.setting (declared_by around.declared element.attributes) element ≡ true
+    → path_within b links ≡ here.path → here.path ≡ path_within a links
     → links ≤ length b.path.items → b.count ≤ count_limit → AreTables here.setting.pushed places
     → IsWalked here.setting.pushed links (whole_made here is_range around element inside) a b places
 gone_walked here links is_range around element inside a b places judged gone after before within room tables =
     subst (λ (m : Made). IsWalked here.setting.pushed links m a b places)
     (whole_gone here is_range around element inside gone)
-    (walks_with (Ok tt) here.setting.pushed links (group_faults (declared_by around.declared element.attributes) element) nothing_made a b b places
+    (walks_with (Ok tt) here.setting.pushed links (group_faults
+    (declared_by around.declared element.attributes) element) nothing_made a b b places
     (judged_tells links (group_faults (declared_by around.declared element.attributes) element) a b judged)
     (record { put = put_nothing b b refl room; path = refl; within = within; tables = tables }))
 
@@ -152,10 +162,15 @@ not_none one same = cc
 
 module _ (here : Here) (links end : ℕ) (is_range : Bool) (around : Around) (element : Element) (inside : Written)
     (items : List Link) (a0 a b : Resolver) (places : PlaceTables)
-    (judged : a ≡ record a0 { faults = a0.faults ++ group_faults (declared_by around.declared element.attributes) element }) (left : goes here.setting (declared_by around.declared element.attributes) element ≡ false)
+    (judged : a ≡ record a0 {
+      faults = a0.faults ++ group_faults
+          (declared_by around.declared element.attributes) element;
+    })
+    (left : goes here.setting (declared_by around.declared element.attributes) element ≡ false)
     (path : here.path ≡ path_within a links)
     (follows : IsFollowed here.setting.pushed element inside
-    (followed here.setting (around_for is_range element around).topic here.depth here.path element inside) [] items links end a b
+    (followed here.setting (around_for is_range element around).topic here.depth here.path element inside) [] items
+    links end a b
     places) where
   abbrev shown : Around
   shown = around_for is_range element around
@@ -188,7 +203,8 @@ module _ (here : Here) (links end : ℕ) (is_range : Bool) (around : Around) (el
 
   path_is : followed here.setting shown.topic here.depth here.path element inside
       ≡ followed_to_all element inside here.path follows.faults follows.taken
-  path_is = follows.is ∙ ap (λ (p : List Place). followed_to_all element inside p follows.faults follows.taken) (sym path)
+  path_is = follows.is ∙ ap (λ (p : List Place). followed_to_all element inside p follows.faults follows.taken)
+      (sym path)
 
   pub kept_walks : (result : Result (Unit {0}) (Stop TooMany)) (c : Resolver) (after : PlaceTables) → end ≤ links
       → Walks result documents links (kept_made here is_range shown element inside) b c after
@@ -225,20 +241,23 @@ module _ (here : Here) (links end : ℕ) (is_range : Bool) (around : Around) (el
     linked = linked;
     count = count;
     is = is;
-    types = took_types here.setting shown.topic here.depth here.path element inside (ap (λ (f : Followed). f.has_taken) is);
+    types = took_types here.setting shown.topic here.depth here.path element inside
+        (ap (λ (f : Followed). f.has_taken) is);
   }
 
   pub took : links < end → end ≤ 32 → path_limit ≤ here.steps + links → Took
   took some limit steps =
       took_by follows.taken
-      (subst (λ (all : List Link). AreLinks (path_within b end) end follows.taken all) (sym follows.items) follows.linked)
+      (subst (λ (all : List Link). AreLinks (path_within b end) end follows.taken all)
+      (sym follows.items) follows.linked)
       follows.count path_is some (omega arith)
 
   pub took_ready : (world : World) (stand later : Stand) (before : PlaceTables) (t : Took)
       → IsReady world stand links here a before → IsSamePage a b → later ≡ stand → end ≤ 32
       → IsReady world later end (walk_there b end here t.steps) b places
   took_ready world stand later before t ready same is limit =
-      let next : IsReady world later links here b places = ready_with world stand later links here a b before places ready
+      let next : IsReady world later links here b places = ready_with world stand later links here a b before places
+      ready
       same is follows.kept (let room = follows.room in let count = follows.count in omega (arith, room, count))
       (ap depth (ap built follows.state)) (subst (λ n. n ≤ count_limit)
       (sym (ap (λ (r : Resolver). r.count) follows.state)) ready.room) follows.tables in
@@ -247,7 +266,8 @@ module _ (here : Here) (links end : ℕ) (is_range : Bool) (around : Around) (el
         path = refl;
         within = follows.room;
         limit = limit;
-        steps = (let more = t.more in let count = t.count in let before = ready.steps in omega (arith, more, count, before));
+        steps = (let more = t.more in let count = t.count in let before = ready.steps in omega
+            (arith, more, count, before));
         depth = next.depth;
         room = next.room;
         tables = next.tables;
@@ -256,7 +276,8 @@ module _ (here : Here) (links end : ℕ) (is_range : Bool) (around : Around) (el
   pub kept_ready : (world : World) (stand later : Stand) (before : PlaceTables)
       → IsReady world stand links here a before → IsSamePage a b → later ≡ stand
       → IsReady world later links here b places
-  kept_ready world stand later before ready same is = ready_with world stand later links here a b before places ready same
+  kept_ready world stand later before ready same is = ready_with world stand later links here a b before places ready
+      same
       is follows.kept (let room = follows.room in let count = follows.count in omega (arith, room, count))
       (ap depth (ap built follows.state)) (subst (λ n. n ≤ count_limit)
       (sym (ap (λ (r : Resolver). r.count) follows.state)) ready.room) follows.tables
@@ -275,9 +296,11 @@ module _ (here : Here) (links end : ℕ) (is_range : Bool) (around : Around) (el
       → Walks result documents links (whole_made here is_range around element inside) a0 d after
   took_all result d after t walked =
       walks_as result documents links _ _ a0 d after
-      (whole_took here is_range around element inside follows.faults t.farthest t.nearer (path_within b end) t.steps left
+      (whole_took here is_range around element inside follows.faults t.farthest t.nearer
+      (path_within b end) t.steps left
       (farthest_at t) t.more t.is)
-      (walks_with result documents links (group_faults (declared_by around.declared element.attributes) element) (made_with follows.faults
+      (walks_with result documents links (group_faults (declared_by around.declared element.attributes) element)
+      (made_with follows.faults
       (made_beside (merged_there t) (ranges_put here around (t.farthest ∷ t.nearer)))) a0 a d after
       (judged_tells links (group_faults (declared_by around.declared element.attributes) element) a0 a judged)
       (walks_with result documents links follows.faults
@@ -297,7 +320,8 @@ module _ (here : Here) (links end : ℕ) (is_range : Bool) (around : Around) (el
       → Walks result documents links (whole_made here is_range around element inside) a0 d after
   took_walks result c d between after t walked behind = took_all result d after t
       (walks_then result documents links (merged_there t) (ranges_put here around (t.farthest ∷ t.nearer)) b c d between
-      after (walked_within documents links end (merged_there t) b c between (within_end links end (t.farthest ∷ t.nearer) t.count) walked) behind)
+      after (walked_within documents links end (merged_there t) b c between
+      (within_end links end (t.farthest ∷ t.nearer) t.count) walked) behind)
 
   -- the element is too much
   pub took_not : (stop : Stop TooMany) (c : Resolver) (after : PlaceTables) (t : Took)
@@ -305,4 +329,5 @@ module _ (here : Here) (links end : ℕ) (is_range : Bool) (around : Around) (el
       → Walks (Err stop) documents links (whole_made here is_range around element inside) a0 c after
   took_not stop c after t walked = took_all (Err stop) c after t
       (walks_not stop documents links (merged_there t) (ranges_put here around (t.farthest ∷ t.nearer)) b c c after
-      (walks_within (Err stop) documents links end (merged_there t) b c after (within_end links end (t.farthest ∷ t.nearer) t.count) walked))
+      (walks_within (Err stop) documents links end (merged_there t) b c after
+      (within_end links end (t.farthest ∷ t.nearer) t.count) walked))

@@ -14,23 +14,24 @@ use Rattle.map_spec.specs.Written.{Element, Written}
 use Rattle.conref_spec.specs.Content.{Around, Place, Setting, around_for, followed, goes, merged_element, sought_by, topic_for}
 use Rattle.reader_spec.specs.World.{World}
 use Rattle.readers.specs.Setting.{Stand}
-use Rattle.conref_pull.specs.Asking.{element_around}
+use Rattle.conref_targets.specs.Asking.{element_around}
+use Rattle.conref_targets.specs.Origin.{named_content}
+use Rattle.conref_targets.specs.Rules.{some_exclude}
+use Rattle.conref_targets.specs.Setting.{documents_in, setting_of}
+use Rattle.conref_targets.specs.Sought.{if_reference, sought_found}
+use Rattle.conref_targets.specs.Tables.{AreTables}
+use Rattle.conref_targets.specs.declared.reference.Sought.{Sought}
+use Rattle.conref_targets.specs.declared.tables.PlaceTables.{PlaceTables}
+use Rattle.conref_targets.proofs.OriginLaws.{around_is}
 use Rattle.conref_pull.specs.Linked.{AreLinks, IsFollowed}
-use Rattle.conref_pull.specs.Origin.{named_content}
-use Rattle.conref_pull.specs.Rules.{some_exclude}
-use Rattle.conref_pull.specs.Setting.{IsDepth, IsSamePage, documents_in, path_within, setting_of}
-use Rattle.conref_pull.specs.Sought.{if_reference, sought_found}
+use Rattle.conref_pull.specs.State.{IsDepth, IsSamePage, path_within}
 use Rattle.conref_pull.specs.Step.{Taken, declared_inside, merged_onto}
-use Rattle.conref_pull.specs.Tables.{AreTables}
 use Rattle.conref_pull.specs.Walking.{Here, IsReady, IsWalked, Walks, kept_made, merged_made, ranges_put, seen_by, whole_made}
 use Rattle.conref_pull.specs.declared.chain.Link.{Link}
-use Rattle.conref_pull.specs.declared.reference.Sought.{Sought}
 use Rattle.conref_pull.specs.declared.resolver.Resolver.{Resolver}
 use Rattle.conref_pull.specs.declared.resolver.TooMany.{TooMany}
-use Rattle.conref_pull.specs.declared.tables.PlaceTables.{PlaceTables}
 use Rattle.conref_pull.proofs.AroundLaws.{goes_as}
 use Rattle.conref_pull.proofs.ChainLaws.{Took, asked_here, gone_walked, kept_ready, kept_walks, plain_walks, ready_judged, took, took_not, took_ready, took_walks, walk_there, within_end}
-use Rattle.conref_pull.proofs.OriginLaws.{around_is}
 use Rattle.conref_pull.proofs.WalkLaws.{ready_after, walked_within, walks_as, walks_err}
 
 -- It was judged: it goes, or has no reference

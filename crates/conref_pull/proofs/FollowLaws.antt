@@ -13,16 +13,17 @@ use Rattle.map_spec.specs.Written.{Element, Written}
 use Rattle.conref_spec.specs.Content.{Found, Place, Setting, Sought, followed_from, found_by, has_reference, sought_by, taken}
 use Rattle.reader_spec.specs.World.{World}
 use Rattle.readers.specs.Setting.{Stand}
+use Rattle.conref_targets.specs.Origin.{whole_of, whole_shown}
+use Rattle.conref_targets.specs.Setting.{setting_of}
+use Rattle.conref_targets.specs.Tables.{AreTables}
+use Rattle.conref_targets.specs.declared.origin.Whole.{Whole}
+use Rattle.conref_targets.specs.declared.tables.PlaceTables.{PlaceTables}
 use Rattle.conref_pull.specs.Linked.{IsFollowed, IsLink, IsLinked, IsPathAfter, IsStep}
-use Rattle.conref_pull.specs.Origin.{whole_of, whole_shown}
-use Rattle.conref_pull.specs.Setting.{IsSamePage, path_within, place_shown, setting_of}
+use Rattle.conref_pull.specs.State.{IsSamePage, path_within, place_shown}
 use Rattle.conref_pull.specs.Step.{Step, Taken, after_step, followed_to_all, step_of, step_to, step_with}
-use Rattle.conref_pull.specs.Tables.{AreTables}
 use Rattle.conref_pull.specs.declared.chain.Link.{Link}
-use Rattle.conref_pull.specs.declared.origin.Whole.{Whole}
 use Rattle.conref_pull.specs.declared.place.Place as kept
 use Rattle.conref_pull.specs.declared.resolver.Resolver.{Resolver}
-use Rattle.conref_pull.specs.declared.tables.PlaceTables.{PlaceTables}
 use Rattle.conref_pull.proofs.StepLaws.{follows, links_one_more, one_more}
 use Rattle.conref_pull.proofs.TakeLaws.{state_then}
 

@@ -12,7 +12,8 @@ use Rattle.readers.specs.Named.{linked_by, linked_in, name_joined}
 use Rattle.readers.specs.Told.{Told}
 use Rattle.readers.proofs.AmongLaws.{among_either}
 use Rattle.readers.proofs.GrowthLaws.{are_allowed_before}
-use Rattle.conref_pull.specs.Hrefs.{AreNamed, HasNamed, HaveNamed, HaveNamedIn}
+use Rattle.conref_targets.specs.Hrefs.{AreNamed, HasNamed, HaveNamed}
+use Rattle.conref_pull.specs.PutHrefs.{HaveNamedIn}
 
 -- What is put
 

@@ -10,7 +10,8 @@ use Rattle.doc_maker.specs.Building.{href_written}
 use Rattle.map_spec.specs.Written.{Element}
 use Rattle.conref_spec.specs.Content.{without_id}
 use Rattle.readers.specs.Told.{Told}
-use Rattle.conref_pull.specs.Hrefs.{AreNamed, HasNamed, MergedNamed}
+use Rattle.conref_targets.specs.Hrefs.{AreNamed, HasNamed}
+use Rattle.conref_pull.specs.PutHrefs.{MergedNamed}
 use Rattle.conref_pull.specs.Merging.{IsMerged, is_missing, is_taken, own_part, part_of, taking}
 use Rattle.conref_pull.specs.declared.merge.Merged.{Merged}
 

@@ -8,8 +8,9 @@ use Rattle.doc_maker.specs.declared.maker.DocMaker.{DocMaker}
 use Rattle.map_spec.specs.Written.{Element}
 use Rattle.conref_spec.specs.Content.{Made}
 use Rattle.readers.specs.Told.{Told}
+use Rattle.conref_targets.specs.Hrefs.{HasNamed, HaveNamed}
 use Rattle.conref_pull.specs.Count.{OneMore}
-use Rattle.conref_pull.specs.Hrefs.{HasNamed, HaveNamed, HaveNamedIn, PutNamed}
+use Rattle.conref_pull.specs.PutHrefs.{HaveNamedIn, PutNamed}
 use Rattle.conref_pull.specs.Putting.{IsPut, IsSameMaker, Puts, built}
 use Rattle.conref_pull.specs.declared.resolver.Resolver.{Resolver}
 use Rattle.conref_pull.specs.declared.resolver.TooMany.{TooMany}

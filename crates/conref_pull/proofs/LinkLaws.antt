@@ -1,5 +1,5 @@
 -- The target of a link.
-use Rattle.std.specs.Prelude.{◌≡◌, ℕ, true, List, [], ◌∷◌, Option, Some, None, Result, Ok, Err, IfOk, length, unwrap_or}
+use Rattle.std.specs.Prelude.{◌≡◌, ℕ, true, List, [], ◌∷◌, Option, Some, None, length, unwrap_or}
 use Rattle.std.specs.Arc.{arc_value}
 use Rattle.std.proofs.Common.{refl, sym, ap, subst, ◌∙◌, arith}
 use Rattle.dita_doc.specs.Tree.{Content, Element, tree_of}
@@ -7,14 +7,17 @@ use Rattle.dita_doc.specs.declared.doc.Doc.{Doc}
 use Rattle.ditaval_rules.specs.Domains.{declared_by}
 use Rattle.map_spec.specs.Written as written
 use Rattle.conref_spec.specs.Content.{Place}
+use Rattle.readers.specs.Named.{named_tree}
 use Rattle.readers.specs.Told.{Told}
-use Rattle.conref_pull.specs.Asking.{AreGivenTo}
-use Rattle.conref_pull.specs.Linked.{AreLinks, IsLink}
-use Rattle.conref_pull.specs.Origin.{begins_element, first_whole, whole_of, whole_shown}
-use Rattle.conref_pull.specs.Parts.{IsPart}
+use Rattle.readers.proofs.GivenLaws.{given_allowed_all}
+use Rattle.conref_targets.specs.Hrefs.{HaveNamed}
+use Rattle.conref_targets.specs.Origin.{begins_element, first_whole, whole_of, whole_shown}
+use Rattle.conref_targets.specs.Parts.{IsPart}
+use Rattle.conref_targets.specs.declared.origin.Whole.{Whole}
+use Rattle.conref_targets.proofs.HrefGivenLaws.{doc_named}
+use Rattle.conref_pull.specs.Linked.{AreGivenTo, AreLinks, IsGivenTo, IsLink}
 use Rattle.conref_pull.specs.Step.{Taken, declared_inside}
 use Rattle.conref_pull.specs.declared.chain.Link.{Link}
-use Rattle.conref_pull.specs.declared.origin.Whole.{Whole}
 
 -- it is the element that was taken, with what it holds
 pub link_whole : (tree : Doc) (link : Link) (one : Taken) (found : Option Whole) → tree ≡ arc_value link.doc
@@ -38,11 +41,6 @@ link_inside link one target own same is names =
     sym names ∙ ap (λ (around : List (List ℕ)). declared_by around target.node.now.attributes) is.declared
     ∙ ap (λ (w : written.Whole). declared_by one.around w.0.attributes) pair
 
-pub if_ok_as : {E : Type 0} {names same : List (List ℕ)} (result : Result (List (List ℕ)) E) → names ≡ same
-    → IfOk result (λ copies. copies ≡ names) → IfOk result (λ copies. copies ≡ same)
-if_ok_as (Ok copies) is made = made ∙ is
-if_ok_as (Err stop) is made = tt
-
 pub no_target : (one : Taken) → whole_shown None ≡ Some (one.element, one.inside) → ⊥
 no_target one same = cc
 
@@ -60,3 +58,9 @@ links_are path end taken same linked = subst (λ (all : List Link). AreLinks pat
 pub given_links : {some links : List Link} (told : List Told) → some ≡ links → AreGivenTo told links
     → AreGivenTo told some
 given_links told same given = subst (λ (all : List Link). AreGivenTo told all) (sym same) given
+
+-- answers name what its hrefs do
+pub link_named : (told : List Told) (link : Link) → IsGivenTo told link
+    → HaveNamed told (named_tree (arc_value link.doc))
+link_named told link given = doc_named told (arc_value link.doc)
+    (λ roots. given_allowed_all roots told (Some (named_tree (arc_value link.doc))) given)

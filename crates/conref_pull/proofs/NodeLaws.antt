@@ -13,17 +13,17 @@ use Rattle.map_spec.specs.Written as written
 use Rattle.map_spec.specs.Written.{Whole, Written}
 use Rattle.conref_spec.specs.Content.{Made}
 use Rattle.readers.specs.Named.{name_at, named}
-use Rattle.conref_pull.specs.Asking.{element_around}
-use Rattle.conref_pull.specs.Origin.{named_content}
-use Rattle.conref_pull.specs.Parts.{IsPart, has_first}
+use Rattle.conref_targets.specs.Asking.{element_around}
+use Rattle.conref_targets.specs.Origin.{named_content}
+use Rattle.conref_targets.specs.Parts.{IsPart, has_first, first_alone}
+use Rattle.conref_targets.specs.Tables.{AreTables, Documents}
+use Rattle.conref_targets.specs.declared.tables.PlaceTables.{PlaceTables}
+use Rattle.conref_targets.proofs.OriginLaws.{origin_there, whole_there}
+use Rattle.conref_targets.proofs.PartLaws.{element_node_there, element_there, no_element_there, text_there}
 use Rattle.conref_pull.specs.Putting.{Puts}
-use Rattle.conref_pull.specs.Tables.{AreTables, Documents}
-use Rattle.conref_pull.specs.Walking.{Walks, first_alone}
+use Rattle.conref_pull.specs.Walking.{Walks}
 use Rattle.conref_pull.specs.declared.resolver.Resolver.{Resolver}
 use Rattle.conref_pull.specs.declared.resolver.TooMany.{TooMany}
-use Rattle.conref_pull.specs.declared.tables.PlaceTables.{PlaceTables}
-use Rattle.conref_pull.proofs.OriginLaws.{origin_there, whole_there}
-use Rattle.conref_pull.proofs.PartLaws.{element_node_there, element_there, no_element_there, text_there}
 use Rattle.conref_pull.proofs.SiblingLaws.{put_walked}
 
 some_name : (found : Option (List ℕ)) → (found ≡ None → ⊥) → ◌≡◌ {A = Option (List ℕ)} (Some (unwrap_or found [])) found

@@ -12,16 +12,16 @@ use Rattle.map_spec.specs.Written.{Element, Whole, Written}
 use Rattle.conref_spec.specs.Content.{Around, Made, Setting, around_within, declared_there, merged_element, without_id}
 use Rattle.reader_spec.specs.World.{World}
 use Rattle.readers.specs.Setting.{Stand}
+use Rattle.conref_targets.specs.Judging.{with_attributes}
+use Rattle.conref_targets.specs.Rules.{some_exclude}
+use Rattle.conref_targets.specs.declared.tables.PlaceTables.{PlaceTables}
 use Rattle.conref_pull.specs.Count.{OneMore}
-use Rattle.conref_pull.specs.Judging.{with_attributes}
 use Rattle.conref_pull.specs.Merging.{IsMerged}
 use Rattle.conref_pull.specs.Putting.{built}
-use Rattle.conref_pull.specs.Rules.{some_exclude}
 use Rattle.conref_pull.specs.Walking.{Here, IsReady, IsWalked, Walks, among_made, inside_of, kept_made, merged_made}
 use Rattle.conref_pull.specs.declared.merge.Merged.{Merged}
 use Rattle.conref_pull.specs.declared.resolver.Resolver.{Resolver}
 use Rattle.conref_pull.specs.declared.resolver.TooMany.{TooMany}
-use Rattle.conref_pull.specs.declared.tables.PlaceTables.{PlaceTables}
 use Rattle.conref_pull.proofs.AroundLaws.{Counts, Opens, around_not, closes_by, counts_one, counts_room, element_put_as, merged_count, merged_goes, merged_not, merged_stays, opened_named, opens_by, page_judged, page_one, put_around, ready_opened}
 use Rattle.conref_pull.proofs.ChainLaws.{shown_inside}
 use Rattle.conref_pull.proofs.HrefHomeLaws.{kept_home, taken_home}

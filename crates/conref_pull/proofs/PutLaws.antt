@@ -8,7 +8,7 @@ use Rattle.map_spec.specs.Written.{Written}
 use Rattle.conref_spec.specs.Content.{Made, count_limit, made_beside, nothing_made}
 use Rattle.conref_pull.specs.Putting.{IsPut, IsSameMaker, built, declared_put}
 use Rattle.conref_pull.specs.declared.resolver.Resolver.{Resolver}
-use Rattle.conref_pull.proofs.SettingLaws.{paging}
+use Rattle.conref_pull.proofs.StateLaws.{paging}
 
 abbrev Names : Type 0
 Names = List (List (List ℕ))

@@ -6,13 +6,13 @@ use Rattle.std.proofs.Common.{sym, ap, subst}
 use Rattle.dita_doc.specs.declared.stop.Stop.{Stop}
 use Rattle.map_spec.specs.Written.{Element, Written, End, Chars, Node}
 use Rattle.conref_spec.specs.Content.{Around, Made, nothing_made, text_made}
+use Rattle.conref_targets.specs.Tables.{AreTables, Documents}
+use Rattle.conref_targets.specs.declared.tables.PlaceTables.{PlaceTables}
 use Rattle.conref_pull.specs.Putting.{IsPut}
-use Rattle.conref_pull.specs.Tables.{AreTables, Documents}
 use Rattle.conref_pull.specs.Walking.{Here, IsWalked, Walks, among_made, whole_made}
 use Rattle.conref_pull.specs.declared.place.Place as kept
 use Rattle.conref_pull.specs.declared.resolver.Resolver.{Resolver}
 use Rattle.conref_pull.specs.declared.resolver.TooMany.{TooMany}
-use Rattle.conref_pull.specs.declared.tables.PlaceTables.{PlaceTables}
 use Rattle.conref_pull.proofs.AroundLaws.{path_same}
 use Rattle.conref_pull.proofs.WalkLaws.{SoFar, so_far_as, so_far_end, so_far_more, so_far_stop}
 

@@ -14,18 +14,18 @@ use Rattle.conref_spec.specs.Content.{Around, Made, Place, count_limit, declared
 use Rattle.reader_spec.specs.World.{World}
 use Rattle.readers.specs.Named.{name_at, named}
 use Rattle.readers.specs.Setting.{Stand}
+use Rattle.conref_targets.specs.Parts.{IsPart, among_first, has_first, past, past_text, first_alone}
+use Rattle.conref_targets.specs.Tables.{AreTables}
+use Rattle.conref_targets.specs.declared.tables.PlaceTables.{PlaceTables}
+use Rattle.conref_targets.proofs.PartLaws.{element_node_there, size_named, text_there}
 use Rattle.conref_pull.specs.Linked.{AreLinks, IsLink}
-use Rattle.conref_pull.specs.Parts.{IsPart, among_first, has_first, past, past_text}
-use Rattle.conref_pull.specs.Setting.{path_within, place_shown}
+use Rattle.conref_pull.specs.State.{path_within, place_shown}
 use Rattle.conref_pull.specs.Step.{Taken}
-use Rattle.conref_pull.specs.Tables.{AreTables}
-use Rattle.conref_pull.specs.Walking.{Here, IsReady, IsWalked, Walks, among_made, first_alone, ranges_put, whole_made}
+use Rattle.conref_pull.specs.Walking.{Here, IsReady, IsWalked, Walks, among_made, ranges_put, whole_made}
 use Rattle.conref_pull.specs.declared.chain.Link.{Link}
 use Rattle.conref_pull.specs.declared.resolver.Resolver.{Resolver}
 use Rattle.conref_pull.specs.declared.resolver.TooMany.{TooMany}
-use Rattle.conref_pull.specs.declared.tables.PlaceTables.{PlaceTables}
 use Rattle.conref_pull.proofs.ElementLaws.{resolved_more}
-use Rattle.conref_pull.proofs.PartLaws.{element_node_there, size_named, text_there}
 use Rattle.conref_pull.proofs.PutLaws.{beside_nothing}
 use Rattle.conref_pull.proofs.ResolvedLaws.{ranges_first}
 use Rattle.conref_pull.proofs.WalkLaws.{SoFar, path_shorter, so_far_as, so_far_begin, so_far_end, so_far_more, so_far_stop, walked_within, walks_within}
@@ -116,7 +116,8 @@ module _ (doc : Doc) (here : Here) (links : ℕ) (is_range : Bool) (around : Aro
         fits = omega arith;
         forward = omega arith;
         split = ap (λ (test : Bool). among_made here is_range around (if test then written.End
-            else written.Chars text (name_at doc.origins origin) (among_first (to - place - 1) (named doc.origins rest))))
+            else written.Chars text (name_at doc.origins origin)
+            (among_first (to - place - 1) (named doc.origins rest))))
             (some_left place within)
             ∙ ap (λ n. made_beside one (among_made here is_range around (among_first n (named doc.origins rest)))) less
             ∙ ap (λ (m : Made). made_beside m (made_of rest (place + 1))) (sym (beside_nothing one));
@@ -181,7 +182,8 @@ pub range_begins : (doc : Doc) (link : Link) (one : Taken) (here : Here) (links 
     → Left doc here links is_range around link.to (among_made here is_range around one.range) old old places link.from
     link.from
 range_begins doc link one here links is_range around old places same is room within tables =
-    subst (λ (d : Doc). Left d here links is_range around link.to (among_made here is_range around one.range) old old places
+    subst (λ (d : Doc). Left d here links is_range around link.to
+    (among_made here is_range around one.range) old old places
     link.from link.from) (sym same)
     (record {
       rest = is.rest;
@@ -189,16 +191,19 @@ range_begins doc link one here links is_range around old places same is room wit
       fits = is.fits;
       far = omega arith;
       so_far = so_far_as here.setting.pushed links (among_made here is_range around one.range)
-          (among_made here is_range around (among_first (link.to - link.from) (named (arc_value link.doc).origins is.rest)))
+          (among_made here is_range around (among_first (link.to - link.from)
+          (named (arc_value link.doc).origins is.rest)))
           (among_made here is_range around one.range) old old places (ap (among_made here is_range around) is.range)
-          (so_far_begin here.setting.pushed links (among_made here is_range around one.range) old places room within tables);
+          (so_far_begin here.setting.pushed links (among_made here is_range around one.range) old places room within
+          tables);
     })
 
 -- The ranges behind the targets, the farthest first
 
 module _ (here : Here) (links : ℕ) (around : Around) (path : List Place) where
   -- those of these targets are left, within so many
-  pub record Behind (items : List Link) (all : Made) (old new : Resolver) (places : PlaceTables) (count index : ℕ) : Type 0
+  pub record Behind (items : List Link) (all : Made) (old new : Resolver) (places : PlaceTables)
+      (count index : ℕ) : Type 0
     where
       pub taken : List Taken
       pub linked : AreLinks path count taken (drop index items)
@@ -250,7 +255,8 @@ module _ (here : Here) (links : ℕ) (around : Around) (path : List Place) where
       record { one = one; others = taken; all = refl; is = linked.0; at = linked.1; linked = linked.2 }
 
   pub nearest : (items : List Link) (all : Made) (old new : Resolver) (places : PlaceTables) (count index : ℕ)
-      (link : Link) (left : Behind items all old new places count index) → drop index items ≡ link ∷ drop (index + 1) items
+      (link : Link) (left : Behind items all old new places count index) → drop index items ≡ link ∷ drop
+      (index + 1) items
       → Nearest link count left.taken (drop (index + 1) items)
   nearest items all old new places count index link left is = nearest_by left.taken count link (drop (index + 1) items)
       (subst (λ (some : List Link). AreLinks path count left.taken some) is left.linked)
@@ -262,7 +268,8 @@ module _ (here : Here) (links : ℕ) (around : Around) (path : List Place) where
   first_range : (steps count : ℕ) (one : Taken) (others taken : List Taken) → here.steps ≡ suc steps
       → one.path ≡ take count path → taken ≡ one ∷ others
       → ranges_put here around taken
-      ≡ made_beside (among_made (there steps count) true (declared_there one.around around) one.range) (ranges_put here around others)
+      ≡ made_beside (among_made (there steps count) true (declared_there one.around around) one.range)
+      (ranges_put here around others)
   first_range steps count one others taken more at is =
       ap (ranges_put here around) is ∙ ranges_first here.steps here.setting around here.depth one others
       ∙ ap (λ (m : Made). made_beside m (ranges_put here around others))
@@ -274,13 +281,16 @@ module _ (here : Here) (links : ℕ) (around : Around) (path : List Place) where
   pub behind_step : (items : List Link) (all : Made) (old mid new : Resolver) (places after : PlaceTables)
       (count index steps : ℕ) (link : Link) (left : Behind items all old mid places count index)
       (near : Nearest link count left.taken (drop (index + 1) items)) → here.steps ≡ suc steps → links < count
-      → IsWalked here.setting.pushed count (among_made (there steps count) true (declared_there near.one.around around) near.one.range) mid new after
+      → IsWalked here.setting.pushed count (among_made (there steps count) true
+      (declared_there near.one.around around) near.one.range) mid new after
       → Behind items all old new after (count - 1) (index + 1)
   behind_step items all old mid new places after count index steps link left near more some walked =
       let size : length left.taken ≡ suc (length near.others) = ap length near.all in
       let is = left.count_is in
-      let less : IsWalked here.setting.pushed links (among_made (there steps count) true (declared_there near.one.around around) near.one.range) mid new after =
-      walked_within here.setting.pushed links count (among_made (there steps count) true (declared_there near.one.around around) near.one.range) mid new after
+      let less : IsWalked here.setting.pushed links (among_made (there steps count) true
+      (declared_there near.one.around around) near.one.range) mid new after =
+      walked_within here.setting.pushed links count (among_made (there steps count) true
+      (declared_there near.one.around around) near.one.range) mid new after
       (omega arith) walked in
       record {
         taken = near.others;
@@ -291,10 +301,12 @@ module _ (here : Here) (links : ℕ) (around : Around) (path : List Place) where
             ∙ ap (take (count - 1)) left.kept ∙ take-take (count - 1) count path (omega arith);
         within = (let far = walked.within in omega (arith, far));
         limit = (let limit = left.limit in omega (arith, limit));
-        so_far = so_far_more here.setting.pushed links (among_made (there steps count) true (declared_there near.one.around around) near.one.range)
+        so_far = so_far_more here.setting.pushed links (among_made (there steps count) true
+            (declared_there near.one.around around) near.one.range)
             (ranges_put here around near.others) all old mid new places after
             (so_far_as here.setting.pushed links (ranges_put here around left.taken)
-            (made_beside (among_made (there steps count) true (declared_there near.one.around around) near.one.range) (ranges_put here around near.others)) all
+            (made_beside (among_made (there steps count) true (declared_there near.one.around around) near.one.range)
+            (ranges_put here around near.others)) all
             old mid places (first_range steps count near.one near.others left.taken more near.at near.all) left.so_far)
             less;
       }
@@ -303,16 +315,20 @@ module _ (here : Here) (links : ℕ) (around : Around) (path : List Place) where
       (places after : PlaceTables) (count index steps : ℕ) (link : Link)
       (left : Behind items all old mid places count index)
       (near : Nearest link count left.taken (drop (index + 1) items)) → here.steps ≡ suc steps → links < count
-      → Walks (Err stop) here.setting.pushed count (among_made (there steps count) true (declared_there near.one.around around) near.one.range) mid new after
+      → Walks (Err stop) here.setting.pushed count (among_made (there steps count) true
+      (declared_there near.one.around around) near.one.range) mid new after
       → Walks (Err stop) here.setting.pushed links all old new after
   behind_stop stop items all old mid new places after count index steps link left near more some walked =
-      so_far_stop stop here.setting.pushed links (among_made (there steps count) true (declared_there near.one.around around) near.one.range)
+      so_far_stop stop here.setting.pushed links (among_made (there steps count) true
+      (declared_there near.one.around around) near.one.range)
       (ranges_put here around near.others) all old mid new places after
       (so_far_as here.setting.pushed links (ranges_put here around left.taken)
-      (made_beside (among_made (there steps count) true (declared_there near.one.around around) near.one.range) (ranges_put here around near.others)) all
+      (made_beside (among_made (there steps count) true (declared_there near.one.around around) near.one.range)
+      (ranges_put here around near.others)) all
       old mid places (first_range steps count near.one near.others left.taken more near.at near.all) left.so_far)
       (walks_within (Err stop) here.setting.pushed links count
-      (among_made (there steps count) true (declared_there near.one.around around) near.one.range) mid new after (omega arith) walked)
+      (among_made (there steps count) true (declared_there near.one.around around) near.one.range) mid new after
+      (omega arith) walked)
 
   -- the page is ready for the range behind one of them
   pub behind_ready : (world : World) (stand : Stand) (items : List Link) (all : Made) (old mid : Resolver)
@@ -331,7 +347,8 @@ module _ (here : Here) (links : ℕ) (around : Around) (path : List Place) where
   }
 
 -- one step is left where one more target was taken
-pub steps_left : (steps links count : ℕ) → 32 ≤ steps + links → links < count → count ≤ 32 → (less : ℕ) × (steps ≡ suc less)
+pub steps_left : (steps links count : ℕ) → 32 ≤ steps + links → links < count → count ≤ 32 → (less : ℕ) ×
+    (steps ≡ suc less)
 steps_left zero links count enough some limit = absurd (omega arith)
 steps_left (suc less) links count enough some limit = (less, refl)
 

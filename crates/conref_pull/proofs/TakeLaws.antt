@@ -11,18 +11,19 @@ use Rattle.doc_maker.specs.declared.maker.DocMaker.{DocMaker}
 use Rattle.map_spec.specs.Written.{Element}
 use Rattle.conref_spec.specs.Content as content
 use Rattle.conref_spec.specs.Content.{Place, Setting, Sought, found_by, has_reference, key_faults, missing_fault, refused_by, sought_by, value_used}
-use Rattle.conref_pull.specs.Found.{AreFound, IsFound, IsSought, search_faults}
+use Rattle.conref_targets.specs.Found.{AreFound, IsFound, search_faults}
+use Rattle.conref_targets.specs.Sought.{if_reference, sought_found}
+use Rattle.conref_targets.specs.Tables.{AreTables}
+use Rattle.conref_targets.specs.declared.find.Found.{Found}
+use Rattle.conref_targets.specs.declared.reference.Sought as seen
+use Rattle.conref_targets.specs.declared.tables.PlaceTables.{PlaceTables}
+use Rattle.conref_pull.specs.Seeking.{IsSought}
 use Rattle.conref_pull.specs.Linked.{IsStep}
-use Rattle.conref_pull.specs.Setting.{IsDepth, path_within, place_shown}
-use Rattle.conref_pull.specs.Sought.{if_reference, sought_found}
+use Rattle.conref_pull.specs.State.{IsDepth, path_within, place_shown}
 use Rattle.conref_pull.specs.Step.{Step, step_of, step_to, step_with}
-use Rattle.conref_pull.specs.Tables.{AreTables}
 use Rattle.conref_pull.specs.declared.chain.Link.{Link}
-use Rattle.conref_pull.specs.declared.find.Found.{Found}
 use Rattle.conref_pull.specs.declared.place.Place as kept
-use Rattle.conref_pull.specs.declared.reference.Sought as seen
 use Rattle.conref_pull.specs.declared.resolver.Resolver.{Resolver}
-use Rattle.conref_pull.specs.declared.tables.PlaceTables.{PlaceTables}
 
 -- The state, when only faults and the path change
 

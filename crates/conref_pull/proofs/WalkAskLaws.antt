@@ -19,21 +19,24 @@ use Rattle.readers.specs.Setting.{Stand}
 use Rattle.readers.specs.Told.{Told}
 pub use Rattle.readers.proofs.GivenLaws.{given_later}
 pub use Rattle.readers.proofs.GrowthLaws.{agrees_before, grows_same, grows_trans}
-use Rattle.conref_pull.specs.Asking.{AreAmong, AreGiven, AreGivenTo, Asks, IsGivenTo, reused_of_doc, reused_of_node, reused_of_whole}
+use Rattle.conref_targets.specs.Asking.{AreAmong, AreGiven, Asks, reused_of_doc, reused_of_node, reused_of_whole}
+use Rattle.conref_targets.specs.Origin.{named_content}
+use Rattle.conref_targets.specs.declared.origin.Whole.{Whole}
+use Rattle.conref_targets.proofs.AskingLaws.{about_call, about_next, about_part, given_reused, whole_inside}
+pub use Rattle.conref_targets.proofs.AskingLaws.{about_same, among_same, given_some, none_among}
+pub use Rattle.conref_targets.proofs.OriginLaws.{among_then, inside_among, node_reused, origin_there}
+use Rattle.conref_targets.proofs.OriginLaws.{origin_among}
+use Rattle.conref_pull.specs.Linked.{AreGivenTo, IsGivenTo}
 use Rattle.conref_pull.specs.Count.{OneMore}
-use Rattle.conref_pull.specs.Origin.{named_content}
-use Rattle.conref_pull.specs.Setting.{IsSamePage}
+use Rattle.conref_pull.specs.State.{IsSamePage}
 use Rattle.conref_pull.specs.declared.chain.Link.{Link}
-use Rattle.conref_pull.specs.declared.origin.Whole.{Whole}
 use Rattle.conref_pull.specs.declared.resolver.Resolver.{Resolver}
 use Rattle.conref_pull.specs.declared.resolver.TooMany.{TooMany}
 pub use Rattle.conref_pull.proofs.AroundLaws.{page_judged, page_one}
-use Rattle.conref_pull.proofs.AskingLaws.{about_call, about_next, about_part, given_reused, link_given, whole_inside}
-pub use Rattle.conref_pull.proofs.AskingLaws.{about_same, among_same, given_some, links_later, none_among}
+use Rattle.conref_pull.proofs.LinkAskLaws.{link_given}
+pub use Rattle.conref_pull.proofs.LinkAskLaws.{links_later}
 use Rattle.conref_pull.proofs.LinkLaws.{given_links}
-pub use Rattle.conref_pull.proofs.OriginLaws.{among_then, inside_among, node_reused, origin_there}
-use Rattle.conref_pull.proofs.OriginLaws.{origin_among}
-pub use Rattle.conref_pull.proofs.SettingLaws.{page_faults, page_same, page_then}
+pub use Rattle.conref_pull.proofs.StateLaws.{page_faults, page_same, page_then}
 
 -- the page is the same behind a call, as it was before it
 pub page_on : {a b : Resolver} (result : Result (Unit {0}) (Stop TooMany)) (c : Resolver) → IsSamePage a b

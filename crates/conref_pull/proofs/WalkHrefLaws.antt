@@ -16,20 +16,22 @@ use Rattle.conref_spec.specs.Content.{text_made, without_id}
 use Rattle.readers.specs.Founded.{Grows}
 use Rattle.readers.specs.Named.{name_at, named_tree}
 use Rattle.readers.specs.Told.{Told}
-use Rattle.conref_pull.specs.Asking.{IsGivenTo, element_around}
+use Rattle.conref_targets.specs.Asking.{element_around}
+use Rattle.conref_targets.specs.Hrefs.{AreNamed, HasNamed, HaveNamed}
+use Rattle.conref_targets.specs.Origin.{named_content}
+use Rattle.conref_targets.proofs.HrefDocLaws.{inside_named, node_named, parts_named}
+pub use Rattle.conref_targets.proofs.HrefDocLaws.{origin_named}
+use Rattle.conref_pull.specs.Linked.{IsGivenTo}
 use Rattle.conref_pull.specs.Count.{OneMore}
-use Rattle.conref_pull.specs.Hrefs.{AreNamed, MergedNamed, HasNamed, HaveNamed, HaveNamedIn, PutNamed}
+use Rattle.conref_pull.specs.PutHrefs.{MergedNamed, HaveNamedIn, PutNamed}
 use Rattle.conref_pull.specs.Merging.{IsMerged}
-use Rattle.conref_pull.specs.Origin.{named_content}
 use Rattle.conref_pull.specs.Putting.{IsSameMaker, Puts, built}
 use Rattle.conref_pull.specs.declared.chain.Link.{Link}
 use Rattle.conref_pull.specs.declared.merge.Merged.{Merged}
 use Rattle.conref_pull.specs.declared.resolver.Resolver.{Resolver}
 use Rattle.conref_pull.specs.declared.resolver.TooMany.{TooMany}
 use Rattle.conref_pull.proofs.AroundLaws.{home_kept}
-use Rattle.conref_pull.proofs.HrefDocLaws.{inside_named, node_named, parts_named}
-pub use Rattle.conref_pull.proofs.HrefDocLaws.{origin_named}
-use Rattle.conref_pull.proofs.HrefGivenLaws.{link_named}
+use Rattle.conref_pull.proofs.LinkLaws.{link_named}
 use Rattle.conref_pull.proofs.HrefLaws.{building_later, element_later}
 pub use Rattle.conref_pull.proofs.HrefLaws.{nodes_later}
 use Rattle.conref_pull.proofs.HrefMergeLaws.{by_element, home_named, is_shown, shown, without_id_named}

@@ -17,14 +17,15 @@ use Rattle.map_spec.specs.Written.{Element, Written}
 use Rattle.conref_spec.specs.Content.{Made, count_limit, depth_limit, made_beside, made_with, nothing_made}
 use Rattle.reader_spec.specs.World.{World}
 use Rattle.readers.specs.Setting.{Stand}
+use Rattle.conref_targets.specs.Setting.{setting_of}
+use Rattle.conref_targets.specs.Tables.{AreTables, Documents}
+use Rattle.conref_targets.specs.declared.tables.PlaceTables.{PlaceTables}
 use Rattle.conref_pull.specs.Putting.{built, declared_put}
-use Rattle.conref_pull.specs.Setting.{IsDepth, IsSamePage, path_within, place_shown, setting_of}
-use Rattle.conref_pull.specs.Tables.{AreTables, Documents}
+use Rattle.conref_pull.specs.State.{IsDepth, IsSamePage, path_within, place_shown}
 use Rattle.conref_pull.specs.Walking.{Here, IsReady, IsWalked, StandsDeep, Walks, inside_of, seen_by}
 use Rattle.conref_pull.specs.declared.place.Place as kept
 use Rattle.conref_pull.specs.declared.resolver.Resolver.{Resolver}
 use Rattle.conref_pull.specs.declared.resolver.TooMany.{TooMany}
-use Rattle.conref_pull.specs.declared.tables.PlaceTables.{PlaceTables}
 use Rattle.conref_pull.proofs.PutLaws.{nothing_beside, beside_nothing, put_nothing, put_then}
 
 -- what is around nodes, seen otherwise

@@ -12,22 +12,22 @@ use Rattle.conref_spec.specs.Content.{Around, Made, Place, declared_there}
 use Rattle.reader_spec.specs.World.{World}
 use Rattle.readers.specs.Named.{named, reused_in}
 use Rattle.readers.specs.Setting.{Stand}
-use Rattle.conref_pull.specs.Asking.{AreAmong, element_around, reused_of_node}
+use Rattle.conref_targets.specs.Asking.{AreAmong, element_around, reused_of_node}
+use Rattle.conref_targets.specs.Origin.{named_content}
+use Rattle.conref_targets.specs.Parts.{IsPart, has_first, first_alone}
+use Rattle.conref_targets.specs.declared.tables.PlaceTables.{PlaceTables}
 use Rattle.conref_pull.specs.Linked.{AreLinks, IsLink}
-use Rattle.conref_pull.specs.Origin.{named_content}
-use Rattle.conref_pull.specs.Parts.{IsPart, has_first}
-use Rattle.conref_pull.specs.Setting.{IsSamePage, path_within}
+use Rattle.conref_pull.specs.State.{IsSamePage, path_within}
 use Rattle.conref_pull.specs.Step.{Taken}
-use Rattle.conref_pull.specs.Walking.{Here, IsReady, IsWalked, Walks, among_made, first_alone, ranges_put, whole_made}
+use Rattle.conref_pull.specs.Walking.{Here, IsReady, IsWalked, Walks, among_made, ranges_put, whole_made}
 use Rattle.conref_pull.specs.declared.chain.Link.{Link}
 use Rattle.conref_pull.specs.declared.resolver.Resolver.{Resolver}
 use Rattle.conref_pull.specs.declared.resolver.TooMany.{TooMany}
-use Rattle.conref_pull.specs.declared.tables.PlaceTables.{PlaceTables}
 pub use Rattle.conref_pull.proofs.ChainLaws.{not_none}
 pub use Rattle.std.proofs.lemmas.List.{drop_all}
+use Rattle.conref_targets.proofs.OriginLaws.{among_then, first_among, rest_among, split_is}
 pub use Rattle.conref_pull.proofs.LinkLaws.{given_links, links_are}
 pub use Rattle.conref_pull.proofs.NodeLaws.{node_none, some_node}
-use Rattle.conref_pull.proofs.OriginLaws.{among_then, first_among, rest_among, split_is}
 use Rattle.conref_pull.proofs.SiblingLaws.{element_next, element_stops}
 use Rattle.conref_pull.proofs.SpanLaws.{Behind, Left, Nearest, behind_all, behind_begins, behind_none, behind_ready, behind_step, behind_stop, left_missing, left_none, left_some, left_step, left_stop, nearest, next_link, range_begins, steps_left, there}
 pub use Rattle.conref_pull.proofs.SizeLaws.{element_smaller, siblings_smaller}

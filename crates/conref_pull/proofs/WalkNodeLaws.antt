@@ -12,20 +12,21 @@ use Rattle.reader_spec.specs.World.{World}
 use Rattle.readers.specs.Named.{name_at, named, reused_in}
 use Rattle.readers.specs.Setting.{Stand}
 use Rattle.readers.specs.Told.{Told}
-use Rattle.conref_pull.specs.Asking.{AreAmong, element_around}
-use Rattle.conref_pull.specs.Hrefs.{HaveNamed, PutNamed}
-use Rattle.conref_pull.specs.Origin.{named_content}
-use Rattle.conref_pull.specs.Parts.{IsPart, has_first}
+use Rattle.conref_targets.specs.Asking.{AreAmong, element_around}
+use Rattle.conref_targets.specs.Hrefs.{HaveNamed}
+use Rattle.conref_targets.specs.Origin.{named_content}
+use Rattle.conref_targets.specs.Parts.{IsPart, has_first, first_alone}
+use Rattle.conref_targets.specs.declared.tables.PlaceTables.{PlaceTables}
+use Rattle.conref_targets.proofs.HrefDocLaws.{behind_text_named}
+use Rattle.conref_targets.proofs.OriginLaws.{text_among, text_is}
+use Rattle.conref_pull.specs.PutHrefs.{PutNamed}
 use Rattle.conref_pull.specs.Putting.{IsPut, Puts}
-use Rattle.conref_pull.specs.Walking.{Here, IsReady, IsWalked, Walks, among_made, first_alone, whole_made}
+use Rattle.conref_pull.specs.Walking.{Here, IsReady, IsWalked, Walks, among_made, whole_made}
 use Rattle.conref_pull.specs.declared.resolver.Resolver.{Resolver}
 use Rattle.conref_pull.specs.declared.resolver.TooMany.{TooMany}
-use Rattle.conref_pull.specs.declared.tables.PlaceTables.{PlaceTables}
 use Rattle.conref_pull.proofs.ElementLaws.{alone_element, alone_text}
-use Rattle.conref_pull.proofs.HrefDocLaws.{behind_text_named}
 use Rattle.conref_pull.proofs.HrefWalkLaws.{more_put}
 use Rattle.conref_pull.proofs.NodeLaws.{node_element, node_text, puts_walks}
-use Rattle.conref_pull.proofs.OriginLaws.{text_among, text_is}
 use Rattle.conref_pull.proofs.PutLaws.{put_nothing}
 use Rattle.conref_pull.proofs.SiblingLaws.{none_next, text_next}
 use Rattle.conref_pull.proofs.WalkLaws.{SoFar, so_far_begin, walks_as}

@@ -1,13 +1,11 @@
--- Whether a target can be taken (own): within the targets that are being resolved, and with the range behind it.
-use Rattle.std.specs.Prelude.{◌≡◌, ◌+◌, ◌-◌, ◌||◌, ◌≤◌, ℕ, Bool, List, [], ◌∷◌, ◌++◌, Option, Some, None, map, nat_le, take, if◌then◌else◌}
+-- Whether a target can be taken within the targets that are being resolved, and how they go on with it (own).
+use Rattle.std.specs.Prelude.{◌≡◌, ◌||◌, ℕ, Bool, List, [], ◌∷◌, ◌++◌, Option, Some, None, map, nat_le, take, if◌then◌else◌}
 use Rattle.dita_doc.specs.declared.fault.FaultCode.{FaultCode}
 use Rattle.dita_doc.specs.declared.fault.FaultCode.TheVariants as faults
-use Rattle.map_spec.specs.Written.{Written, size}
 use Rattle.conref_spec.specs.Content.{Place, is_place, path_limit}
-use Rattle.conref_pull.specs.Parts.{among_first}
-use Rattle.conref_pull.specs.Setting.{place_shown}
+use Rattle.conref_targets.specs.declared.find.Found.{Found}
+use Rattle.conref_pull.specs.State.{place_shown}
 use Rattle.conref_pull.specs.declared.chain.Link.{Link}
-use Rattle.conref_pull.specs.declared.find.Found.{Found}
 use Rattle.conref_pull.specs.declared.place.Place as kept
 
 abbrev pub place_of : Found → Place
@@ -33,16 +31,3 @@ link_of found declared from to =
 -- a path goes on with the target, behind its first so many
 abbrev pub GoesOn : List kept.Place → List kept.Place → Found → ℕ → Type 0
 GoesOn old new found links = map place_shown new ≡ take links (map place_shown old) ++ place_of found ∷ []
-
--- the range goes from one place up to another, among what stands behind
-pub record IsUpTo (from : ℕ) (behind meant : Written) (to : ℕ) : Type 0 where
-  pub forward : from ≤ to
-  pub fits : to ≤ from + size behind
-  pub range : meant ≡ among_first (to - from) behind
-
--- where a range ends, if it has an end
-abbrev pub IsRangeEnd : ℕ → Written → Option Written → Option ℕ → Type 0
-IsRangeEnd from behind None None = Unit {0}
-IsRangeEnd from behind None (Some to) = ⊥
-IsRangeEnd from behind (Some meant) None = ⊥
-IsRangeEnd from behind (Some meant) (Some to) = IsUpTo from behind meant to

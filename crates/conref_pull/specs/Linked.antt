@@ -7,15 +7,17 @@ use Rattle.dita_doc.specs.declared.doc.Attribute.{Attribute}
 use Rattle.dita_doc.specs.declared.fault.Fault.{Fault}
 use Rattle.map_spec.specs.Written.{Element, Written}
 use Rattle.conref_spec.specs.Content.{Followed, Place}
-use Rattle.readers.specs.Named.{named}
-use Rattle.conref_pull.specs.Origin.{first_whole}
-use Rattle.conref_pull.specs.Parts.{IsPart, among_first}
-use Rattle.conref_pull.specs.Setting.{path_within, place_shown}
+use Rattle.readers.specs.Documents.{IsGiven}
+use Rattle.readers.specs.Named.{named, named_tree}
+use Rattle.readers.specs.Told.{Told}
+use Rattle.conref_targets.specs.Origin.{first_whole}
+use Rattle.conref_targets.specs.Parts.{IsPart, among_first}
+use Rattle.conref_targets.specs.Tables.{AreTables, Documents}
+use Rattle.conref_targets.specs.declared.tables.PlaceTables.{PlaceTables}
+use Rattle.conref_pull.specs.State.{path_within, place_shown}
 use Rattle.conref_pull.specs.Step.{Step, Taken, followed_to_all}
-use Rattle.conref_pull.specs.Tables.{AreTables, Documents}
 use Rattle.conref_pull.specs.declared.chain.Link.{Link}
 use Rattle.conref_pull.specs.declared.resolver.Resolver.{Resolver}
-use Rattle.conref_pull.specs.declared.tables.PlaceTables.{PlaceTables}
 
 -- this target was taken: the element stands at the place of the link, these names are declared around it, and its range goes
 -- from one place to the other
@@ -77,3 +79,15 @@ pub record IsFollowed (documents : Documents) (element : Element) (inside : Writ
   pub kept : path_within new links ≡ path_within old links
   pub room : end ≤ length new.path.items
   pub tables : AreTables documents places
+
+-- answers name all that the documents of targets name
+abbrev pub IsGivenTo : List Told → Link → Type 0
+IsGivenTo told link = IsGiven told (Some (named_tree (arc_value link.doc)))
+
+abbrev pub IsGivenIf : List Told → Option Link → Type 0
+IsGivenIf told None = Unit {0}
+IsGivenIf told (Some link) = IsGivenTo told link
+
+abbrev pub AreGivenTo : List Told → List Link → Type 0
+AreGivenTo told [] = Unit {0}
+AreGivenTo told (link ∷ links) = IsGivenTo told link × AreGivenTo told links

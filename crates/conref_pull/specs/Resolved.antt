@@ -14,10 +14,10 @@ use Rattle.map_spec.specs.Written.{Whole, End, document, first_sibling}
 use Rattle.conref_spec.specs.Content.{Made, count_limit, page_root, resolved_in, resolved_page, within}
 use Rattle.reader_spec.specs.World.{World}
 use Rattle.readers.specs.Setting as made
-use Rattle.conref_pull.specs.Around.{alone_at, around_at, nothing_around}
+use Rattle.conref_targets.specs.Around.{alone_at, around_at, nothing_around}
+use Rattle.conref_targets.specs.Rules.{ditavals, page_rules}
+use Rattle.conref_targets.specs.Setting.{setting_of}
 use Rattle.conref_pull.specs.Putting.{built, declared_put}
-use Rattle.conref_pull.specs.Rules.{ditavals, page_rules}
-use Rattle.conref_pull.specs.Setting.{setting_of}
 use Rattle.conref_pull.specs.declared.resolver.Resolver.{Resolver}
 use Rattle.conref_pull.specs.declared.resolver.TooMany.{TooMany}
 

@@ -5,18 +5,19 @@ use Rattle.dita_doc.specs.declared.stop.Stop.{Stop}
 use Rattle.dita_doc.specs.declared.stop.Stop.TheVariants as stops
 use Rattle.doc_maker.specs.Building.{depth}
 use Rattle.map_spec.specs.Judged.{group_faults}
-use Rattle.map_spec.specs.Written.{Element, Written, End, Chars, Node}
+use Rattle.map_spec.specs.Written.{Element, Written}
 use Rattle.conref_spec.specs.Content.{Around, Made, Place, Setting, around_within, count_limit, declared_there, depth_limit, element_made, element_resolved, goes, made_with, nothing_made, path_limit, ranges_made, resolved_among, resolved_from}
 use Rattle.reader_spec.specs.World.{World}
 use Rattle.readers.specs.Setting.{Stand}
+use Rattle.conref_targets.specs.Setting.{setting_of}
+use Rattle.conref_targets.specs.Tables.{AreTables, Documents}
+use Rattle.conref_targets.specs.declared.tables.PlaceTables.{PlaceTables}
 use Rattle.conref_pull.specs.Putting.{IsPut, built}
-use Rattle.conref_pull.specs.Setting.{path_within, setting_of}
+use Rattle.conref_pull.specs.State.{path_within}
 use Rattle.conref_pull.specs.Step.{Taken, range_of_one}
-use Rattle.conref_pull.specs.Tables.{AreTables, Documents}
 use Rattle.conref_pull.specs.declared.resolver.At.{At}
 use Rattle.conref_pull.specs.declared.resolver.Resolver.{Resolver}
 use Rattle.conref_pull.specs.declared.resolver.TooMany.{TooMany}
-use Rattle.conref_pull.specs.declared.tables.PlaceTables.{PlaceTables}
 
 -- where nodes are resolved: in this setting, at this depth, within the targets of this path, and within so many more
 pub record Here : Type 0 where
@@ -67,12 +68,6 @@ merged_made here is_range around there merged inside = made_with (group_faults a
 abbrev pub ranges_put : Here → Around → List Taken → Made
 ranges_put here around taken =
     ranges_made (resolved_from here.steps here.setting) around here.depth (flat_map range_of_one taken)
-
--- the first of some siblings alone
-abbrev pub first_alone : Written → Written
-first_alone End = End
-first_alone (Chars text doc rest) = Chars text doc End
-first_alone (Node element inside rest) = Node element inside End
 
 -- The state of the page
 

@@ -6,21 +6,15 @@ ghost use Rattle.std.specs.List.{list_any};
 ghost use Rattle.std.specs.Option.{option_copied};
 ghost use Rattle.doc_elements.specs.Walk as walk_spec;
 ghost use Rattle.conref_spec.specs.Content as content_spec;
+ghost use Rattle.conref_targets.specs.Tables.{AreTables, Documents};
 ghost use Rattle.conref_pull.specs.Accepting as accepting_spec;
-ghost use Rattle.conref_pull.specs.Found as found_spec;
-ghost use Rattle.conref_pull.specs.Tables.{AreTables, Documents};
 
 use crate::chain::Link;
-use crate::find::Found;
-use crate::origin::whole_at;
 use crate::place::Place;
-use crate::ranges::end_of_range;
-use crate::reference::reference_in;
 use crate::resolver::Resolver;
-use crate::tables::PlaceTables;
+use conref_targets::{Found, PlaceTables, around_found, range_end, whole_at};
 use dita_doc::{FaultCode, List, Name, NoMemory, Node, Text};
 use doc_elements::is_special;
-use std::alloc::Global;
 
 // How many targets may be resolved within one another.
 pub(crate) const LINK_LIMIT: u32 = 32;
@@ -35,14 +29,15 @@ impl<'a> Resolver<'a> {
     ghost use Rattle.doc_maker.specs.Made.{building};
     ghost use Rattle.map_spec.specs.Elements as elements_spec;
     ghost use Rattle.conref_spec.specs.Content as content_spec;
-    ghost use Rattle.conref_pull.specs.Accepting as accepting_spec;
-    ghost use Rattle.conref_pull.specs.Found as found_spec;
+    ghost use Rattle.conref_targets.specs.Tables.{AreTables, Documents};
+    ghost use Rattle.conref_targets.specs.Ranges as ranges_spec;
+    ghost use Rattle.conref_targets.specs.Found as found_spec;
+    ghost use Rattle.conref_targets.specs.declared.tables.PlaceTables.{PlaceTables};
     ghost use Rattle.conref_pull.specs.Linked as linked_spec;
     ghost use Rattle.conref_pull.specs.Putting.{IsSameMaker};
-    ghost use Rattle.conref_pull.specs.Setting as setting_spec;
     ghost use Rattle.conref_pull.specs.Step as step_spec;
-    ghost use Rattle.conref_pull.specs.Tables.{AreTables, Documents};
-    ghost use Rattle.conref_pull.specs.declared.tables.PlaceTables.{PlaceTables};
+    ghost use Rattle.conref_pull.specs.State as state_spec;
+    ghost use Rattle.conref_pull.specs.Accepting as accepting_spec;
 
     // Takes a target into an element that is resolved within so many others; none, with a fault, if
     // its type does not fit, its range has no end, it is being resolved already, or it would be too
@@ -59,14 +54,14 @@ impl<'a> Resolver<'a> {
         ensures limit { IfOk result (λ link. IsSome link → links < 32) }
         ensures known { (documents : Documents) (meant : content_spec.Found) (at : ℕ)
             → AreTables documents places.old → found_spec.IsFound documents meant found.entry
-            → setting_spec.IsDepth self.old at → links ≤ length self.old.path.items
+            → state_spec.IsDepth self.old at → links ≤ length self.old.path.items
             → IfOk result (λ link. linked_spec.IsStep documents
-            (step_spec.step_with (setting_spec.path_within self.old links)
+            (step_spec.step_with (state_spec.path_within self.old links)
             (walk_spec.element_of origin.now element.now) meant []
-            (content_spec.refused_by found.entry.value.now at (setting_spec.path_within self.old links)
+            (content_spec.refused_by found.entry.value.now at (state_spec.path_within self.old links)
             (walk_spec.element_of origin.now element.now) meant)) self.old self.new places.new link) }
         ensures doc { IfOk result (λ link. IfSome link (λ one. one.doc ≡ found.entry.doc)) }
-        ensures page { OnOk result (setting_spec.IsSamePage self.old self.new) }
+        ensures page { OnOk result (state_spec.IsSamePage self.old self.new) }
         ensures maker { OnOk result (IsSameMaker self.old self.new) }
     {
         let Some(target) = whole_at(&found.doc, found.place) else {
@@ -107,17 +102,17 @@ impl<'a> Resolver<'a> {
             → declared ≡ content_spec.declared_around [] meant.nodes meant.standing.place
             → elements_spec.is_special meant.standing.whole.0 (walk_spec.element_of origin.now element.now)
             ≡ true
-            → accepting_spec.IsRangeEnd from meant.standing.behind (content_spec.range_by meant.standing
+            → ranges_spec.IsRangeEnd from meant.standing.behind (content_spec.range_by meant.standing
             (elements_spec.attribute (codes "conrefend") (walk_spec.element_of origin.now element.now)))
             (Some to)
-            → setting_spec.IsDepth self.old at → links ≤ length self.old.path.items
+            → state_spec.IsDepth self.old at → links ≤ length self.old.path.items
             → IfOk result (λ link. linked_spec.IsStep documents
-            (step_spec.step_with (setting_spec.path_within self.old links)
+            (step_spec.step_with (state_spec.path_within self.old links)
             (walk_spec.element_of origin.now element.now) meant []
-            (content_spec.refused_by found.entry.value.now at (setting_spec.path_within self.old links)
+            (content_spec.refused_by found.entry.value.now at (state_spec.path_within self.old links)
             (walk_spec.element_of origin.now element.now) meant)) self.old self.new places link) }
         ensures doc { IfOk result (λ link. IfSome link (λ one. one.doc ≡ found.entry.doc)) }
-        ensures page { OnOk result (setting_spec.IsSamePage self.old self.new) }
+        ensures page { OnOk result (state_spec.IsSamePage self.old self.new) }
         ensures maker { OnOk result (IsSameMaker self.old self.new) }
     {
         match self.refusal(&found, links) {
@@ -137,7 +132,7 @@ impl<'a> Resolver<'a> {
         ensures limit { IfNone result (links < 32) }
         ensures code { result ≡ accepting_spec.refusal_by
             (list_any (content_spec.is_place (accepting_spec.place_of found.now))
-            (setting_spec.path_within self.now links))
+            (state_spec.path_within self.now links))
             (accepting_spec.is_too_deep links self.now.deepest (depth (building self.now.maker))) }
     {
         if self.is_on_path(found, links) {
@@ -152,7 +147,7 @@ impl<'a> Resolver<'a> {
     // Whether a target is one of those that are being resolved.
     fn is_on_path(&self, found: &Found<'_>, links: u32) -> bool
         ensures { result ≡ list_any (content_spec.is_place (accepting_spec.place_of found.now))
-            (setting_spec.path_within self.now links) }
+            (state_spec.path_within self.now links) }
     {
         is_among(found, first_of(&self.path, links))
     }
@@ -219,79 +214,4 @@ fn enter(
         from,
         to,
     })
-}
-
-// The names of conditional attributes that are declared around a target.
-fn around_found(
-    alloc: Global,
-    places: &mut PlaceTables,
-    found: &Found<'_>,
-) -> Result<List<Text>, NoMemory>
-    ensures names { (documents : Documents) (meant : content_spec.Found)
-        → AreTables documents places.old → found_spec.IsFound documents meant found.now
-        → IfOk result (λ names. names
-        ≡ content_spec.declared_around [] meant.nodes meant.standing.place) }
-    ensures tables { (documents : Documents) (meant : content_spec.Found)
-        → AreTables documents places.old → found_spec.IsFound documents meant found.now
-        → OnOk result (AreTables documents places.new) }
-{
-    places.declared_around(alloc, &found.name, &found.doc, found.place)
-}
-
-// Where the range behind a target ends, by the value that says so; without one there is no range.
-// It is none if the value names no end.
-fn range_end(
-    alloc: Global,
-    places: &mut PlaceTables,
-    found: &Found<'_>,
-    target: &Node,
-    value: Option<&str>,
-) -> Result<Option<u32>, NoMemory>
-    ensures range { (documents : Documents) (meant : content_spec.Found)
-        → AreTables documents places.old → found_spec.IsFound documents meant found.now
-        → slice_get (arc_value found.now.doc).nodes found.now.place ≡ Some target.now
-        → IfOk result (λ to. accepting_spec.IsRangeEnd target.now.end meant.standing.behind
-        (content_spec.range_by meant.standing (option_copied value.entry)) to) }
-    ensures tables { (documents : Documents) (meant : content_spec.Found)
-        → AreTables documents places.old → found_spec.IsFound documents meant found.now
-        → OnOk result (AreTables documents places.new) }
-{
-    let Some(value) = value else {
-        return Ok(Some(target.end));
-    };
-    let Some(id) = end_id(alloc, value)? else {
-        return Ok(None);
-    };
-    // The target itself may be the end.
-    if is_end(target, id.as_str()) {
-        return Ok(Some(target.end));
-    }
-    let end = places.siblings_end(alloc, &found.name, &found.doc, found.place)?;
-    Ok(end_of_range(
-        &found.doc,
-        target.end,
-        end.unwrap_or(target.end),
-        id.as_str(),
-    ))
-}
-
-// Whether an element ends a range up to this id.
-fn is_end(element: &Node, id: &str) -> bool
-    ensures { (name : List ℕ) → result ≡ content_spec.has_end_id id.now
-        (walk_spec.element_of name element.now) }
-{
-    element.value_of("id") == Some(id)
-}
-
-// The id of the element that ends a range.
-fn end_id(alloc: Global, value: &str) -> Result<Option<Text>, NoMemory>
-    ensures { IfOk result (λ id. id ≡ content_spec.end_id value.now) }
-{
-    let Some(reference) = reference_in(alloc, value)? else {
-        return Ok(None);
-    };
-    if reference.element.is_empty() {
-        return Ok(None);
-    }
-    Ok(Some(reference.element))
 }

@@ -11,19 +11,19 @@ ghost use Rattle.readers.specs.Founded as founded_spec;
 ghost use Rattle.readers.specs.Founded.{AreAllowed, Grows, StaysFounded};
 ghost use Rattle.readers.specs.Named as named_spec;
 ghost use Rattle.readers.specs.Told.{Agrees, Told};
-ghost use Rattle.conref_pull.specs.Asking as asking_spec;
-ghost use Rattle.conref_pull.specs.Asking.{Asks};
-ghost use Rattle.conref_pull.specs.Hrefs.{HaveNamed, PutNamed};
+ghost use Rattle.conref_targets.specs.Asking.{Asks};
+ghost use Rattle.conref_targets.specs.Hrefs.{HaveNamed};
+ghost use Rattle.conref_targets.specs.Rules.{AreRules, HasAll, ditavals};
+ghost use Rattle.conref_targets.specs.Setting.{documents_in};
+ghost use Rattle.conref_targets.specs.Tables.{AreTables};
+ghost use Rattle.conref_targets.specs.Asking as asking_spec;
+ghost use Rattle.conref_pull.specs.PutHrefs.{PutNamed};
 ghost use Rattle.conref_pull.specs.Resolved as resolved_spec;
 ghost use Rattle.conref_pull.specs.Resolved.{IsResolved, too_many_faults};
-ghost use Rattle.conref_pull.specs.Rules.{AreRules, HasAll, ditavals};
-ghost use Rattle.conref_pull.specs.Setting.{documents_in};
-ghost use Rattle.conref_pull.specs.Tables.{AreTables};
 
 use crate::resolver::{At, Resolver, TOO_MANY, TooMany};
-use crate::rules::PageRules;
-use crate::standing::Standing;
 use crate::tables::Tables;
+use conref_targets::{PageRules, Standing};
 use dita_doc::{Context, Fault, FaultCode, List, NoMemory, Resolved, Siblings, Stop};
 use doc_elements::{fault_at, root_of};
 use doc_maker::DocMaker;
@@ -35,7 +35,7 @@ const DEPTH_LIMIT: usize = 256;
 
 /// The content that stands in the place of one node of a page's document, where it stands. With
 /// more than 262,144 nodes there is none, and one fault at the root of the document as stored.
-#[tactic(auto, using(crate::proofs::Telling::telling))]
+#[tactic(auto, using(crate::proofs::Rules::calling))]
 pub fn resolve<A: Asker>(
     alloc: Global,
     asker: &mut A,
@@ -64,7 +64,7 @@ pub fn resolve<A: Asker>(
 
 /// The content of a page: of all roots of its document, of which pushes can make several or none.
 /// With more than 262,144 nodes there is none, and one fault at the root of the document as stored.
-#[tactic(auto, using(crate::proofs::Telling::telling))]
+#[tactic(auto, using(crate::proofs::Rules::calling))]
 pub fn resolve_page<A: Asker>(
     alloc: Global,
     asker: &mut A,
@@ -91,7 +91,7 @@ pub fn resolve_page<A: Asker>(
 }
 
 /// The same as `resolve`, by tables that are kept for all pages of the plan.
-#[tactic(auto, using(crate::proofs::Telling::telling))]
+#[tactic(auto, using(crate::proofs::Rules::calling))]
 pub fn resolve_with<A: Asker>(
     alloc: Global,
     asker: &mut A,
@@ -139,7 +139,7 @@ pub fn resolve_with<A: Asker>(
 }
 
 /// The same as `resolve_page`, by tables that are kept for all pages of the plan.
-#[tactic(auto, using(crate::proofs::Telling::telling))]
+#[tactic(auto, using(crate::proofs::Rules::calling))]
 pub fn resolve_page_with<A: Asker>(
     alloc: Global,
     asker: &mut A,
@@ -186,7 +186,7 @@ pub fn resolve_page_with<A: Asker>(
     finish(alloc, asker, context, resolver, done)
 }
 
-#[tactic(auto, using(crate::proofs::AskingLaws::following))]
+#[tactic(auto, using(crate::proofs::Rules::asking))]
 fn finish<A: Asker>(
     alloc: Global,
     asker: &mut A,
@@ -212,7 +212,7 @@ fn finish<A: Asker>(
 }
 
 // What is handed out if the walk was stopped.
-#[tactic(auto, using(crate::proofs::AskingLaws::following))]
+#[tactic(auto, using(crate::proofs::Rules::asking))]
 fn stopped<A: Asker>(
     alloc: Global,
     asker: &mut A,
@@ -243,7 +243,7 @@ fn nothing(alloc: Global) -> Resolved
 }
 
 // No content, with the fault of too much of it.
-#[tactic(auto, using(crate::proofs::AskingLaws::following))]
+#[tactic(auto, using(crate::proofs::Rules::asking))]
 fn too_many<A: Asker>(alloc: Global, asker: &mut A, context: &Context) -> Result<Resolved, NoMemory>
     ensures known { (world : World) → Agrees world (A.told asker.new)
         → IfOk result (λ resolved. IsResolved resolved (resolved_spec.too_much

@@ -1,10 +1,7 @@
 //! References that are followed, one behind another.
 
-use crate::accept::LINK_LIMIT;
-use crate::origin::{Whole, whole_at};
-use crate::reference::Sought;
 use crate::resolver::Resolver;
-use crate::tables::{PlaceTables, copied_names};
+use conref_targets::{Found, PlaceTables, Sought, Whole, find_referenced, whole_at};
 use dita_doc::{Doc, List, Name, NoMemory, Node, Text};
 use ditaval_rules::own_names;
 use readers::Asker;
@@ -26,10 +23,10 @@ impl Link {
     ghost use Rattle.std.specs.Prelude.{◌≡◌, List, Some, IfOk, IfSome};
     ghost use Rattle.std.specs.Arc.{arc_value};
     ghost use Rattle.readers.specs.Told.{Told};
-    ghost use Rattle.conref_pull.specs.Asking as asking_spec;
-    ghost use Rattle.conref_pull.specs.Hrefs.{WholeNamed};
+    ghost use Rattle.conref_targets.specs.Hrefs.{WholeNamed};
+    ghost use Rattle.conref_targets.specs.Origin as origin_spec;
+    ghost use Rattle.conref_targets.specs.Asking as asking_spec;
     ghost use Rattle.conref_pull.specs.Linked as linked_spec;
-    ghost use Rattle.conref_pull.specs.Origin as origin_spec;
     ghost use Rattle.conref_pull.specs.Step.{Taken, declared_inside};
 
     // The target, and what it holds.
@@ -39,7 +36,7 @@ impl Link {
         ensures names { IfSome result (λ whole. asking_spec.AreAmong
             (asking_spec.reused_of_whole whole)
             (asking_spec.reused_of_doc (arc_value self.now.doc))) }
-        ensures hrefs { (told : List Told) → asking_spec.IsGivenTo told self.now
+        ensures hrefs { (told : List Told) → linked_spec.IsGivenTo told self.now
             → IfSome result (WholeNamed told) }
     {
         whole_at(&self.doc, self.place)
@@ -56,7 +53,7 @@ impl Link {
         let own = own_names(alloc, target.node)?;
         match own {
             Some(names) => Ok(names),
-            None => copied_names(alloc, self.declared.as_slice()),
+            None => Ok(self.declared.clone()?),
         }
     }
 }
@@ -73,10 +70,10 @@ impl Chain {
     ghost use Rattle.std.specs.Prelude.{◌≡◌, ◌∷◌, ℕ, List, Some, IfOk, IfSome};
     ghost use Rattle.conref_spec.specs.Content.{Place};
     ghost use Rattle.readers.specs.Told.{Told};
-    ghost use Rattle.conref_pull.specs.Asking as asking_spec;
-    ghost use Rattle.conref_pull.specs.Hrefs.{WholeNamed};
+    ghost use Rattle.conref_targets.specs.Hrefs.{WholeNamed};
+    ghost use Rattle.conref_targets.specs.Origin as origin_spec;
+    ghost use Rattle.conref_targets.specs.Asking as asking_spec;
     ghost use Rattle.conref_pull.specs.Linked as linked_spec;
-    ghost use Rattle.conref_pull.specs.Origin as origin_spec;
     ghost use Rattle.conref_pull.specs.Step.{Taken, declared_inside};
 
     // The farthest target, and what it holds.
@@ -84,10 +81,10 @@ impl Chain {
         ensures target { (path : List Place) (end : ℕ) (one : Taken) (nearer : List Taken)
             → linked_spec.AreLinks path end (one ∷ nearer) self.now.links.items
             → origin_spec.whole_shown result ≡ Some (one.element, one.inside) }
-        ensures given { (told : List Told) → asking_spec.AreGivenTo told self.now.links.items
+        ensures given { (told : List Told) → linked_spec.AreGivenTo told self.now.links.items
             → IfSome result (λ whole. asking_spec.AreGiven told
             (asking_spec.reused_of_whole whole)) }
-        ensures hrefs { (told : List Told) → asking_spec.AreGivenTo told self.now.links.items
+        ensures hrefs { (told : List Told) → linked_spec.AreGivenTo told self.now.links.items
             → IfSome result (WholeNamed told) }
     {
         match self.links.split_first() {
@@ -111,6 +108,7 @@ impl Chain {
 
 impl<'a> Resolver<'a> {
     ghost use Rattle.std.specs.Prelude.{◌≡◌, ◌+◌, ◌<◌, ◌≤◌, [], ◌∷◌, ℕ, List, IfOk, IsSome, OnOk, length};
+    ghost use Rattle.std.specs.Option.{option_copied};
     ghost use Rattle.dita_doc.specs.declared.plan.PlanNode.{PlanNode};
     ghost use Rattle.doc_elements.specs.Walk as walk_spec;
     ghost use Rattle.map_spec.specs.Written.{Written};
@@ -119,17 +117,21 @@ impl<'a> Resolver<'a> {
     ghost use Rattle.readers.specs.Founded.{Grows};
     ghost use Rattle.readers.specs.Named.{reused_by};
     ghost use Rattle.readers.specs.Told.{Agrees};
-    ghost use Rattle.conref_pull.specs.Asking.{AreGivenTo, Asks, IsGivenIf};
+    ghost use Rattle.conref_targets.specs.Asking.{Asks, IsGivenIn, names_of_value};
+    ghost use Rattle.conref_targets.specs.Tables.{AreTables};
+    ghost use Rattle.conref_targets.specs.Setting as setting_spec;
+    ghost use Rattle.conref_targets.specs.Sought as sought_spec;
+    ghost use Rattle.conref_pull.specs.Linked.{AreGivenTo, IsGivenIf};
     ghost use Rattle.conref_pull.specs.Linked as linked_spec;
     ghost use Rattle.conref_pull.specs.Putting.{IsSameMaker};
-    ghost use Rattle.conref_pull.specs.Setting as setting_spec;
     ghost use Rattle.conref_pull.specs.Step as step_spec;
-    ghost use Rattle.conref_pull.specs.Tables.{AreTables};
+    ghost use Rattle.conref_pull.specs.State as state_spec;
+    ghost use Rattle.conref_pull.specs.Seeking as seeking_spec;
 
     // Follows the reference of an element, target by target, until one has none or can't be taken.
     // `topic` is the id of the topic around the element, and `links` tells within how many targets
     // it is resolved.
-    #[tactic(auto, using(crate::proofs::AskingLaws::following, crate::proofs::PutLaws::making))]
+    #[tactic(auto, using(crate::proofs::Rules::asking, crate::proofs::PutLaws::making))]
     pub(crate) fn chain<A: Asker>(
         &mut self,
         asker: &mut A,
@@ -143,20 +145,20 @@ impl<'a> Resolver<'a> {
         ensures known { (world : World) (depth : ℕ) (inside : Written)
             → Agrees world (A.told asker.new)
             → AreTables (setting_spec.documents_in world (A.stand asker.old).setting) places.old
-            → setting_spec.IsDepth self.old depth → links ≤ length self.old.path.items
+            → state_spec.IsDepth self.old depth → links ≤ length self.old.path.items
             → IfOk result (λ chain. linked_spec.IsFollowed
             (setting_spec.documents_in world (A.stand asker.old).setting)
             (walk_spec.element_of origin.now element.now) inside
             (content_spec.followed (setting_spec.setting_of world (A.stand asker.old).setting
             self.old.context.now.page self.old.rules) topic.now depth
-            (setting_spec.path_within self.old links) (walk_spec.element_of origin.now element.now)
+            (state_spec.path_within self.old links) (walk_spec.element_of origin.now element.now)
             inside) [] chain.links.items links chain.end self.old self.new places.new) }
         ensures asks { (nodes : List PlanNode) → (A.stand asker.old).setting.nodes ≡ nodes
             → Asks nodes (self.old.context.now.page.doc
             ∷ reused_by (walk_spec.element_of origin.now element.now)) (A.told asker.old)
             (A.told asker.new) }
         ensures given { IfOk result (λ chain. AreGivenTo (A.told asker.new) chain.links.items) }
-        ensures page { OnOk result (setting_spec.IsSamePage self.old self.new) }
+        ensures page { OnOk result (state_spec.IsSamePage self.old self.new) }
         ensures maker { OnOk result (IsSameMaker self.old self.new) }
         ensures stand { A.stand asker.new ≡ A.stand asker.old }
         ensures grows { Grows (A.told asker.old) (A.told asker.new) }
@@ -168,7 +170,7 @@ impl<'a> Resolver<'a> {
 
     // Puts the targets that an element takes behind others, and tells within how many targets the
     // content of the farthest is resolved.
-    #[tactic(auto, using(crate::proofs::AskingLaws::following, crate::proofs::PutLaws::making))]
+    #[tactic(auto, using(crate::proofs::Rules::asking, crate::proofs::PutLaws::making))]
     fn follow<A: Asker>(
         &mut self,
         asker: &mut A,
@@ -183,14 +185,14 @@ impl<'a> Resolver<'a> {
         ensures known { (world : World) (depth steps : ℕ) (inside : Written)
             → Agrees world (A.told asker.new)
             → AreTables (setting_spec.documents_in world (A.stand asker.old).setting) places.old
-            → setting_spec.IsDepth self.old depth → 0 < steps → 32 < steps + links
+            → state_spec.IsDepth self.old depth → 0 < steps → 32 < steps + links
             → links ≤ length self.old.path.items
             → IfOk result (λ end. linked_spec.IsFollowed
             (setting_spec.documents_in world (A.stand asker.old).setting)
             (walk_spec.element_of origin.now element.now) inside
             (content_spec.followed_from steps (setting_spec.setting_of world
             (A.stand asker.old).setting self.old.context.now.page self.old.rules) topic.now depth
-            (setting_spec.path_within self.old links) (walk_spec.element_of origin.now element.now)
+            (state_spec.path_within self.old links) (walk_spec.element_of origin.now element.now)
             inside) taken.old.items taken.new.items links end self.old self.new places.new) }
         ensures asks { (nodes : List PlanNode) → (A.stand asker.old).setting.nodes ≡ nodes
             → Asks nodes (self.old.context.now.page.doc
@@ -198,7 +200,7 @@ impl<'a> Resolver<'a> {
             (A.told asker.new) }
         ensures given { AreGivenTo (A.told asker.old) taken.old.items
             → OnOk result (AreGivenTo (A.told asker.new) taken.new.items) }
-        ensures page { OnOk result (setting_spec.IsSamePage self.old self.new) }
+        ensures page { OnOk result (state_spec.IsSamePage self.old self.new) }
         ensures maker { OnOk result (IsSameMaker self.old self.new) }
         ensures stand { A.stand asker.new ≡ A.stand asker.old }
         ensures grows { Grows (A.told asker.old) (A.told asker.new) }
@@ -217,7 +219,7 @@ impl<'a> Resolver<'a> {
 
     // Takes the target that an element refers to, within so many targets; none, if it has no
     // reference, or has a fault.
-    #[tactic(auto, using(crate::proofs::AskingLaws::following, crate::proofs::PutLaws::making))]
+    #[tactic(auto, using(crate::proofs::Rules::asking, crate::proofs::PutLaws::making))]
     fn take<A: Asker>(
         &mut self,
         asker: &mut A,
@@ -230,19 +232,19 @@ impl<'a> Resolver<'a> {
         ensures limit { IfOk result (λ link. IsSome link → links < 32) }
         ensures known { (world : World) (depth : ℕ) → Agrees world (A.told asker.new)
             → AreTables (setting_spec.documents_in world (A.stand asker.old).setting) places.old
-            → setting_spec.IsDepth self.old depth → links ≤ length self.old.path.items
+            → state_spec.IsDepth self.old depth → links ≤ length self.old.path.items
             → IfOk result (λ link. linked_spec.IsStep
             (setting_spec.documents_in world (A.stand asker.old).setting)
             (step_spec.step_of (setting_spec.setting_of world (A.stand asker.old).setting
             self.old.context.now.page self.old.rules) topic.now depth
-            (setting_spec.path_within self.old links) (walk_spec.element_of origin.now element.now))
+            (state_spec.path_within self.old links) (walk_spec.element_of origin.now element.now))
             self.old self.new places.new link) }
         ensures asks { (nodes : List PlanNode) → (A.stand asker.old).setting.nodes ≡ nodes
             → Asks nodes (self.old.context.now.page.doc
             ∷ reused_by (walk_spec.element_of origin.now element.now)) (A.told asker.old)
             (A.told asker.new) }
         ensures given { IfOk result (λ link. IsGivenIf (A.told asker.new) link) }
-        ensures page { OnOk result (setting_spec.IsSamePage self.old self.new) }
+        ensures page { OnOk result (state_spec.IsSamePage self.old self.new) }
         ensures maker { OnOk result (IsSameMaker self.old self.new) }
         ensures stand { A.stand asker.new ≡ A.stand asker.old }
         ensures grows { Grows (A.told asker.old) (A.told asker.new) }
@@ -254,5 +256,39 @@ impl<'a> Resolver<'a> {
             return Ok(None);
         };
         self.accept(places, origin, element, found, links)
+    }
+
+    // The target that an element refers to, by its key, or where that fails by its value; a fault,
+    // if it can't be found.
+    #[tactic(auto, using(crate::proofs::PutLaws::making))]
+    fn find<'b, A: Asker>(
+        &mut self,
+        asker: &mut A,
+        places: &mut PlaceTables,
+        origin: &Name,
+        element: &Node,
+        sought: Sought<'b>,
+        topic: &str,
+    ) -> Result<Option<Found<'b>>, NoMemory>
+        ensures known { (world : World) → Agrees world (A.told asker.new)
+            → AreTables (setting_spec.documents_in world (A.stand asker.old).setting) places.old
+            → IfOk result (λ found. seeking_spec.IsSought (setting_spec.setting_of world
+            (A.stand asker.old).setting self.old.context.now.page self.old.rules) topic.now
+            (walk_spec.element_of origin.now element.now) (sought_spec.sought_shown sought.entry)
+            self.old self.new places.new found) }
+        ensures asks { (nodes : List PlanNode) → (A.stand asker.old).setting.nodes ≡ nodes
+            → Asks nodes (self.old.context.now.page.doc ∷ names_of_value origin.now
+            (option_copied sought.entry.conref)) (A.told asker.old) (A.told asker.new) }
+        ensures given { IfOk result (λ found. IsGivenIn (A.told asker.new) found) }
+        ensures page { OnOk result (state_spec.IsSamePage self.old self.new) }
+        ensures maker { OnOk result (IsSameMaker self.old self.new) }
+        ensures stand { A.stand asker.new ≡ A.stand asker.old }
+        ensures grows { Grows (A.told asker.old) (A.told asker.new) }
+    {
+        let context = self.context;
+        let faults = &mut self.faults;
+        find_referenced(
+            self.alloc, asker, places, faults, context, origin, element, sought, topic,
+        )
     }
 }

@@ -9,16 +9,9 @@
 mod accept;
 mod calls;
 mod chain;
-mod find;
-mod judge;
 mod merge;
-mod origin;
 mod place;
-mod ranges;
-mod reference;
 mod resolver;
-mod rules;
-mod standing;
 mod tables;
 mod walk;
 

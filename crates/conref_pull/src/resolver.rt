@@ -2,10 +2,11 @@
 
 ghost use Rattle.std.specs.Prelude.{◌≡◌, ◌+◌, ◌++◌, [], ◌∷◌, OnOk};
 
-use crate::origin::origin_of;
 use crate::place::Place;
-use crate::rules::PageRules;
-use dita_doc::{Context, Doc, Fault, FaultCode, List, Name, NoMemory, Node, Resolved, Stop, Text};
+use conref_targets::{PageRules, origin_of};
+use dita_doc::{
+    Attribute, Context, Doc, Fault, FaultCode, List, Name, NoMemory, Node, Resolved, Stop, Text,
+};
 use doc_elements::fault_at;
 use doc_maker::DocMaker;
 use std::alloc::Global;
@@ -56,8 +57,11 @@ impl<'a> Resolver<'a> {
     ghost use Rattle.readers.specs.Named.{name_at};
     ghost use Rattle.conref_pull.specs.Putting.{Puts, built, declared_put};
     ghost use Rattle.map_spec.specs.Elements as elements_spec;
+    ghost use Rattle.map_spec.specs.Judged as judged_spec;
+    ghost use Rattle.conref_targets.specs.Judging as judging_spec;
+    ghost use Rattle.conref_targets.specs.Rules as rules_spec;
     ghost use Rattle.conref_pull.specs.Count as count_spec;
-    ghost use Rattle.conref_pull.specs.Setting as setting_spec;
+    ghost use Rattle.conref_pull.specs.State as state_spec;
 
     pub(crate) fn new(
         alloc: Global,
@@ -113,13 +117,13 @@ impl<'a> Resolver<'a> {
     }
 
     // Puts a text of a document.
-    #[tactic(auto, using(crate::proofs::SettingLaws::paging))]
+    #[tactic(auto, using(crate::proofs::StateLaws::paging))]
     pub(crate) fn put_chars(&mut self, doc: &Doc, node: &Node) -> Result<(), Stop<TooMany>>
         ensures put { (place : ℕ) → slice_get doc.now.nodes place ≡ Some node.now
             → Puts result (content_spec.text_made node.now.text
             (name_at doc.now.origins node.now.origin)) self.old self.new }
         ensures path { OnOk result (self.new.path ≡ self.old.path) }
-        ensures page { OnOk result (setting_spec.IsSamePage self.old self.new) }
+        ensures page { OnOk result (state_spec.IsSamePage self.old self.new) }
     {
         self.count_one()?;
         if let Some(origin) = origin_of(doc, node) {
@@ -145,5 +149,27 @@ impl<'a> Resolver<'a> {
     {
         let fault = fault_at(self.alloc, origin, element, code, detail)?;
         Ok(self.faults.push(fault)?)
+    }
+
+    // Whether an element goes that has these attributes, and for which these names of conditional
+    // attributes are declared. A value of groups counts as absent, with a fault.
+    pub(crate) fn is_excluded(
+        &mut self,
+        origin: &Name,
+        element: &Node,
+        declared: &List<Text>,
+        attributes: &List<Attribute>,
+    ) -> Result<bool, NoMemory>
+        ensures state { OnOk result (self.new ≡ record self.old {
+          faults = self.old.faults
+              ++ judged_spec.group_faults declared.now (judging_spec.with_attributes attributes.now
+              (walk_spec.element_of origin.now element.now));
+        }) }
+        ensures goes { IfOk result (λ goes. goes
+            ≡ rules_spec.some_exclude self.old.rules declared.now attributes.now) }
+    {
+        let faults = &mut self.faults;
+        self.rules
+            .is_excluded(self.alloc, faults, origin, element, declared, attributes)
     }
 }

@@ -8,11 +8,8 @@ ghost use Rattle.conref_spec.specs.Content as content_spec;
 
 use crate::chain::{Chain, Link};
 use crate::merge::{Merged, USE_TARGET, merged_with, own_id};
-use crate::origin::origin_of;
-use crate::ranges::node_of;
-use crate::reference::Sought;
 use crate::resolver::{At, Resolver, TooMany};
-use crate::tables::PlaceTables;
+use conref_targets::{PlaceTables, Sought, node_of, origin_of};
 use dita_doc::{Doc, First, List, Name, Node, Siblings, Stop, Text};
 use ditaval_rules::own_names;
 use readers::Asker;
@@ -33,20 +30,22 @@ impl<'a> Resolver<'a> {
     ghost use Rattle.readers.specs.Named as named_spec;
     ghost use Rattle.readers.specs.Named.{reused_in};
     ghost use Rattle.readers.specs.Told.{Agrees};
-    ghost use Rattle.conref_pull.specs.Asking.{AreGiven, AreGivenTo, Asks, IsGivenTo, element_around, reused_of_doc, reused_of_node};
-    ghost use Rattle.conref_pull.specs.Hrefs.{HasNamed, HaveNamed, PutNamed};
+    ghost use Rattle.conref_targets.specs.Asking.{AreGiven, Asks, element_around, reused_of_doc, reused_of_node};
+    ghost use Rattle.conref_targets.specs.Hrefs.{HasNamed, HaveNamed};
+    ghost use Rattle.conref_targets.specs.Origin.{named_content};
+    ghost use Rattle.conref_targets.specs.Parts as parts_spec;
+    ghost use Rattle.conref_pull.specs.Linked.{AreGivenTo, IsGivenTo};
+    ghost use Rattle.conref_pull.specs.PutHrefs.{PutNamed};
     ghost use Rattle.conref_pull.specs.Linked as linked_spec;
-    ghost use Rattle.conref_pull.specs.Origin.{named_content};
-    ghost use Rattle.conref_pull.specs.Parts as parts_spec;
-    ghost use Rattle.conref_pull.specs.Setting as setting_spec;
     ghost use Rattle.conref_pull.specs.Step as step_spec;
     ghost use Rattle.conref_pull.specs.Step.{Taken};
-    ghost use Rattle.conref_pull.specs.Walking as walking_spec;
     ghost use Rattle.conref_pull.specs.Walking.{Here, IsReady, Walks, around_of, seen_by};
+    ghost use Rattle.conref_pull.specs.State as state_spec;
+    ghost use Rattle.conref_pull.specs.Walking as walking_spec;
 
     // Resolves nodes that stand side by side.
     #[cycle(resolve)]
-    #[tactic(auto, using(crate::proofs::AskingLaws::following, crate::proofs::SettingLaws::paging))]
+    #[tactic(auto, using(crate::proofs::Rules::asking, crate::proofs::StateLaws::paging))]
     pub(crate) fn siblings<A: Asker>(
         &mut self,
         asker: &mut A,
@@ -65,7 +64,7 @@ impl<'a> Resolver<'a> {
         ensures hrefs { HaveNamed (A.told asker.old) (named_content siblings.entry)
             → PutNamed (A.told asker.old) self.old
             → OnOk result (PutNamed (A.told asker.new) self.new) }
-        ensures page { OnOk result (setting_spec.IsSamePage self.old self.new) }
+        ensures page { OnOk result (state_spec.IsSamePage self.old self.new) }
         ensures stand { A.stand asker.new ≡ A.stand asker.old }
         ensures grows { Grows (A.told asker.old) (A.told asker.new) }
     {
@@ -92,7 +91,7 @@ impl<'a> Resolver<'a> {
 
     // Resolves an element.
     #[cycle(resolve)]
-    #[tactic(auto, using(crate::proofs::AskingLaws::following, crate::proofs::SettingLaws::paging))]
+    #[tactic(auto, using(crate::proofs::Rules::asking, crate::proofs::StateLaws::paging))]
     pub(crate) fn element<A: Asker>(
         &mut self,
         asker: &mut A,
@@ -114,7 +113,7 @@ impl<'a> Resolver<'a> {
             → HaveNamed (A.told asker.old) (named_content inside.entry)
             → PutNamed (A.told asker.old) self.old
             → OnOk result (PutNamed (A.told asker.new) self.new) }
-        ensures page { OnOk result (setting_spec.IsSamePage self.old self.new) }
+        ensures page { OnOk result (state_spec.IsSamePage self.old self.new) }
         ensures stand { A.stand asker.new ≡ A.stand asker.old }
         ensures grows { Grows (A.told asker.old) (A.told asker.new) }
     {
@@ -126,7 +125,7 @@ impl<'a> Resolver<'a> {
     // Resolves an element for which these names of conditional attributes are declared: it goes,
     // stays as it is, or takes what its reference names, with the ranges behind it.
     #[cycle(resolve)]
-    #[tactic(auto, using(crate::proofs::AskingLaws::following, crate::proofs::SettingLaws::paging))]
+    #[tactic(auto, using(crate::proofs::Rules::asking, crate::proofs::StateLaws::paging))]
     fn element_with<A: Asker>(
         &mut self,
         asker: &mut A,
@@ -150,7 +149,7 @@ impl<'a> Resolver<'a> {
             → HaveNamed (A.told asker.old) (named_content inside.entry)
             → PutNamed (A.told asker.old) self.old
             → OnOk result (PutNamed (A.told asker.new) self.new) }
-        ensures page { OnOk result (setting_spec.IsSamePage self.old self.new) }
+        ensures page { OnOk result (state_spec.IsSamePage self.old self.new) }
         ensures stand { A.stand asker.new ≡ A.stand asker.old }
         ensures grows { Grows (A.told asker.old) (A.told asker.new) }
     {
@@ -174,7 +173,7 @@ impl<'a> Resolver<'a> {
 
     // Puts an element for which these names are declared as it is, with its content.
     #[cycle(resolve)]
-    #[tactic(auto, using(crate::proofs::AskingLaws::following, crate::proofs::SettingLaws::paging))]
+    #[tactic(auto, using(crate::proofs::Rules::asking, crate::proofs::StateLaws::paging))]
     fn unchanged<A: Asker>(
         &mut self,
         asker: &mut A,
@@ -199,7 +198,7 @@ impl<'a> Resolver<'a> {
             → HaveNamed (A.told asker.old) (named_content inside.entry)
             → PutNamed (A.told asker.old) self.old
             → OnOk result (PutNamed (A.told asker.new) self.new) }
-        ensures page { OnOk result (setting_spec.IsSamePage self.old self.new) }
+        ensures page { OnOk result (state_spec.IsSamePage self.old self.new) }
         ensures stand { A.stand asker.new ≡ A.stand asker.old }
         ensures grows { Grows (A.told asker.old) (A.told asker.new) }
     {
@@ -224,7 +223,7 @@ impl<'a> Resolver<'a> {
     // Puts an element with what it takes from its targets, and the content of the last of them. It
     // is judged once more, by the names that are declared for itself, and counts also if it goes.
     #[cycle(resolve)]
-    #[tactic(auto, using(crate::proofs::AskingLaws::following, crate::proofs::SettingLaws::paging))]
+    #[tactic(auto, using(crate::proofs::Rules::asking, crate::proofs::StateLaws::paging))]
     fn merged<A: Asker>(
         &mut self,
         asker: &mut A,
@@ -254,7 +253,7 @@ impl<'a> Resolver<'a> {
             → AreGivenTo (A.told asker.old) chain.now.links.items
             → PutNamed (A.told asker.old) self.old
             → OnOk result (PutNamed (A.told asker.new) self.new) }
-        ensures page { OnOk result (setting_spec.IsSamePage self.old self.new) }
+        ensures page { OnOk result (state_spec.IsSamePage self.old self.new) }
         ensures stand { A.stand asker.new ≡ A.stand asker.old }
         ensures grows { Grows (A.told asker.old) (A.told asker.new) }
     {
@@ -289,7 +288,7 @@ impl<'a> Resolver<'a> {
     // Resolves the ranges behind the targets of an element, the farthest first, each within the
     // targets up to its own.
     #[cycle(resolve)]
-    #[tactic(auto, using(crate::proofs::AskingLaws::following, crate::proofs::SettingLaws::paging))]
+    #[tactic(auto, using(crate::proofs::Rules::asking, crate::proofs::StateLaws::paging))]
     fn ranges<A: Asker>(
         &mut self,
         asker: &mut A,
@@ -301,7 +300,7 @@ impl<'a> Resolver<'a> {
             → Agrees world (A.told asker.new)
             → IsReady world (A.stand asker.old) at.entry.links here self.old places.old
             → chain.now.end ≤ length self.old.path.items → chain.now.end ≤ 32
-            → path ≡ setting_spec.path_within self.old chain.now.end
+            → path ≡ state_spec.path_within self.old chain.now.end
             → chain.now.end ≡ at.entry.links + length taken
             → linked_spec.AreLinks path chain.now.end taken chain.now.links.items
             → Walks result here.setting.pushed at.entry.links (walking_spec.ranges_put here
@@ -313,7 +312,7 @@ impl<'a> Resolver<'a> {
         ensures hrefs { AreGivenTo (A.told asker.old) chain.now.links.items
             → PutNamed (A.told asker.old) self.old
             → OnOk result (PutNamed (A.told asker.new) self.new) }
-        ensures page { OnOk result (setting_spec.IsSamePage self.old self.new) }
+        ensures page { OnOk result (state_spec.IsSamePage self.old self.new) }
         ensures stand { A.stand asker.new ≡ A.stand asker.old }
         ensures grows { Grows (A.told asker.old) (A.told asker.new) }
     {
@@ -336,7 +335,7 @@ impl<'a> Resolver<'a> {
 
     // Resolves the range behind a target.
     #[cycle(resolve)]
-    #[tactic(auto, using(crate::proofs::AskingLaws::following, crate::proofs::SettingLaws::paging))]
+    #[tactic(auto, using(crate::proofs::Rules::asking, crate::proofs::StateLaws::paging))]
     fn range<A: Asker>(
         &mut self,
         asker: &mut A,
@@ -355,7 +354,7 @@ impl<'a> Resolver<'a> {
             (A.told asker.new) }
         ensures hrefs { IsGivenTo (A.told asker.old) link.now → PutNamed (A.told asker.old) self.old
             → OnOk result (PutNamed (A.told asker.new) self.new) }
-        ensures page { OnOk result (setting_spec.IsSamePage self.old self.new) }
+        ensures page { OnOk result (state_spec.IsSamePage self.old self.new) }
         ensures stand { A.stand asker.new ≡ A.stand asker.old }
         ensures grows { Grows (A.told asker.old) (A.told asker.new) }
     {
@@ -375,7 +374,7 @@ impl<'a> Resolver<'a> {
 
     // Resolves the node at a place of a document.
     #[cycle(resolve)]
-    #[tactic(auto, using(crate::proofs::AskingLaws::following, crate::proofs::SettingLaws::paging))]
+    #[tactic(auto, using(crate::proofs::Rules::asking, crate::proofs::StateLaws::paging))]
     pub(crate) fn node_at<A: Asker>(
         &mut self,
         asker: &mut A,
@@ -390,7 +389,7 @@ impl<'a> Resolver<'a> {
             → parts_spec.IsPart (tree_spec.tree_of doc.now.nodes) place part
             → parts_spec.has_first part ≡ true
             → Walks result here.setting.pushed at.entry.links (walking_spec.among_made here
-            at.entry.is_range (around_of at.entry) (walking_spec.first_alone
+            at.entry.is_range (around_of at.entry) (parts_spec.first_alone
             (named_spec.named doc.now.origins part))) self.old self.new places.new }
         ensures missing { (world : World) (here : Here) → Agrees world (A.told asker.new)
             → IsReady world (A.stand asker.old) at.entry.links here self.old places.old
@@ -404,7 +403,7 @@ impl<'a> Resolver<'a> {
         ensures hrefs { HaveNamed (A.told asker.old) (named_spec.named_tree doc.now)
             → PutNamed (A.told asker.old) self.old
             → OnOk result (PutNamed (A.told asker.new) self.new) }
-        ensures page { OnOk result (setting_spec.IsSamePage self.old self.new) }
+        ensures page { OnOk result (state_spec.IsSamePage self.old self.new) }
         ensures stand { A.stand asker.new ≡ A.stand asker.old }
         ensures grows { Grows (A.told asker.old) (A.told asker.new) }
     {

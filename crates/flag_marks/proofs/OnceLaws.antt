@@ -14,7 +14,8 @@ use Rattle.std.proofs.lemmas.List.Folds.{list_any-append}
 use Rattle.std.proofs.lemmas.Map.Text.{is_eq-slice_cmp}
 use Rattle.std.proofs.lemmas.Slice.Eq.{bytes_eq-Decides}
 use Rattle.dita_doc.specs.declared.content.Mark.{Mark}
-use Rattle.flag_marks.specs.Marks.{at_place, first_of_each}
+use Rattle.ditaval_rules.specs.Domains.{first_of_each}
+use Rattle.flag_marks.specs.Marks.{at_place}
 
 -- what two tests leave, by one that is both
 filter_both : {X : Type 0} (p q r : X → Bool) → ((x : X) → (q x && p x) ≡ r x) → (xs : List X)

@@ -1,6 +1,6 @@
 -- The flags of elements (DITA 1.3, "Conditional processing (profiling)", "Flagging"): rules with the action flag mark
 -- the elements that they decide. The form of a mark is our own.
-use Rattle.std.specs.Prelude.{◌+◌, ℕ, Bool, true, false, not, List, [], ◌∷◌, ◌++◌, Option, Some, None, filter, map, codes, bytes_eq, if◌then◌else◌}
+use Rattle.std.specs.Prelude.{◌+◌, ℕ, Bool, true, false, List, [], ◌∷◌, ◌++◌, Option, Some, None, filter, map, codes, if◌then◌else◌}
 use Rattle.std.specs.List.{flat_map, list_any}
 use Rattle.std.specs.Option.{option_map_or}
 use Rattle.dita_doc.specs.ClassValue.{value_of, words_of}
@@ -12,6 +12,7 @@ use Rattle.dita_doc.specs.declared.doc.Attribute.{Attribute}
 use Rattle.dita_doc.specs.declared.doc.Node.{Node}
 use Rattle.dita_doc.specs.declared.doc.NodeKind.{NodeKind}
 use Rattle.dita_doc.specs.declared.doc.NodeKind.TheVariants as kinds
+use Rattle.ditaval_rules.specs.Domains.{first_of_each}
 use Rattle.ditaval_rules.specs.Verdict.{conditional_names, decided, deciding, is_grouped}
 
 abbrev pub is_flag : Action → Bool
@@ -48,10 +49,6 @@ marks_of_attribute rules attributes att = option_map_or (marks_of_value rules at
 abbrev pub marks_by : List (List ℕ) → List Attribute → List Rule → List (List ℕ)
 marks_by declared attributes rules = flat_map (marks_of_attribute rules attributes) (conditional_names ++ declared)
 
-abbrev pub first_of_each : List (List ℕ) → List (List ℕ)
-first_of_each [] = []
-first_of_each (text ∷ texts) = text ∷ filter (λ other. not (bytes_eq text other)) (first_of_each texts)
-
 -- the marks of an element of these attributes, for which these names are declared, by each list of rules in order, each
 -- once
 abbrev pub marks_of_element : List (List Rule) → List (List ℕ) → List Attribute → List (List ℕ)
@@ -60,14 +57,18 @@ marks_of_element all declared attributes = first_of_each (flat_map (marks_by dec
 abbrev pub at_place : ℕ → List ℕ → Mark
 at_place place text = record { place = place; text = text }
 
+-- the marks of the node at this place: an element has attributes
+abbrev pub marks_of_node : List (List Rule) → ℕ → List (List ℕ) → Option (List Attribute) → List Mark
+marks_of_node all place declared None = []
+marks_of_node all place declared (Some attributes) = map (at_place place) (marks_of_element all declared attributes)
+
 -- the marks of nodes, of which the first stands at this place; each has a list of declared names, and an element its
 -- attributes
 abbrev pub marks_from : List (List Rule) → ℕ → List (List (List ℕ)) → List (Option (List Attribute)) → List Mark
 marks_from all place names [] = []
 marks_from all place [] (first ∷ nodes) = []
-marks_from all place (declared ∷ names) (None ∷ nodes) = marks_from all (place + 1) names nodes
-marks_from all place (declared ∷ names) (Some attributes ∷ nodes) =
-    map (at_place place) (marks_of_element all declared attributes) ++ marks_from all (place + 1) names nodes
+marks_from all place (declared ∷ names) (node ∷ nodes) =
+    marks_of_node all place declared node ++ marks_from all (place + 1) names nodes
 
 -- the attributes of the nodes of a document, of those that are elements
 abbrev pub attributes_of_kind : NodeKind → List Attribute → Option (List Attribute)
@@ -76,8 +77,3 @@ attributes_of_kind kinds.Element attributes = Some attributes
 
 abbrev pub attributes_at : Node → Option (List Attribute)
 attributes_at node = attributes_of_kind node.kind node.attributes
-
--- the marks of one node
-abbrev pub marks_at : List (List Rule) → ℕ → List (List ℕ) → Option (List Attribute) → List Mark
-marks_at all place declared None = []
-marks_at all place declared (Some attributes) = map (at_place place) (marks_of_element all declared attributes)

@@ -2,6 +2,7 @@
 
 ghost use Rattle.std.specs.Prelude.{◌≡◌, ◌<◌, ◌++◌, ◌^◌, length, map, IfOk, OnOk};
 ghost use Rattle.std.specs.List.{list_any};
+ghost use Rattle.ditaval_rules.specs.Domains as domains_spec;
 ghost use Rattle.flag_marks.specs.Marks as spec;
 ghost use Rattle.flag_marks.specs.Places as places_spec;
 ghost use Rattle.flag_marks.specs.Shown as shown_spec;
@@ -148,7 +149,7 @@ fn push_node(
     node: &Node,
 ) -> Result<(), NoMemory>
     ensures { OnOk result (marks.new ≡ marks.old
-        ++ spec.marks_at tables.now place declared.now (spec.attributes_at node.now)) }
+        ++ spec.marks_of_node tables.now place declared.now (spec.attributes_at node.now)) }
 {
     match node.kind {
         NodeKind::Chars => Ok(()),
@@ -167,7 +168,7 @@ fn push_once(
     texts: &[Text],
 ) -> Result<(), NoMemory>
     ensures { OnOk result (marks.new
-        ≡ marks.old ++ map (spec.at_place place) (spec.first_of_each texts.now)) }
+        ≡ marks.old ++ map (spec.at_place place) (domains_spec.first_of_each texts.now)) }
 {
     let mut seen = BTreeSet::new(alloc);
     for text in texts {

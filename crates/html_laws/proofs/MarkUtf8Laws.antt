@@ -1,5 +1,5 @@
 -- The marks of content in UTF-8 are UTF-8.
-use Rattle.std.specs.Prelude.{◌≡◌, ◌+◌, ◌++◌, ℕ, true, List, [], ◌∷◌, Option, Some, None, IfSome, filter, map, not, codes, bytes_eq}
+use Rattle.std.specs.Prelude.{◌≡◌, ◌+◌, ◌++◌, ℕ, true, List, [], ◌∷◌, Option, Some, None, IfSome, filter, map, codes}
 use Rattle.std.specs.List.{AllByRecursion, flat_map, list_all}
 use Rattle.std.specs.Str.{IsUtf8}
 use Rattle.std.proofs.Common.{refl}
@@ -8,12 +8,12 @@ use Rattle.dita_doc.specs.ClassValue.{value_of, words_of}
 use Rattle.dita_doc.specs.declared.content.Rule.{Rule}
 use Rattle.dita_doc.specs.declared.doc.Attribute.{Attribute}
 use Rattle.ditaval_rules.specs.Verdict.{conditional_names, is_grouped}
-use Rattle.flag_marks.specs.Marks.{at_place, first_of_each, flags, mark_text, marks_by, marks_from, marks_of_attribute, marks_of_element, marks_of_tokens, marks_of_value}
+use Rattle.flag_marks.specs.Marks.{at_place, flags, mark_text, marks_by, marks_from, marks_of_attribute, marks_of_element, marks_of_tokens, marks_of_value}
 use Rattle.map_spec.specs.Written.{Written, End, Chars, Node}
 use Rattle.part_spec.specs.Parts.{attributes_in}
 use Rattle.html_laws.specs.Utf8.{HasUtf8Value, IsUtf8Content, IsUtf8Mark}
 use Rattle.html_laws.proofs.ContentUtf8Laws.{utf8_value_of}
-use Rattle.html_laws.proofs.DomainUtf8Laws.{AreUtf8Names, utf8_words}
+use Rattle.html_laws.proofs.DomainUtf8Laws.{AreUtf8Names, utf8_first_of_each, utf8_words}
 use Rattle.html_laws.proofs.EachLaws.{chosen, of_any, of_both, of_kept, of_lists, of_map_or, of_mapped}
 use Rattle.html_laws.proofs.FormLaws.{each_passes}
 use Rattle.html_laws.proofs.TextUtf8Laws.{is_low, utf8_codes, utf8_three}
@@ -45,11 +45,6 @@ utf8_of_value rules att value named is =
     (λ token one. utf8_mark att token named one)
     (of_kept IsUtf8 (flags rules att) (words_of value) (utf8_words value is)))
 
-utf8_first : (texts : List (List ℕ)) → AllByRecursion IsUtf8 texts → AllByRecursion IsUtf8 (first_of_each texts)
-utf8_first [] all = tt
-utf8_first (text ∷ texts) all =
-    (all.0, of_kept IsUtf8 (λ other. not (bytes_eq text other)) (first_of_each texts) (utf8_first texts all.1))
-
 module _ (declared : List (List ℕ)) (attributes : List Attribute) (names : AreUtf8Names declared)
     (all : AllByRecursion HasUtf8Value attributes) where
   utf8_of_attribute : (rules : List Rule) (att : List ℕ) → IsUtf8 att
@@ -66,7 +61,7 @@ module _ (declared : List (List ℕ)) (attributes : List Attribute) (names : Are
   utf8_of_element : (rules : List (List Rule)) → AllByRecursion IsUtf8 (marks_of_element rules declared attributes)
   utf8_of_element rules =
       let any : List Rule → Type 0 = λ own. Unit {0} in
-      utf8_first (flat_map (marks_by declared attributes) rules)
+      utf8_first_of_each (flat_map (marks_by declared attributes) rules)
       (of_lists any IsUtf8 (marks_by declared attributes) rules (λ own is. utf8_by own)
       (of_any any rules (λ own. tt)))
 

@@ -124,11 +124,15 @@ page_part room world plan val index = option_map_or (λ (page : PagePlan).
 
 -- The page of terms
 
--- the content of the page at an index, made of the document that it names
+-- the content of a page, made of the document that it names
+abbrev pub content_of_page : Rooms → World → Plan → Option (List ℕ) → PagePlan → Made
+content_of_page room world plan val page =
+    option_map_or (content_of_root room world plan val page) (root_in world page.id.doc) nothing_made
+
+-- the same at an index
 unfoldable pub page_content : Rooms → World → Plan → Option (List ℕ) → ℕ → Made
-page_content room world plan val index = option_map_or (λ (page : PagePlan).
-    option_map_or (content_of_root room world plan val page) (root_in world page.id.doc) nothing_made)
-    (slice_get plan.pages index) nothing_made
+page_content room world plan val index =
+    option_map_or (content_of_page room world plan val) (slice_get plan.pages index) nothing_made
 
 abbrev pub page_terms : Rooms → World → Plan → Option (List ℕ) → ℕ → List TermEntry
 page_terms room world plan val index = terms_of index (page_content room world plan val index).nodes
@@ -137,8 +141,12 @@ page_terms room world plan val index = terms_of index (page_content room world p
 abbrev pub terms_in : Rooms → World → Plan → Option (List ℕ) → List TermEntry
 terms_in room world plan val = flat_map (page_terms room world plan val) (places_from 0 plan.pages)
 
+-- the titles of pages, and of all pages of a plan
+abbrev pub titles_in : World → List PagePlan → List (List ℕ)
+titles_in world pages = map (λ (page : PagePlan). title_in world page.id.doc []) pages
+
 abbrev pub page_titles : World → Plan → List (List ℕ)
-page_titles world plan = map (λ (page : PagePlan). title_in world page.id.doc []) plan.pages
+page_titles world plan = titles_in world plan.pages
 
 -- the page of a plan's terms, if there are any
 abbrev pub terms_part : Rooms → World → Plan → Option (List ℕ) → Option Html

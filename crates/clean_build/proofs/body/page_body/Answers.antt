@@ -1,7 +1,7 @@
 use Rattle.std.proofs.Common.{ap, ◌∙◌}
 use Rattle.std.specs.Arc.{arc_value}
 use Rattle.std.specs.Prelude.{map}
-use Rattle.conref_pull.specs.Rules.{all_kept, ditavals}
+use Rattle.conref_targets.specs.Rules.{all_kept, ditavals}
 use Rattle.dita_doc.specs.declared.plan.Context.{Context}
 use Rattle.flag_marks.specs.Marks.{attributes_at, marks_from}
 use Rattle.part_spec.specs.Parts.{here_of}

@@ -1,8 +1,8 @@
 use Rattle.std.specs.Prelude.{◌++◌, ◌∷◌, IfOk}
 use Rattle.std.proofs.Common.{refl, subst}
-use Rattle.conref_pull.specs.Asking.{of_content}
+use Rattle.conref_targets.specs.Asking.{of_content}
 use Rattle.conref_pull.specs.Resolved.{IsResolved}
-use Rattle.conref_pull.specs.Rules.{ditavals}
+use Rattle.conref_targets.specs.Rules.{ditavals}
 use Rattle.dita_doc.specs.declared.content.Resolved.{Resolved}
 use Rattle.dita_doc.specs.declared.plan.Context.{Context}
 use Rattle.map_spec.specs.Pushes.{pushed}

@@ -1,13 +1,13 @@
 use Rattle.std.specs.Prelude.{◌++◌, ◌∷◌, IfOk}
 use Rattle.std.proofs.Common.{refl, sym, subst}
-use Rattle.conref_pull.specs.Rules.{ditavals}
+use Rattle.conref_targets.specs.Rules.{ditavals}
 use Rattle.dita_doc.specs.declared.plan.Context.{Context}
 use Rattle.readers.proofs.FoundedLaws.{stays_same}
 use Rattle.readers.specs.Founded.{StaysFounded, homes}
 use Rattle.xref_links.specs.Here.{IsPageOf}
 use Rattle.clean_build.specs.Bodies.{IsBodyMade}
 use Rattle.clean_build.proofs.ReadyLaws.{is_page}
-use Rattle.conref_pull.specs.Asking.{of_content}
+use Rattle.conref_targets.specs.Asking.{of_content}
 use Rattle.readers.proofs.DocumentLaws.{asks_same}
 use Rattle.readers.specs.Documents.{AsksOnly}
 use Rattle.clean_build.proofs.works.body_on_ground.Goals as goal

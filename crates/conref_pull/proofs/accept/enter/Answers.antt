@@ -1,4 +1,4 @@
-use Rattle.conref_pull.specs.Setting.{place_shown}
+use Rattle.conref_pull.specs.State.{place_shown}
 use Rattle.conref_pull.proofs.AcceptLaws.{one_behind}
 use Rattle.conref_pull.proofs.accept.enter.Goals as goal
 

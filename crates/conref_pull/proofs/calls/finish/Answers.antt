@@ -2,11 +2,12 @@ use Rattle.std.proofs.Common.{Result, OnOk, refl, sym, subst}
 use Rattle.std.proofs.lemmas.Result.{on_ok_weaker}
 use Rattle.dita_doc.specs.declared.stop.Stop.{Stop}
 use Rattle.map_spec.specs.Written.{End}
-use Rattle.conref_pull.specs.Hrefs.{HaveNamed, PutNamed}
+use Rattle.conref_targets.specs.Hrefs.{HaveNamed}
+use Rattle.conref_targets.proofs.AskingLaws.{about_same}
+use Rattle.conref_pull.specs.PutHrefs.{PutNamed}
 use Rattle.conref_pull.specs.Putting.{built}
 use Rattle.conref_pull.specs.Resolved.{HasMemory, IsDone}
 use Rattle.conref_pull.specs.declared.resolver.TooMany.{TooMany}
-use Rattle.conref_pull.proofs.AskingLaws.{about_same}
 use Rattle.conref_pull.proofs.HrefLaws.{filled_named}
 use Rattle.conref_pull.proofs.calls.finish.Goals as goal
 

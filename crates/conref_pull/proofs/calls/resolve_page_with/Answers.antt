@@ -13,30 +13,33 @@ use Rattle.readers.specs.Named.{named_found, named_tree, reused_in}
 use Rattle.readers.specs.Setting.{Stand}
 use Rattle.doc_maker.specs.Made.{resolved_tree}
 use Rattle.readers.proofs.GrowthLaws.{agrees_before, grows_trans}
-use Rattle.conref_pull.specs.Asking.{AreGiven, reused_of_doc}
-use Rattle.conref_pull.specs.Origin.{named_content}
-use Rattle.conref_pull.specs.Hrefs.{HaveNamed, HaveNamedIn}
+use Rattle.conref_targets.specs.Asking.{AreGiven, reused_of_doc}
+use Rattle.conref_targets.specs.Origin.{named_content}
+use Rattle.conref_targets.specs.Hrefs.{HaveNamed}
+use Rattle.conref_targets.specs.Rules.{ditavals, page_rules}
+use Rattle.conref_targets.specs.Setting.{documents_in, setting_of}
+use Rattle.conref_targets.proofs.AskingLaws.{about_ditavals, about_next, about_rules_first, about_then, given_reused, none_among}
+use Rattle.conref_targets.proofs.OriginLaws.{content_named}
+use Rattle.conref_targets.proofs.HrefGivenLaws.{found_named}
+use Rattle.conref_targets.proofs.RuleLaws.{rules_of_page}
+use Rattle.conref_pull.specs.PutHrefs.{HaveNamedIn}
 use Rattle.conref_pull.specs.Putting.{built}
 use Rattle.conref_pull.specs.Resolved.{IsResolved, too_many_faults}
-use Rattle.conref_pull.specs.Rules.{ditavals, page_rules}
-use Rattle.conref_pull.specs.Setting.{documents_in, setting_of}
 use Rattle.conref_pull.specs.Walking.{among_made, seen_by}
-use Rattle.conref_pull.proofs.AskingLaws.{about_ditavals, about_next, about_rules_first, about_then, given_reused, none_among}
 use Rattle.conref_pull.proofs.CallLaws.{Begins, all_made, done_of, here_begins, none_made, ready_begins, setting_begins, tables_kept}
-use Rattle.conref_pull.proofs.OriginLaws.{content_named}
-use Rattle.conref_pull.proofs.HrefGivenLaws.{found_named}
 use Rattle.conref_pull.proofs.HrefLaws.{building_later, linked_allowed}
-use Rattle.conref_pull.proofs.RuleLaws.{rules_of_page}
 use Rattle.conref_pull.proofs.WalkLaws.{walks_as}
 use Rattle.conref_pull.proofs.calls.resolve_page_with.Goals as goal
 
 pub returns-in_err-read-clause-founded : goal.returns-in_err-read-clause-founded
 returns-in_err-read-clause-founded g c =
-    (about_ditavals (g.A.Reader.stand c.args.asker.now).setting.nodes _ _ _ _ c.read.ensures.founded c.read.ensures.asks).founded
+    (about_ditavals (g.A.Reader.stand c.args.asker.now).setting.nodes _ _ _ _ c.read.ensures.founded
+    c.read.ensures.asks).founded
 
 pub returns-in_err-read-clause-asks : goal.returns-in_err-read-clause-asks
 returns-in_err-read-clause-asks g c =
-    (about_ditavals (g.A.Reader.stand c.args.asker.now).setting.nodes _ _ _ _ c.read.ensures.founded c.read.ensures.asks).asks
+    (about_ditavals (g.A.Reader.stand c.args.asker.now).setting.nodes _ _ _ _ c.read.ensures.founded
+    c.read.ensures.asks).asks
 
 pub returns-in_err-doc-clause-founded : goal.returns-in_err-doc-clause-founded
 returns-in_err-doc-clause-founded g c =
@@ -69,7 +72,8 @@ returns-in_err-rules-clause-asks g c =
     c.read.ensures.founded c.read.ensures.asks c.pushed.ensures.founded c.pushed.ensures.asks).asks
 
 pub returns-clause-founded : goal.returns-clause-founded
-returns-clause-founded g c = (about_next (g.A.Reader.stand c.args.asker.now).setting.nodes _ _ _ _ _ _ _ refl (none_among _)
+returns-clause-founded g c = (about_next (g.A.Reader.stand c.args.asker.now).setting.nodes _ _ _ _ _ _ _ refl
+    (none_among _)
     (grows_trans _ _ _ (grows_trans _ _ _ c.read.ensures.grows c.pushed.ensures.grows) c.siblings-done.ensures.grows)
     (about_then (g.A.Reader.stand c.args.asker.now).setting.nodes _ _ _ _ _ _ _
     (ap (λ (context : Context). context.page.doc) c.new-resolver.ensures.context)
@@ -86,7 +90,8 @@ returns-clause-founded g c = (about_next (g.A.Reader.stand c.args.asker.now).set
     (c.finish.ensures.asks (g.A.Reader.stand c.args.asker.now).setting.nodes)).founded
 
 pub returns-clause-asks : goal.returns-clause-asks
-returns-clause-asks g c = (about_next (g.A.Reader.stand c.args.asker.now).setting.nodes _ _ _ _ _ _ _ refl (none_among _)
+returns-clause-asks g c = (about_next (g.A.Reader.stand c.args.asker.now).setting.nodes _ _ _ _ _ _ _ refl
+    (none_among _)
     (grows_trans _ _ _ (grows_trans _ _ _ c.read.ensures.grows c.pushed.ensures.grows) c.siblings-done.ensures.grows)
     (about_then (g.A.Reader.stand c.args.asker.now).setting.nodes _ _ _ _ _ _ _
     (ap (λ (context : Context). context.page.doc) c.new-resolver.ensures.context)
@@ -183,7 +188,8 @@ returns-clause-kept g c = λ world agrees rules tables.
     (λ memory. (
       are,
       tables_kept c.siblings-done.result setting.pushed 0
-          (among_made (here_begins setting 1) false (seen_by [] c.new-declared.result) (named_content c.of-2.result)) c.new-resolver.result
+          (among_made (here_begins setting 1) false (seen_by [] c.new-declared.result) (named_content c.of-2.result))
+          c.new-resolver.result
           c.siblings-done.new.self c.siblings-done.new.places memory
           (c.siblings-done.ensures.known world (here_begins setting 1) later ready),
     )) c.finish.ensures.memory)

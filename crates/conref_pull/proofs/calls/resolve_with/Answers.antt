@@ -11,70 +11,84 @@ use Rattle.readers.specs.Setting.{Stand}
 use Rattle.doc_maker.specs.Made.{resolved_tree}
 use Rattle.readers.proofs.GivenLaws.{given_later}
 use Rattle.readers.proofs.GrowthLaws.{grows_trans, agrees_before}
-use Rattle.conref_pull.specs.Asking.{AreGiven, reused_of_doc}
-use Rattle.conref_pull.proofs.AskingLaws.{about_next, about_page, about_rules, about_then, given_none, given_reused, none_among}
+use Rattle.conref_targets.specs.Asking.{AreGiven, reused_of_doc}
+use Rattle.conref_targets.proofs.AskingLaws.{about_next, about_page, about_rules, about_then, given_none, given_reused, none_among}
 use Rattle.std.proofs.lemmas.Result.{IfOk-weaker, on_ok_weaker}
 use Rattle.conref_spec.specs.Content.{Made, page_root, resolved_in}
-use Rattle.conref_pull.specs.Hrefs.{HaveNamed, HaveNamedIn}
+use Rattle.conref_targets.specs.Hrefs.{HaveNamed}
+use Rattle.conref_targets.specs.Rules.{ditavals, page_rules}
+use Rattle.conref_targets.specs.Setting.{setting_of}
+use Rattle.conref_targets.specs.Around.{Stands, alone_at, around_at, nothing_around, standing_shown}
+use Rattle.conref_targets.proofs.HrefGivenLaws.{found_named}
+use Rattle.conref_targets.proofs.RuleLaws.{rules_of_page}
+use Rattle.conref_pull.specs.PutHrefs.{HaveNamedIn}
 use Rattle.conref_pull.specs.Putting.{built}
 use Rattle.conref_pull.specs.Resolved.{IsResolved, too_many_faults}
-use Rattle.conref_pull.specs.Rules.{ditavals, page_rules}
-use Rattle.conref_pull.specs.Setting.{setting_of}
 use Rattle.conref_pull.specs.Walking.{among_made}
 use Rattle.conref_pull.proofs.CallLaws.{Begins, all_made, done_of, here_begins, ready_begins, setting_begins, tables_kept, no_node_made}
-use Rattle.conref_pull.proofs.HrefGivenLaws.{found_named}
 use Rattle.conref_pull.proofs.HrefLaws.{building_later, linked_allowed, nodes_later}
-use Rattle.conref_pull.proofs.RuleLaws.{rules_of_page}
 use Rattle.conref_pull.proofs.WalkLaws.{walks_as}
-use Rattle.conref_pull.specs.Around.{Stands, alone_at, around_at, nothing_around, standing_shown}
-use Rattle.conref_pull.proofs.StandingLaws.{node_walks}
+use Rattle.conref_pull.proofs.NodeStandLaws.{node_walks}
 use Rattle.conref_pull.proofs.calls.resolve_with.Goals as goal
 
 pub returns-in_err-doc-clause-founded : goal.returns-in_err-doc-clause-founded
-returns-in_err-doc-clause-founded g c = (about_page (g.A.Reader.stand c.args.asker.now).setting.nodes _ _ _ _ c.pushed.ensures.founded c.pushed.ensures.asks).founded
+returns-in_err-doc-clause-founded g c = (about_page (g.A.Reader.stand c.args.asker.now).setting.nodes _ _ _ _
+    c.pushed.ensures.founded c.pushed.ensures.asks).founded
 
 pub returns-in_err-doc-clause-asks : goal.returns-in_err-doc-clause-asks
-returns-in_err-doc-clause-asks g c = (about_page (g.A.Reader.stand c.args.asker.now).setting.nodes _ _ _ _ c.pushed.ensures.founded c.pushed.ensures.asks).asks
+returns-in_err-doc-clause-asks g c = (about_page (g.A.Reader.stand c.args.asker.now).setting.nodes _ _ _ _
+    c.pushed.ensures.founded c.pushed.ensures.asks).asks
 
 pub returns-in_default-clause-founded : goal.returns-in_default-clause-founded
-returns-in_default-clause-founded g c = (about_page (g.A.Reader.stand c.args.asker.now).setting.nodes _ _ _ _ c.pushed.ensures.founded c.pushed.ensures.asks).founded
+returns-in_default-clause-founded g c = (about_page (g.A.Reader.stand c.args.asker.now).setting.nodes _ _ _ _
+    c.pushed.ensures.founded c.pushed.ensures.asks).founded
 
 pub returns-in_default-clause-asks : goal.returns-in_default-clause-asks
-returns-in_default-clause-asks g c = (about_page (g.A.Reader.stand c.args.asker.now).setting.nodes _ _ _ _ c.pushed.ensures.founded c.pushed.ensures.asks).asks
+returns-in_default-clause-asks g c = (about_page (g.A.Reader.stand c.args.asker.now).setting.nodes _ _ _ _
+    c.pushed.ensures.founded c.pushed.ensures.asks).asks
 
 pub returns-in_err-read-clause-founded : goal.returns-in_err-read-clause-founded
-returns-in_err-read-clause-founded g c = (about_rules (g.A.Reader.stand c.args.asker.now).setting.nodes _ _ _ _ _ c.pushed.ensures.grows c.pushed.ensures.founded c.pushed.ensures.asks
+returns-in_err-read-clause-founded g c = (about_rules (g.A.Reader.stand c.args.asker.now).setting.nodes _ _ _ _ _
+    c.pushed.ensures.grows c.pushed.ensures.founded c.pushed.ensures.asks
     c.read.ensures.founded c.read.ensures.asks).founded
 
 pub returns-in_err-read-clause-asks : goal.returns-in_err-read-clause-asks
-returns-in_err-read-clause-asks g c = (about_rules (g.A.Reader.stand c.args.asker.now).setting.nodes _ _ _ _ _ c.pushed.ensures.grows c.pushed.ensures.founded c.pushed.ensures.asks
+returns-in_err-read-clause-asks g c = (about_rules (g.A.Reader.stand c.args.asker.now).setting.nodes _ _ _ _ _
+    c.pushed.ensures.grows c.pushed.ensures.founded c.pushed.ensures.asks
     c.read.ensures.founded c.read.ensures.asks).asks
 
 pub returns-in_err-rules-clause-founded : goal.returns-in_err-rules-clause-founded
-returns-in_err-rules-clause-founded g c = (about_rules (g.A.Reader.stand c.args.asker.now).setting.nodes _ _ _ _ _ c.pushed.ensures.grows c.pushed.ensures.founded c.pushed.ensures.asks
+returns-in_err-rules-clause-founded g c = (about_rules (g.A.Reader.stand c.args.asker.now).setting.nodes _ _ _ _ _
+    c.pushed.ensures.grows c.pushed.ensures.founded c.pushed.ensures.asks
     c.read.ensures.founded c.read.ensures.asks).founded
 
 pub returns-in_err-rules-clause-asks : goal.returns-in_err-rules-clause-asks
-returns-in_err-rules-clause-asks g c = (about_rules (g.A.Reader.stand c.args.asker.now).setting.nodes _ _ _ _ _ c.pushed.ensures.grows c.pushed.ensures.founded c.pushed.ensures.asks
+returns-in_err-rules-clause-asks g c = (about_rules (g.A.Reader.stand c.args.asker.now).setting.nodes _ _ _ _ _
+    c.pushed.ensures.grows c.pushed.ensures.founded c.pushed.ensures.asks
     c.read.ensures.founded c.read.ensures.asks).asks
 
 pub returns-in_err-standing-clause-founded : goal.returns-in_err-standing-clause-founded
-returns-in_err-standing-clause-founded g c = (about_rules (g.A.Reader.stand c.args.asker.now).setting.nodes _ _ _ _ _ c.pushed.ensures.grows c.pushed.ensures.founded c.pushed.ensures.asks
+returns-in_err-standing-clause-founded g c = (about_rules (g.A.Reader.stand c.args.asker.now).setting.nodes _ _ _ _ _
+    c.pushed.ensures.grows c.pushed.ensures.founded c.pushed.ensures.asks
     c.read.ensures.founded c.read.ensures.asks).founded
 
 pub returns-in_err-standing-clause-asks : goal.returns-in_err-standing-clause-asks
-returns-in_err-standing-clause-asks g c = (about_rules (g.A.Reader.stand c.args.asker.now).setting.nodes _ _ _ _ _ c.pushed.ensures.grows c.pushed.ensures.founded c.pushed.ensures.asks
+returns-in_err-standing-clause-asks g c = (about_rules (g.A.Reader.stand c.args.asker.now).setting.nodes _ _ _ _ _
+    c.pushed.ensures.grows c.pushed.ensures.founded c.pushed.ensures.asks
     c.read.ensures.founded c.read.ensures.asks).asks
 
 pub returns-clause-founded : goal.returns-clause-founded
-returns-clause-founded g c = (about_next (g.A.Reader.stand c.args.asker.now).setting.nodes _ _ _ _ _ _ _ refl (none_among _)
+returns-clause-founded g c = (about_next (g.A.Reader.stand c.args.asker.now).setting.nodes _ _ _ _ _ _ _ refl
+    (none_among _)
     (grows_trans _ _ _ (grows_trans _ _ _ c.pushed.ensures.grows c.read.ensures.grows) c.node_at-done.ensures.grows)
     (about_then (g.A.Reader.stand c.args.asker.now).setting.nodes _ _ _ _ _ _ _
     (ap (λ (context : Context). context.page.doc) c.new-resolver.ensures.context)
     (given_none _)
     (grows_trans _ _ _ c.pushed.ensures.grows c.read.ensures.grows)
-    (about_rules (g.A.Reader.stand c.args.asker.now).setting.nodes _ _ _ _ _ c.pushed.ensures.grows c.pushed.ensures.founded c.pushed.ensures.asks
-    c.read.ensures.founded c.read.ensures.asks) (c.node_at-done.ensures.asks (g.A.Reader.stand c.args.asker.now).setting.nodes
+    (about_rules (g.A.Reader.stand c.args.asker.now).setting.nodes _ _ _ _ _ c.pushed.ensures.grows
+    c.pushed.ensures.founded c.pushed.ensures.asks
+    c.read.ensures.founded c.read.ensures.asks) (c.node_at-done.ensures.asks
+    (g.A.Reader.stand c.args.asker.now).setting.nodes
     (ap (λ (stand : Stand). stand.setting.nodes) (c.in_ok-read.ensures.stand ∙ c.in_ok-doc.ensures.stand))
     (subst (λ (doc : Doc). AreGiven (g.A.Reader.told c.read.new.reader) (reused_of_doc doc)) (sym c.deref-2.ensures)
     (given_reused _ (arc_value c.in-Some.doc) (given_later _ _ _ c.in_ok-read.ensures.grows
@@ -83,14 +97,17 @@ returns-clause-founded g c = (about_next (g.A.Reader.stand c.args.asker.now).set
     (c.finish.ensures.asks (g.A.Reader.stand c.args.asker.now).setting.nodes)).founded
 
 pub returns-clause-asks : goal.returns-clause-asks
-returns-clause-asks g c = (about_next (g.A.Reader.stand c.args.asker.now).setting.nodes _ _ _ _ _ _ _ refl (none_among _)
+returns-clause-asks g c = (about_next (g.A.Reader.stand c.args.asker.now).setting.nodes _ _ _ _ _ _ _ refl
+    (none_among _)
     (grows_trans _ _ _ (grows_trans _ _ _ c.pushed.ensures.grows c.read.ensures.grows) c.node_at-done.ensures.grows)
     (about_then (g.A.Reader.stand c.args.asker.now).setting.nodes _ _ _ _ _ _ _
     (ap (λ (context : Context). context.page.doc) c.new-resolver.ensures.context)
     (given_none _)
     (grows_trans _ _ _ c.pushed.ensures.grows c.read.ensures.grows)
-    (about_rules (g.A.Reader.stand c.args.asker.now).setting.nodes _ _ _ _ _ c.pushed.ensures.grows c.pushed.ensures.founded c.pushed.ensures.asks
-    c.read.ensures.founded c.read.ensures.asks) (c.node_at-done.ensures.asks (g.A.Reader.stand c.args.asker.now).setting.nodes
+    (about_rules (g.A.Reader.stand c.args.asker.now).setting.nodes _ _ _ _ _ c.pushed.ensures.grows
+    c.pushed.ensures.founded c.pushed.ensures.asks
+    c.read.ensures.founded c.read.ensures.asks) (c.node_at-done.ensures.asks
+    (g.A.Reader.stand c.args.asker.now).setting.nodes
     (ap (λ (stand : Stand). stand.setting.nodes) (c.in_ok-read.ensures.stand ∙ c.in_ok-doc.ensures.stand))
     (subst (λ (doc : Doc). AreGiven (g.A.Reader.told c.read.new.reader) (reused_of_doc doc)) (sym c.deref-2.ensures)
     (given_reused _ (arc_value c.in-Some.doc) (given_later _ _ _ c.in_ok-read.ensures.grows

@@ -1,9 +1,9 @@
 use Rattle.std.proofs.Common.{refl, subst}
 use Rattle.std.proofs.lemmas.Result.{IfOk-weaker}
 use Rattle.dita_doc.specs.declared.stop.Stop.{Stop}
+use Rattle.conref_targets.proofs.AskingLaws.{about_same}
 use Rattle.conref_pull.specs.Resolved.{IsStopped, too_many_faults}
 use Rattle.conref_pull.specs.declared.resolver.TooMany.{TooMany}
-use Rattle.conref_pull.proofs.AskingLaws.{about_same}
 use Rattle.conref_pull.proofs.CallLaws.{full_resolved}
 use Rattle.conref_pull.proofs.calls.stopped.Goals as goal
 

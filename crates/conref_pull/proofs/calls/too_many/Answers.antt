@@ -6,9 +6,9 @@ use Rattle.dita_doc.specs.declared.fault.Fault.{Fault}
 use Rattle.doc_maker.specs.Building.{whole}
 use Rattle.map_spec.specs.Written.{written_in}
 use Rattle.readers.specs.Told.{Agrees, Told, tree_found}
-use Rattle.conref_pull.specs.Hrefs.{HaveNamed}
+use Rattle.conref_targets.specs.Hrefs.{HaveNamed}
 use Rattle.doc_elements.specs.Root.{root_element}
-use Rattle.conref_pull.proofs.AskingLaws.{about_doc}
+use Rattle.conref_targets.proofs.AskingLaws.{about_doc}
 use Rattle.conref_pull.proofs.RootLaws.{faults_none, faults_rootless, faults_some}
 use Rattle.conref_pull.proofs.calls.too_many.Goals as goal
 use Rattle.conref_pull.proofs.calls.too_many.Goals.{in-Some, in-Some-root_of+in_ok-fault_at+in_ok-push, in_default-root_of, in_default}

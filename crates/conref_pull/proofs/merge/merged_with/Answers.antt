@@ -1,8 +1,8 @@
 use Rattle.std.proofs.Common.{◌-◌, subst}
 use Rattle.std.proofs.lemmas.Result.{IfOk-weaker}
 use Rattle.doc_elements.specs.Walk.{element_of}
-use Rattle.conref_pull.specs.Asking.{AreGivenTo}
-use Rattle.conref_pull.specs.Hrefs.{MergedNamed}
+use Rattle.conref_pull.specs.Linked.{AreGivenTo}
+use Rattle.conref_pull.specs.PutHrefs.{MergedNamed}
 use Rattle.conref_pull.proofs.HrefMergeLaws.{by_element}
 use Rattle.conref_pull.proofs.MergeLaws.{with_none, with_some}
 use Rattle.conref_pull.proofs.merge.merged_with.Goals as goal

@@ -1,7 +1,7 @@
 use Rattle.std.specs.Option.{option_copied, option_map_or}
 use Rattle.std.specs.Prelude.{ℕ, [], IfOk, is_some, List, Option}
 use Rattle.std.proofs.Common.{refl, sym, ap, subst}
-use Rattle.conref_pull.specs.Asking.{of_content}
+use Rattle.conref_targets.specs.Asking.{of_content}
 use Rattle.conref_pull.specs.Resolved.{IsResolved}
 use Rattle.conref_spec.specs.Content.{Made}
 use Rattle.dita_doc.specs.declared.content.Resolved.{Resolved}

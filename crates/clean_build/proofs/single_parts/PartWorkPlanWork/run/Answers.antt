@@ -8,7 +8,7 @@ use Rattle.clean_build.specs.Single.{part_html}
 use Rattle.clean_build.specs.declared.single_parts.Part.{Part}
 use Rattle.clean_build.proofs.NameLaws.{stays_contents}
 use Rattle.clean_build.proofs.ReadyLaws.{contents_html, ok_under, toc_ready}
-use Rattle.conref_pull.specs.Asking.{of_content}
+use Rattle.conref_targets.specs.Asking.{of_content}
 use Rattle.readers.specs.Documents.{AsksOnly}
 use Rattle.clean_build.specs.Single.{documents_for}
 use Rattle.clean_build.proofs.AskLaws.{asks_widely}

@@ -1,7 +1,7 @@
 use Rattle.std.proofs.Common.{◌∷◌, List, sym, subst, ◌∙◌}
 use Rattle.conref_pull.specs.Linked.{AreLinks}
 use Rattle.conref_pull.specs.declared.chain.Link.{Link}
-use Rattle.conref_pull.proofs.AskingLaws.{first_given, whole_given}
+use Rattle.conref_pull.proofs.LinkAskLaws.{first_given, whole_given}
 use Rattle.conref_pull.proofs.LinkLaws.{no_links}
 use Rattle.conref_pull.proofs.chain.Chain.farthest.Goals as goal
 

@@ -1,5 +1,6 @@
+use Rattle.std.specs.List.{each_same}
 use Rattle.std.proofs.Common.{ℕ, List, Option, Some, None, ap, unwrap_or, ◌∙◌}
-use Rattle.conref_pull.proofs.LinkLaws.{if_ok_as, link_inside, no_target}
+use Rattle.conref_pull.proofs.LinkLaws.{link_inside, no_target}
 use Rattle.conref_pull.proofs.chain.Link.declared_inside.Goals as goal
 
 pub returns-in_default : goal.returns-in_default
@@ -10,9 +11,8 @@ returns-in-Some-own c = λ one is. link_inside c.args.self.now one c.in-Some.tar
     (c.in-Some.ensures.target one is) is (c.in_ok-own.ensures c.args.self.now.declared
     ∙ ap (λ (own : Option (List (List ℕ))). unwrap_or own c.args.self.now.declared) c.in-Some-own.is)
 
-pub returns-in-None : goal.returns-in-None
-returns-in-None c = λ one is. if_ok_as c.copied_names.result (c.as_slice.ensures
+pub returns-in_ok-clone-in-None : goal.returns-in_ok-clone-in-None
+returns-in_ok-clone-in-None c = λ one is. each_same c.args.self.now.declared c.in_ok-clone-in-None.field-0 c.in_ok-clone-in-None.ensures.cases
     ∙ link_inside c.args.self.now one c.in-Some.target None (c.in-Some.ensures.target one is) is
     (c.in_ok-own.ensures c.args.self.now.declared
-    ∙ ap (λ (own : Option (List (List ℕ))). unwrap_or own c.args.self.now.declared) c.in-None.is))
-    c.copied_names.ensures
+    ∙ ap (λ (own : Option (List (List ℕ))). unwrap_or own c.args.self.now.declared) c.in-None.is)

@@ -1,11 +1,11 @@
 use Rattle.std.proofs.Common.{subst, sym}
 use Rattle.std.specs.Prelude.{IfSome}
 use Rattle.dita_doc.specs.declared.doc.Doc.{Doc}
-use Rattle.conref_pull.specs.Asking.{AreAmong, reused_of_doc, reused_of_whole}
+use Rattle.conref_targets.specs.Asking.{AreAmong, reused_of_doc, reused_of_whole}
 use Rattle.conref_pull.proofs.LinkLaws.{link_whole}
 use Rattle.readers.specs.Named.{named_tree}
-use Rattle.conref_pull.specs.Hrefs.{HaveNamed}
-use Rattle.conref_pull.proofs.HrefGivenLaws.{link_named}
+use Rattle.conref_targets.specs.Hrefs.{HaveNamed}
+use Rattle.conref_pull.proofs.LinkLaws.{link_named}
 use Rattle.conref_pull.proofs.chain.Link.whole.Goals as goal
 
 pub returns-clause-target : goal.returns-clause-target

@@ -1,6 +1,6 @@
 use Rattle.std.proofs.Common.{subst}
-use Rattle.conref_pull.specs.Asking.{AreGivenTo}
-use Rattle.conref_pull.proofs.AskingLaws.{links_apart}
+use Rattle.conref_pull.specs.Linked.{AreGivenTo}
+use Rattle.conref_pull.proofs.LinkAskLaws.{links_apart}
 use Rattle.conref_pull.proofs.TakingLaws.{alike_same, way_end, way_on}
 use Rattle.conref_pull.proofs.merge.Merged.with_nearer.Goals as goal
 

@@ -2,9 +2,8 @@ use Rattle.std.proofs.Common.{ℕ, List, length}
 use Rattle.map_spec.specs.Written.{Element}
 use Rattle.conref_spec.specs.Content.{Place}
 use Rattle.readers.specs.Told.{Told}
-use Rattle.conref_pull.specs.Asking.{AreGivenTo}
-use Rattle.conref_pull.specs.Hrefs.{MergedNamed}
-use Rattle.conref_pull.specs.Linked.{AreLinks}
+use Rattle.conref_pull.specs.Linked.{AreGivenTo, AreLinks}
+use Rattle.conref_pull.specs.PutHrefs.{MergedNamed}
 use Rattle.conref_pull.specs.Merging.{IsMerged}
 use Rattle.conref_pull.specs.Step.{Taken}
 use Rattle.conref_pull.proofs.TakingLaws.{OnTheWay}

@@ -4,16 +4,18 @@ use Rattle.std.specs.Borrow.{Bor}
 use Rattle.dita_doc.specs.declared.plan.Context.{Context}
 use Rattle.doc_elements.specs.Walk.{element_of}
 use Rattle.readers.specs.Setting.{Stand}
-use Rattle.conref_pull.specs.Asking.{AreGivenTo, IsGivenIf}
+use Rattle.conref_pull.specs.Linked.{AreGivenTo, IsGivenIf}
 use Rattle.readers.proofs.GivenLaws.{given_later}
 use Rattle.readers.proofs.GrowthLaws.{agrees_before, grows_trans}
+use Rattle.conref_targets.specs.Origin.{whole_of}
+use Rattle.conref_targets.specs.Setting.{setting_of}
+use Rattle.conref_targets.proofs.AskingLaws.{about_then, given_reused, given_some, whole_element}
 use Rattle.conref_pull.specs.Linked.{IsStep}
-use Rattle.conref_pull.specs.Origin.{whole_of}
-use Rattle.conref_pull.specs.Setting.{path_within, setting_of}
+use Rattle.conref_pull.specs.State.{path_within}
 use Rattle.conref_pull.specs.Step.{step_of}
 use Rattle.conref_pull.specs.declared.chain.Link.{Link}
 use Rattle.conref_pull.specs.declared.resolver.Resolver.{Resolver}
-use Rattle.conref_pull.proofs.AskingLaws.{about_then, given_reused, given_some, links_later, links_more, whole_element}
+use Rattle.conref_pull.proofs.LinkAskLaws.{links_later, links_more}
 use Rattle.conref_pull.proofs.FollowLaws.{follow_ended, follow_lost, follow_on, followed_there, page_same_setting, step_room}
 use Rattle.conref_pull.proofs.TakeLaws.{depth_same}
 use Rattle.conref_pull.proofs.resolver.Resolver.+follow.Goals as goal

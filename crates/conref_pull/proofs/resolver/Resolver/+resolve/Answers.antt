@@ -2,7 +2,7 @@ use Rattle.std.proofs.Common.{arith, rules, ◌∷◌, refl, ap, sym, ◌∙◌,
 use Rattle.dita_doc.specs.Siblings.{document}
 use Rattle.dita_doc.specs.declared.doc.Doc.{Doc}
 use Rattle.doc_elements.specs.Walk.{element_of}
-use Rattle.conref_pull.specs.Origin.{named_content}
+use Rattle.conref_targets.specs.Origin.{named_content}
 use Rattle.conref_pull.specs.Step.{declared_inside, merged_onto}
 use Rattle.conref_pull.specs.Walking.{around_of, inside_of, seen_by}
 use Rattle.dita_doc.specs.Tree.{size_of}
@@ -202,9 +202,9 @@ element_with-returns-clause-grows g t c = grows_trans _ _ _ c.in_ok-chain.ensure
     (grows_trans _ _ _ c.in_ok-merged.ensures.grows c.ranges-2.ensures.grows)
 
 pub element_with-returns-then-chain-at-clause-page : goal.element_with-returns-then-chain-at-clause-page
-element_with-returns-then-chain-at-clause-page g t c = page_on c.unchanged-then-chain-at.result c.unchanged-then-chain-at.new.self (page_then _ _ _
-    (page_faults c.args.self.now _ _ c.in_ok-is_excluded.ensures.state) c.in_ok-chain.ensures.page)
-    c.unchanged-then-chain-at.ensures.page
+element_with-returns-then-chain-at-clause-page g t c = page_on c.unchanged-then-chain-at.result
+    c.unchanged-then-chain-at.new.self (page_then _ _ _ (page_faults c.args.self.now _ _
+    c.in_ok-is_excluded.ensures.state) c.in_ok-chain.ensures.page) c.unchanged-then-chain-at.ensures.page
 
 pub element_with-returns-clause-page : goal.element_with-returns-clause-page
 element_with-returns-clause-page g t c = page_on c.ranges-2.result c.ranges-2.new.self (page_then _ _ _ (page_then _ _ _
@@ -282,9 +282,9 @@ pub unchanged-returns-clause-hrefs : goal.unchanged-returns-clause-hrefs
 unchanged-returns-clause-hrefs g t c = λ named held put.
     (let told = g.A.Reader.told c.args.asker.now in
     let element = element_of c.args.origin.now c.args.node.now in
-    around_put told _ c.args.origin.now c.count_one.new.self c.siblings.new.self c.in_ok-open.ensures.opened (left_named told
-    c.args.at.is_range element (c.in_ok-attributes.ensures element c.in_ok-own.ensures).attributes named)
-    (same_put _ c.args.self.now _ (maker_counted _ _ c.in_ok-count_one.ensures) put)
+    around_put told _ c.args.origin.now c.count_one.new.self c.siblings.new.self c.in_ok-open.ensures.opened
+    (left_named told c.args.at.is_range element (c.in_ok-attributes.ensures element c.in_ok-own.ensures).attributes
+    named) (same_put _ c.args.self.now _ (maker_counted _ _ c.in_ok-count_one.ensures) put)
     (c.in_ok-siblings.ensures.hrefs held) c.close.ensures.closed)
 
 -- What was put
@@ -347,9 +347,9 @@ element_with-returns-then-branch-clause-known g t c = λ world here place agrees
 pub element_with-returns-then-is_none-clause-known : goal.element_with-returns-then-is_none-clause-known
 element_with-returns-then-is_none-clause-known g t c = λ world here place agrees ready there declares.
     judged_plain c.args.at.is_range (around_of c.args.at) c.args.inside c.args.node.now c.in-Some.origin.now
-    c.args.declared.now c.doc.ensures c.in-Some.ensures declares c.in_ok-is_excluded.ensures.state ready c.unchanged.result c.by.result _ _
-    (sym c.if-branch.false ∙ c.in_ok-is_excluded.ensures.goes) (c.by.ensures c.in-Some.origin.now) c.if-is_none.ensures
-    (c.unchanged.ensures.known world here agrees)
+    c.args.declared.now c.doc.ensures c.in-Some.ensures declares c.in_ok-is_excluded.ensures.state ready
+    c.unchanged.result c.by.result _ _ (sym c.if-branch.false ∙ c.in_ok-is_excluded.ensures.goes)
+    (c.by.ensures c.in-Some.origin.now) c.if-is_none.ensures (c.unchanged.ensures.known world here agrees)
 
 pub element_with-returns-then-chain-at-clause-known : goal.element_with-returns-then-chain-at-clause-known
 element_with-returns-then-chain-at-clause-known g t c = λ world here place agrees ready there declares.
@@ -402,11 +402,11 @@ merged-returns-in_err-siblings-clause-known g t c = λ world here farthest neare
     (links_are here.path c.args.chain.now.end (farthest ∷ nearer) c.deref.ensures.value linked))
     c.in_ok-is_excluded.ensures.state (sym c.if-branch.false ∙ c.in_ok-is_excluded.ensures.goes)
     c.in_ok-name.ensures.cases c.in_ok-attributes.ensures c.in_ok-open.ensures.opened c.in_ok-own.ensures.cases
-    c.in_ok-open.ensures.declared (seen_as (c.topic_taken.ensures c.args.origin.now (merged_onto farthest.element nearer) types)
-    (c.in_ok-there.ensures here.path c.args.chain.now.end farthest nearer linked)) ready
-    c.from_residual-in_err-siblings.result c.in_err-siblings.field-0.0 _ _ c.from_residual-in_err-siblings.ensures.1
-    (c.in-Some.ensures.target here.path c.args.chain.now.end farthest nearer linked)
-    (c.in_err-siblings.ensures.known world (inside_of here) agrees))
+    c.in_ok-open.ensures.declared (seen_as (c.topic_taken.ensures c.args.origin.now
+    (merged_onto farthest.element nearer) types) (c.in_ok-there.ensures here.path c.args.chain.now.end farthest nearer
+    linked)) ready c.from_residual-in_err-siblings.result c.in_err-siblings.field-0.0 _ _
+    c.from_residual-in_err-siblings.ensures.1 (c.in-Some.ensures.target here.path c.args.chain.now.end farthest nearer
+    linked) (c.in_err-siblings.ensures.known world (inside_of here) agrees))
 
 pub merged-returns-clause-known : goal.merged-returns-clause-known
 merged-returns-clause-known g t c = λ world here farthest nearer agrees ready linked types.
@@ -416,9 +416,9 @@ merged-returns-clause-known g t c = λ world here farthest nearer agrees ready l
     (links_are here.path c.args.chain.now.end (farthest ∷ nearer) c.deref.ensures.value linked))
     c.in_ok-is_excluded.ensures.state (sym c.if-branch.false ∙ c.in_ok-is_excluded.ensures.goes)
     c.in_ok-name.ensures.cases c.in_ok-attributes.ensures c.in_ok-open.ensures.opened c.in_ok-own.ensures.cases
-    c.in_ok-open.ensures.declared (seen_as (c.topic_taken.ensures c.args.origin.now (merged_onto farthest.element nearer) types)
-    (c.in_ok-there.ensures here.path c.args.chain.now.end farthest nearer linked)) ready c.close.new.self
-    (c.in-Some.ensures.target here.path c.args.chain.now.end farthest nearer linked)
+    c.in_ok-open.ensures.declared (seen_as (c.topic_taken.ensures c.args.origin.now
+    (merged_onto farthest.element nearer) types) (c.in_ok-there.ensures here.path c.args.chain.now.end farthest nearer
+    linked)) ready c.close.new.self (c.in-Some.ensures.target here.path c.args.chain.now.end farthest nearer linked)
     (c.in_ok-siblings.ensures.known world (inside_of here) agrees) c.close.ensures.closed c.close.ensures.declared)
 
 pub node_at-returns-in-Some-node_of-clause-known : goal.node_at-returns-in-Some-node_of-clause-known

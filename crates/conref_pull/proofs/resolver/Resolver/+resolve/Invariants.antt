@@ -8,11 +8,12 @@ use Rattle.reader_spec.specs.World.{World}
 use Rattle.readers.specs.Founded.{Grows}
 use Rattle.readers.specs.Named.{reused_in}
 use Rattle.readers.specs.Told.{Agrees}
-use Rattle.conref_pull.specs.Asking.{AreAmong, AreGivenTo, Asks, IsGivenTo}
-use Rattle.conref_pull.specs.Hrefs.{HaveNamed, PutNamed}
-use Rattle.conref_pull.specs.Origin.{named_content}
-use Rattle.conref_pull.specs.Linked.{AreLinks, IsLink}
-use Rattle.conref_pull.specs.Setting.{IsSamePage, path_within}
+use Rattle.conref_targets.specs.Asking.{AreAmong, Asks}
+use Rattle.conref_targets.specs.Hrefs.{HaveNamed}
+use Rattle.conref_targets.specs.Origin.{named_content}
+use Rattle.conref_pull.specs.Linked.{AreGivenTo, IsGivenTo, AreLinks, IsLink}
+use Rattle.conref_pull.specs.PutHrefs.{PutNamed}
+use Rattle.conref_pull.specs.State.{IsSamePage, path_within}
 use Rattle.conref_pull.specs.Step.{Taken}
 use Rattle.conref_pull.specs.Walking.{Here, IsReady, among_made, around_of, ranges_put}
 use Rattle.conref_pull.proofs.SizeLaws.{around, behind}

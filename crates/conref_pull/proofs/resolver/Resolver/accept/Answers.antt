@@ -3,8 +3,8 @@ use Rattle.std.specs.Option.{option_copied, unwrap_or}
 use Rattle.std.specs.Borrow.{Bor}
 use Rattle.dita_doc.specs.declared.doc.Doc.{Doc}
 use Rattle.doc_elements.specs.Walk.{element_of}
+use Rattle.conref_targets.proofs.RangeEndLaws.{range_as}
 use Rattle.conref_pull.proofs.AcceptedLaws.{accept_range, accept_type, special_is}
-use Rattle.conref_pull.proofs.RangeEndLaws.{range_as}
 use Rattle.conref_pull.proofs.resolver.Resolver.accept.Goals as goal
 
 value_or : (value : Option (Bor (List ℕ))) (other : Bor (List ℕ)) (result : Bor (List ℕ)) → result ≡ unwrap_or value other

@@ -1,9 +1,9 @@
 use Rattle.std.proofs.Common.{List, arith, sym, subst}
 use Rattle.doc_elements.specs.Walk.{element_of}
 use Rattle.conref_spec.specs.Content.{followed}
-use Rattle.conref_pull.specs.Asking.{AreGivenTo}
-use Rattle.conref_pull.specs.Linked.{IsFollowed}
-use Rattle.conref_pull.specs.Setting.{path_within, setting_of}
+use Rattle.conref_targets.specs.Setting.{setting_of}
+use Rattle.conref_pull.specs.Linked.{AreGivenTo, IsFollowed}
+use Rattle.conref_pull.specs.State.{path_within}
 use Rattle.conref_pull.specs.declared.chain.Link.{Link}
 use Rattle.conref_pull.proofs.resolver.Resolver.chain.Goals as goal
 

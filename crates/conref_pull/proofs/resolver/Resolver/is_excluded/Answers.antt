@@ -1,11 +1,6 @@
-use Rattle.std.proofs.Common.{sym, ◌∙◌}
-use Rattle.conref_pull.proofs.JudgeLaws.{none_exclude}
+use Rattle.conref_pull.proofs.SeekLaws.{judged_in}
 use Rattle.conref_pull.proofs.resolver.Resolver.is_excluded.Goals as goal
 
-pub returns-then-not-has_judged-clause-goes : goal.returns-then-not-has_judged-clause-goes
-returns-then-not-has_judged-clause-goes c =
-    sym (none_exclude c.args.self.now.rules c.args.declared.now c.args.attributes.now
-    (sym c.has_judged.ensures ∙ c.if-not-has_judged.true))
-
-pub returns-clause-goes : goal.returns-clause-goes
-returns-clause-goes c = c.exclude.ensures.excluded
+pub returns-clause-state : goal.returns-clause-state
+returns-clause-state c = judged_in c.is_excluded.result c.args.self.now _ c.is_excluded.new.faults _
+    c.is_excluded.ensures.same c.is_excluded.ensures.faults

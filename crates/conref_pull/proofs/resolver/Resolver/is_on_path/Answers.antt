@@ -1,6 +1,6 @@
 use Rattle.conref_spec.specs.Content.{is_place}
 use Rattle.conref_pull.specs.Accepting.{place_of}
-use Rattle.conref_pull.specs.Setting.{place_shown}
+use Rattle.conref_pull.specs.State.{place_shown}
 use Rattle.conref_pull.proofs.AcceptLaws.{any_within}
 use Rattle.conref_pull.proofs.resolver.Resolver.is_on_path.Goals as goal
 

@@ -1,5 +1,5 @@
 use Rattle.std.proofs.Common.{sym}
-use Rattle.conref_pull.proofs.OriginLaws.{origin_there}
+use Rattle.conref_targets.proofs.OriginLaws.{origin_there}
 use Rattle.conref_pull.proofs.resolver.Resolver.put_chars.Goals as goal
 
 pub returns-in_default-clause-put : goal.returns-in_default-clause-put

@@ -2,14 +2,16 @@ use Rattle.std.proofs.Common.{Option, sym, ap, refl, subst, ◌∙◌}
 use Rattle.std.specs.Option.{option_copied}
 use Rattle.doc_elements.specs.Walk.{element_of}
 use Rattle.conref_spec.specs.Content as content
-use Rattle.conref_pull.specs.Asking.{IsGivenIn}
-use Rattle.conref_pull.specs.Found.{IsSought}
-use Rattle.conref_pull.specs.Setting.{path_within, setting_of}
-use Rattle.conref_pull.specs.Sought.{sought_found, sought_shown}
-use Rattle.conref_pull.specs.declared.find.Found.{Found}
-use Rattle.conref_pull.proofs.AskingLaws.{about_among, among_both, given_link}
-use Rattle.conref_pull.proofs.FileLaws.{conref_among}
-use Rattle.conref_pull.proofs.FindLaws.{sought_is}
+use Rattle.conref_targets.specs.Asking.{IsGivenIn}
+use Rattle.conref_targets.specs.Setting.{setting_of}
+use Rattle.conref_targets.specs.Sought.{sought_found, sought_shown}
+use Rattle.conref_targets.specs.declared.find.Found.{Found}
+use Rattle.conref_targets.proofs.AskingLaws.{about_among, among_both}
+use Rattle.conref_targets.proofs.FileLaws.{conref_among}
+use Rattle.conref_targets.proofs.FindLaws.{sought_is}
+use Rattle.conref_pull.specs.Seeking.{IsSought}
+use Rattle.conref_pull.specs.State.{path_within}
+use Rattle.conref_pull.proofs.LinkAskLaws.{given_link}
 use Rattle.conref_pull.proofs.TakeLaws.{no_reference, some_reference, step_missing, step_on, step_without}
 use Rattle.conref_pull.proofs.resolver.Resolver.take.Goals as goal
 

@@ -1,6 +1,0 @@
-use Rattle.std.proofs.Common.{◌≡◌, take}
-use Rattle.conref_pull.specs.Shown.{shown}
-use Rattle.conref_pull.proofs.rules.make_tables.Given as goal
-
-abbrev pub invariant-loop-at : goal.invariant-loop-at
-invariant-loop-at l = l.tables.items ≡ take l.at (shown l.lists)

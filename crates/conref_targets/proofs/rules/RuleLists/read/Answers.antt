@@ -1,0 +1,45 @@
+use Rattle.std.proofs.Common.{◌++◌, List, ℕ, OnOk, option_to_list, subst}
+use Rattle.readers.specs.Documents.{AsksOnly, nothing}
+use Rattle.readers.specs.Founded.{StaysFounded}
+use Rattle.readers.proofs.DocumentLaws.{asks_after, asks_among, covers_same}
+use Rattle.readers.proofs.FoundedLaws.{stays_after, stays_among}
+use Rattle.readers.proofs.GrowthLaws.{agrees_before}
+use Rattle.conref_targets.specs.Rules.{HasAll}
+use Rattle.readers.proofs.AmongLaws.{among_back, among_front}
+use Rattle.conref_targets.proofs.RuleLaws.{on_ok_have}
+use Rattle.conref_targets.proofs.rules.RuleLists.read.Goals as goal
+
+pub returns-clause-known : goal.returns-clause-known
+returns-clause-known g c = λ world agrees are.
+    c.read_filters.ensures.known world agrees
+    (c.in_ok-read_val.ensures.known world (agrees_before world _ _ c.read_filters.ensures.grows agrees) are)
+
+pub returns-clause-has : goal.returns-clause-has
+returns-clause-has g c =
+    let val = option_to_list c.args.context.now.val in
+    subst (λ (names : List (List ℕ)). OnOk c.read_filters.result (HasAll c.read_filters.new.self (val ++ names)))
+    c.as_slice.ensures
+    (on_ok_have c.read_val.new.self c.read_filters.new.self val c.as_slice.result.now c.read_filters.result
+    c.in_ok-read_val.ensures.has c.read_filters.ensures.keeps c.read_filters.ensures.has)
+
+pub returns-clause-founded : goal.returns-clause-founded
+returns-clause-founded g c =
+    let val = option_to_list c.args.context.now.val in
+    let filters = c.as_slice.result.now in
+    subst (λ (names : List (List ℕ)). StaysFounded (val ++ names) (g.R.Reader.told c.args.reader.now)
+    (g.R.Reader.told c.read_filters.new.reader)) c.as_slice.ensures
+    (stays_after (val ++ filters) _ _ _ c.in_ok-read_val.ensures.grows
+    (stays_among val (val ++ filters) _ _ (λ m here. among_front val filters m here) c.in_ok-read_val.ensures.founded)
+    (stays_among filters (val ++ filters) _ _ (λ m here. among_back val filters m here) c.read_filters.ensures.founded))
+
+pub returns-clause-asks : goal.returns-clause-asks
+returns-clause-asks g c =
+    let val = option_to_list c.args.context.now.val in
+    let filters = c.as_slice.result.now in
+    subst (λ (names : List (List ℕ)). AsksOnly nothing (val ++ names) (g.R.Reader.told c.args.reader.now)
+    (g.R.Reader.told c.read_filters.new.reader)) c.as_slice.ensures
+    (asks_after nothing (val ++ filters) _ _ _ c.in_ok-read_val.ensures.grows
+    (asks_among nothing nothing val (val ++ filters) _ _ (covers_same nothing) (λ m here. among_front val filters m here)
+    c.in_ok-read_val.ensures.asks)
+    (asks_among nothing nothing filters (val ++ filters) _ _ (covers_same nothing)
+    (λ m here. among_back val filters m here) c.read_filters.ensures.asks))

@@ -1,0 +1,18 @@
+use Rattle.std.proofs.Common.{◌≡◌, take}
+use Rattle.readers.specs.Documents.{AsksOnly, nothing}
+use Rattle.readers.specs.Founded.{Grows, StaysFounded}
+use Rattle.readers.specs.Told.{Agrees}
+use Rattle.reader_spec.specs.World.{World}
+use Rattle.conref_targets.specs.Rules.{AreRules, HasAll, Keeps}
+use Rattle.conref_targets.proofs.rules.RuleLists.read_filters.Given as goal
+
+abbrev pub invariant-loop-filter : goal.invariant-loop-filter
+invariant-loop-filter g l = record {
+  known : (world : World) → Agrees world (g.R.Reader.told l.reader) → AreRules world l.fn.self → AreRules world l.self;
+  keeps : Keeps l.fn.self l.self;
+  has : HasAll l.self (take l.filter-index l.filters);
+  stand : g.R.Reader.stand l.reader ≡ g.R.Reader.stand l.fn.reader;
+  founded : StaysFounded l.filters (g.R.Reader.told l.fn.reader) (g.R.Reader.told l.reader);
+  asks : AsksOnly nothing l.filters (g.R.Reader.told l.fn.reader) (g.R.Reader.told l.reader);
+  grows : Grows (g.R.Reader.told l.fn.reader) (g.R.Reader.told l.reader);
+}

@@ -1,0 +1,13 @@
+pub mod Around
+pub mod Asking
+pub mod Found
+pub mod Hrefs
+pub mod Judging
+pub mod Origin
+pub mod Parts
+pub mod Ranges
+pub mod Rules
+pub mod Setting
+pub mod Shown
+pub mod Sought
+pub mod Tables
