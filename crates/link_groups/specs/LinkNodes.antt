@@ -1,19 +1,22 @@
 -- The nodes that links go from and to (own; DITA 1.3, "The @linking attribute"), and those that were found before.
-use Rattle.std.specs.Prelude.{◌≡◌, ℕ, Bool, List, [], ◌∷◌, ◌++◌, Option, Some, map, option_map, unwrap_or, codes}
+use Rattle.std.specs.Prelude.{◌≡◌, ◌⊎◌, ℕ, Bool, List, [], ◌∷◌, ◌++◌, Option, Some, map, option_map, slice_get, unwrap_or, codes}
 use Rattle.std.specs.BTreeMap.{is_at}
 use Rattle.std.specs.List.{filter_map}
 use Rattle.std.specs.Map.{lookup}
+use Rattle.std.specs.Option.{option_map_or}
 use Rattle.std.specs.Ordering.{nat_cmp}
 use Rattle.dita_doc.specs.ClassValue.{value_of}
+use Rattle.dita_doc.specs.declared.plan.PageId.{PageId}
 use Rattle.dita_doc.specs.declared.plan.PagePlan.{PagePlan}
 use Rattle.dita_doc.specs.declared.plan.Plan.{Plan}
 use Rattle.dita_doc.specs.declared.plan.PlanNode.{PlanNode}
 use Rattle.link_groups.specs.declared.link_nodes.LinkNode.{LinkNode}
 use Rattle.link_groups.specs.declared.link_nodes.LinkNodes.{LinkNodes}
 use Rattle.map_spec.specs.Pages.{local_name}
-use Rattle.link_spec.specs.Links.{cascaded_at, is_one_of, page_of_node}
+use Rattle.link_spec.specs.Links.{cascaded_at, context_of, is_one_of, page_of_node, target_of}
 use Rattle.reader_spec.specs.World.{World}
 use Rattle.readers.specs.Founded.{homes}
+use Rattle.readers.specs.Told.{Told, page_of}
 
 -- links may go from the node's page, or lead to it
 abbrev pub is_source_at : World → Plan → ℕ → Bool
@@ -50,6 +53,29 @@ with_linking at linking page = record {
 
 abbrev pub link_node_of : Option ℕ → ℕ → PlanNode → Option LinkNode
 link_node_of page at node = option_map (with_linking at (linking_of node)) page
+
+-- the document of a plan's map, as one of its nodes knows it
+abbrev pub map_of : Plan → PlanNode → List ℕ
+map_of plan node = option_map_or (λ (root : PlanNode). root.doc) (slice_get plan.nodes 0) node.doc
+
+-- What was asked
+
+-- one question was put: for the page of this document in this context
+pub record AsksPage (pages : List PagePlan) (name : List ℕ) (context : PageId) (old new : List Told) : Type 0 where
+  pub place : Option ℕ
+  pub is : new ≡ page_of pages name context place ∷ old
+
+-- this node leads to this document, and one question was put: for the document's page as the node uses it
+pub record AsksOf (plan : Plan) (at : ℕ) (pages : List PagePlan) (old new : List Told) : Type 0 where
+  pub node : PlanNode
+  pub name : List ℕ
+  pub there : Some node ≡ slice_get plan.nodes at
+  pub leads : Some name ≡ local_name (target_of plan at)
+  pub asked : AsksPage pages name (context_of node name) old new
+
+-- none was put, or this one
+abbrev pub AsksOfNode : Plan → ℕ → List PagePlan → List Told → List Told → Type 0
+AsksOfNode plan at pages old new = (new ≡ old) ⊎ AsksOf plan at pages old new
 
 -- What was found before is so
 

@@ -1,7 +1,7 @@
 //! The nodes that links go from and to.
 
 ghost use Rattle.std.specs.Arc.{arc_value};
-ghost use Rattle.std.specs.Prelude.{◌≡◌, ◌&&◌, [], ◌∷◌, ℕ, IfOk, slice_get};
+ghost use Rattle.std.specs.Prelude.{◌≡◌, ◌&&◌, [], ◌∷◌, ℕ, IfOk, OnOk, slice_get};
 ghost use Rattle.std.specs.Option.{option_copied};
 ghost use Rattle.dita_doc.specs.declared.plan.Plan as plan_spec;
 ghost use Rattle.link_groups.specs.LinkNodes as spec;
@@ -58,7 +58,8 @@ impl LinkNodes {
         }
     }
 
-    /// The node at this place, if it has a page. The asker is asked once for it.
+    /// The node at this place, if it has a page. The asker is asked once for it, as the node uses
+    /// its document.
     pub fn find<A: Asker>(
         &mut self,
         alloc: Global,
@@ -76,6 +77,8 @@ impl LinkNodes {
             → spec.AreLinkNodes (A.stand asker.old).world plan.now self.old
             → IfOk result (λ found. spec.IsLinkNode (A.stand asker.old).world plan.now at found
             self.new) }
+        ensures asked { OnOk result (spec.AsksOfNode plan.now at
+            (A.stand asker.old).setting.pages (A.told asker.old) (A.told asker.new)) }
         ensures stand { A.stand asker.new ≡ A.stand asker.old }
         ensures founded { StaysFounded (spec.plan_names plan.now) (A.told asker.old)
             (A.told asker.new) }
@@ -99,6 +102,8 @@ impl LinkNodes {
             → (A.stand asker.old).setting.pages ≡ plan.now.pages
             → spec.AreLinkNodes world plan.now self.old
             → IfOk result (λ found. spec.IsLinkNode world plan.now at found self.new) }
+        ensures asked { OnOk result (spec.AsksOfNode plan.now at
+            (A.stand asker.old).setting.pages (A.told asker.old) (A.told asker.new)) }
         ensures stand { A.stand asker.new ≡ A.stand asker.old }
         ensures founded { StaysFounded (spec.plan_names plan.now) (A.told asker.old)
             (A.told asker.new) }
@@ -115,7 +120,7 @@ impl LinkNodes {
         if let Some(known) = self.known.get(&place) {
             return Ok(*known);
         }
-        let found = link_node_of(alloc, asker, place, node, name)?;
+        let found = link_node_of(alloc, asker, plan, place, node, name)?;
         let _ = self.known.insert(place, found)?;
         Ok(found)
     }
@@ -143,6 +148,7 @@ pub fn node_at(plan: &Plan, at: usize) -> Option<&PlanNode>
 fn link_node_of<A: Asker>(
     alloc: Global,
     asker: &mut A,
+    plan: &Plan,
     at: u32,
     node: &PlanNode,
     name: &Name,
@@ -150,12 +156,14 @@ fn link_node_of<A: Asker>(
     ensures known { (world : World) → Agrees world (A.told asker.new)
         → IfOk result (λ found. found ≡ spec.link_node_of (page_for (A.stand asker.old).setting.pages
         name.now (links_spec.context_of node.now name.now)) at node.now) }
+    ensures asked { OnOk result (spec.AsksPage (A.stand asker.old).setting.pages name.now
+        (links_spec.context_of node.now name.now) (A.told asker.old) (A.told asker.new)) }
     ensures stand { A.stand asker.new ≡ A.stand asker.old }
     ensures founded { StaysFounded (name.now ∷ []) (A.told asker.old) (A.told asker.new) }
     ensures asks { AsksOnly documents_spec.nothing [] (A.told asker.old) (A.told asker.new) }
     ensures grows { Grows (A.told asker.old) (A.told asker.new) }
 {
-    let context = context_of(alloc, node, name)?;
+    let context = context_of(alloc, plan, node, name)?;
     let page = asker.page_of(alloc, name, &context)?;
     Ok(link_node(at, page, node))
 }
@@ -189,10 +197,18 @@ fn linking_of(node: &PlanNode) -> &str
     }
 }
 
-// Where a document is used by a node. The page of a document is found by what sets pages apart.
-fn context_of(alloc: Global, node: &PlanNode, name: &Name) -> Result<Arc<Context>, NoMemory>
-    ensures { IfOk result (λ context.
+// Where a document is used by a node of a plan. The map is the plan's, and what sets pages apart is
+// the node's. A plan does not say its DITAVAL, and only the answer says which page has a name.
+fn context_of(
+    alloc: Global,
+    plan: &Plan,
+    node: &PlanNode,
+    name: &Name,
+) -> Result<Arc<Context>, NoMemory>
+    ensures page { IfOk result (λ context.
         (arc_value context).page ≡ links_spec.context_of node.now name.now) }
+    ensures map { IfOk result (λ context.
+        (arc_value context).map ≡ spec.map_of plan.now node.now) }
 {
     let page = PageId {
         doc: name.clone()?,
@@ -201,10 +217,20 @@ fn context_of(alloc: Global, node: &PlanNode, name: &Name) -> Result<Arc<Context
         affixes: copy_affixes(alloc, node.affixes.as_slice())?,
     };
     let context = Context {
-        map: node.doc.clone()?,
+        map: map_of(plan, node).clone()?,
         val: None,
         page,
         name: name.clone()?,
     };
     Ok(Arc::new(alloc, context)?)
+}
+
+// The document of the plan's map, in which its first node stands.
+fn map_of<'p>(plan: &'p Plan, node: &'p PlanNode) -> &'p Name
+    ensures { result.now ≡ spec.map_of plan.now node.now }
+{
+    match node_at(plan, 0) {
+        Some(root) => &root.doc,
+        None => &node.doc,
+    }
 }

@@ -2,8 +2,8 @@ use Rattle.std.proofs.Common.{ap, ◌∙◌}
 use Rattle.dita_doc.specs.declared.plan.Context.{Context}
 use Rattle.link_groups.proofs.link_nodes.context_of.Goals as goal
 
-pub returns : goal.returns
-returns c = ap (λ (context : Context). context.page) c.in_ok-new.ensures.ok ∙ (λ i. record {
+pub returns-clause-page : goal.returns-clause-page
+returns-clause-page c = ap (λ (context : Context). context.page) c.in_ok-new.ensures.ok ∙ (λ i. record {
   doc = c.in_ok-clone.ensures.cases i;
   scope = c.args.node.now.scope;
   filters = (c.in_ok-copy_names.ensures ∙ c.as_slice.ensures) i;

@@ -1,7 +1,10 @@
-use Rattle.std.proofs.Common.{refl}
+use Rattle.std.specs.Prelude.{◌∷◌}
+use Rattle.std.proofs.Common.{refl, ap, ◌∙◌}
+use Rattle.dita_doc.specs.declared.plan.PageId.{PageId}
 use Rattle.readers.proofs.DocumentLaws.{asks_same}
 use Rattle.readers.proofs.FoundedLaws.{stays_same}
 use Rattle.readers.proofs.GrowthLaws.{grows_same}
+use Rattle.readers.specs.Told.{page_of}
 use Rattle.link_groups.proofs.link_nodes.link_node_of.Goals as goal
 
 pub returns-in_err-context-clause-stand : goal.returns-in_err-context-clause-stand
@@ -39,3 +42,10 @@ returns-clause-asks g c = c.page_of.ensures.asks
 
 pub returns-clause-grows : goal.returns-clause-grows
 returns-clause-grows g c = c.page_of.ensures.grows
+
+pub returns-clause-asked : goal.returns-clause-asked
+returns-clause-asked g c = record {
+  place = c.in_ok-page.page;
+  is = c.in_ok-page.ensures.told ∙ ap (λ (id : PageId). page_of (g.A.Reader.stand c.args.asker.now).setting.pages
+      c.args.name.now id c.in_ok-page.page ∷ g.A.Reader.told c.args.asker.now) c.in_ok-context.ensures.page;
+}

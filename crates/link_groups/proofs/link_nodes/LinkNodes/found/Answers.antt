@@ -1,4 +1,4 @@
-use Rattle.std.proofs.Common.{sym}
+use Rattle.std.proofs.Common.{sym, inr}
 use Rattle.readers.proofs.FoundedLaws.{stays_one}
 use Rattle.link_groups.specs.LinkNodes.{plan_names}
 use Rattle.link_groups.proofs.NodeLaws.{found_asked, named_among}
@@ -52,3 +52,12 @@ returns-clause-asks g c = c.link_node_of.ensures.asks
 
 pub returns-clause-grows : goal.returns-clause-grows
 returns-clause-grows g c = c.link_node_of.ensures.grows
+
+pub returns-clause-asked : goal.returns-clause-asked
+returns-clause-asked g c = inr (record {
+  node = c.in-Some-node_at.node.now;
+  name = c.in-Some.name.now;
+  there = c.in-Some-node_at.ensures;
+  leads = c.in-Some.ensures;
+  asked = c.in_ok-found.ensures.asked;
+})
