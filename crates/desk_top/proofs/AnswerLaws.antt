@@ -18,7 +18,7 @@ use Rattle.dita_doc.specs.declared.fault.PyxFault.{PyxFault}
 use Rattle.dita_outside.specs.Pages.{Pages, TakesPages, TakesPagesFront}
 use Rattle.part_spec.specs.Parts.{clean_build, clean_terms}
 use Rattle.reader_spec.specs.World.{world_of}
-use Rattle.run_spec.specs.Answers.{answer_shown, build_shown, built_by, delivered, pages_built, pages_of_answer, pages_wanted, terms_by, terms_page}
+use Rattle.run_spec.specs.Answers.{answer_shown, build_shown, built_by, delivered, page_of_terms, pages_built, pages_of_answer, pages_wanted, terms_for}
 use Rattle.run_spec.proofs.ShownLaws.{begun_built, some_map}
 use Rattle.script_text.specs.Script.{Step}
 use Rattle.transcript_text.specs.Transcript.{BuildShown, EntryShown, entry_shown}
@@ -74,7 +74,7 @@ built_same state place (Build root val) = refl
 built_same state place (Group edits) = refl
 
 terms_same : (state : State) (place : ℕ) (request : Request)
-    → terms_by (next state place request) request ≡ terms_by state request
+    → terms_for (next state place request) request ≡ terms_for state request
 terms_same state place (Single edit) = refl
 terms_same state place (Get name) = refl
 terms_same state place Names = refl
@@ -94,11 +94,11 @@ built_new old new step place number kept =
 terms_new : (old new : Kept) (step : Step) (place number : ℕ) → HasKept old new step place number
     → terms_at new place ≡ (answer_behind old.history step).terms
 terms_new old new step place number kept =
-    ap (option_and_then (λ (entry : Entry). terms_by (stored_now new) entry.request))
+    ap (option_and_then (λ (entry : Entry). terms_for (stored_now new) entry.request))
     (entry_there old new step place number kept)
-    ∙ ap (λ (history : List Entry). terms_by (sources history (length history)) step.request)
+    ∙ ap (λ (history : List Entry). terms_for (sources history (length history)) step.request)
     (new_history old new step place number kept)
-    ∙ ap (λ state. terms_by state step.request) (state_push old.history (answer_behind old.history step).entry)
+    ∙ ap (λ state. terms_for state step.request) (state_push old.history (answer_behind old.history step).entry)
     ∙ terms_same (sources old.history (length old.history)) (length old.history) step.request
 
 -- the entry says that a build has its place exactly where it is a build
@@ -244,16 +244,16 @@ built_is kept place entry state map val given built there asks stored same is =
 pub terms_is : (kept : Kept) (place : ℕ) (entry : Entry) (state : State) (map : List ℕ) (val given : Option (List ℕ))
     → slice_get kept.history place ≡ Some entry → entry.request ≡ Build map val
     → state ≡ stored_now kept → given ≡ val
-    → terms_at kept place ≡ option_map terms_page (clean_terms (world_of state) map given)
+    → terms_at kept place ≡ option_map page_of_terms (clean_terms (world_of state) map given)
 terms_is kept place entry state map val given there asks stored same =
-    ap (option_and_then (λ (e : Entry). terms_by (stored_now kept) e.request)) there
-    ∙ ap (terms_by (stored_now kept)) asks
-    ∙ ap (option_map terms_page) (sym (ap (λ s. clean_terms (world_of s) map given) stored
+    ap (option_and_then (λ (e : Entry). terms_for (stored_now kept) e.request)) there
+    ∙ ap (terms_for (stored_now kept)) asks
+    ∙ ap (option_map page_of_terms) (sym (ap (λ s. clean_terms (world_of s) map given) stored
     ∙ ap (clean_terms (world_of (stored_now kept)) map) same))
 
 -- the pages of a build, and behind them the page of its terms, if pages of terms are wanted
 pub put_is : (with_terms : Bool) (kept : Kept) (place number : ℕ) (built : Built) (of terms : Option Html)
-    → built_at kept place ≡ Some built → terms_at kept place ≡ option_map terms_page of
+    → built_at kept place ≡ Some built → terms_at kept place ≡ option_map page_of_terms of
     → terms ≡ (if with_terms then of else None)
     → pages_put_by number (Some built) ++ terms_put number terms ≡ pages_put_at with_terms number kept place
 put_is false kept place number built of terms is there wanted =
@@ -262,7 +262,7 @@ put_is false kept place number built of terms is there wanted =
     ∙ ap (pages_put_by number) (sym is)
 put_is true kept place number built of terms is there wanted =
     ap (λ (given : Option Html). pages_put_by number (Some built) ++ terms_put number given) wanted
-    ∙ sym (map-append (delivered number) (pages_built (Some built)) (option_to_list (option_map terms_page of)))
+    ∙ sym (map-append (delivered number) (pages_built (Some built)) (option_to_list (option_map page_of_terms of)))
     ∙ ap (λ given. map (delivered number) (pages_built (Some built) ++ option_to_list given)) (sym there)
     ∙ ap (λ given. map (delivered number) (pages_built given ++ option_to_list (terms_at kept place))) (sym is)
 

@@ -5,7 +5,7 @@ use Rattle.std.specs.Option.{option_and_then, option_map, option_to_list}
 use Rattle.build_spec.specs.Built.{Built, Page}
 use Rattle.clean_build.specs.Clean.{Made, page_seen}
 use Rattle.dita_doc.specs.declared.fact.Html.{Html}
-use Rattle.run_spec.specs.Answers.{built_by, delivered, pages_built, pages_wanted, terms_by, terms_page}
+use Rattle.run_spec.specs.Answers.{built_by, delivered, pages_built, pages_wanted, page_of_terms, terms_for}
 use Rattle.version_store.specs.Kept.{Kept, stored_now}
 
 -- what the entry at a place builds over what is stored now
@@ -14,7 +14,8 @@ built_at kept place = option_and_then (λ entry. built_by (stored_now kept) entr
 
 -- the page of the terms of that
 abbrev pub terms_at : Kept → ℕ → Option Page
-terms_at kept place = option_and_then (λ entry. terms_by (stored_now kept) entry.request) (slice_get kept.history place)
+terms_at kept place =
+    option_and_then (λ entry. terms_for (stored_now kept) entry.request) (slice_get kept.history place)
 
 -- the pages that it puts, under the number of its request
 abbrev pub pages_put_at : Bool → ℕ → Kept → ℕ → List Page
@@ -31,4 +32,4 @@ pages_put number pages = map (delivered number) (map page_seen pages)
 
 -- the page of terms, under that number
 abbrev pub terms_put : ℕ → Option Html → List Page
-terms_put number terms = map (delivered number) (option_to_list (option_map terms_page terms))
+terms_put number terms = map (delivered number) (option_to_list (option_map page_of_terms terms))

@@ -22,16 +22,17 @@ built_by state Names = None
 built_by state (Build root val) = Some (clean_build (world_of state) root val)
 built_by state (Group edits) = None
 
--- the page of terms of what a request builds, if it is a build and has terms
-abbrev pub terms_page : Html → Page
-terms_page html = (terms_name, html.bytes)
+-- the page of terms, under its name
+abbrev pub page_of_terms : Html → Page
+page_of_terms html = (terms_name, html.bytes)
 
-abbrev pub terms_by : State → Request → Option Page
-terms_by state (Single edit) = None
-terms_by state (Get name) = None
-terms_by state Names = None
-terms_by state (Build root val) = option_map terms_page (clean_terms (world_of state) root val)
-terms_by state (Group edits) = None
+-- the page of terms of what a request builds, if it is a build and has terms
+abbrev pub terms_for : State → Request → Option Page
+terms_for state (Single edit) = None
+terms_for state (Get name) = None
+terms_for state Names = None
+terms_for state (Build root val) = option_map page_of_terms (clean_terms (world_of state) root val)
+terms_for state (Group edits) = None
 
 -- an entry, what it built, and the page of its terms
 pub record Answer : Type 0 where
@@ -50,7 +51,7 @@ answer_at state place number step = record {
         reply state place step.request;
   };
   built = built_by state step.request;
-  terms = terms_by state step.request;
+  terms = terms_for state step.request;
 }
 
 -- the answers to requests in order, from this state and place on; a request has the number of its place and 1

@@ -1,3 +1,14 @@
 pub mod Answers
+pub mod Cites
 pub mod CleanRun
+pub mod EndsBatch
+pub mod EndsServe
+pub mod EndsTrial
+pub mod Faithful
+pub mod HistoryTold
+pub mod Language
+pub mod Reached
+pub mod Reads
+pub mod RowBytes
 pub mod Status
+pub mod Written

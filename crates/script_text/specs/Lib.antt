@@ -1,4 +1,5 @@
 pub mod Script
+pub mod Printed
 pub mod Faults
 pub mod Words
 pub mod Command

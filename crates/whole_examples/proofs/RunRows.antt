@@ -18,7 +18,7 @@ use Rattle.html_spec.specs.Contents.{contents, items_from}
 use Rattle.map_spec.specs.Pushes.{all_pushes}
 use Rattle.part_spec.specs.Parts.{clean_build, clean_terms, page_content, page_part}
 use Rattle.reader_spec.specs.World.{world_of}
-use Rattle.run_spec.specs.Answers.{terms_page}
+use Rattle.run_spec.specs.Answers.{page_of_terms}
 use Rattle.run_spec.specs.CleanRun.{CleanRun, clean_run, run_answered, run_of, run_over, terms_run}
 use Rattle.run_spec.specs.declared.status.Status.TheVariants as statuses
 use Rattle.script_text.specs.Script.{Step, script_of}
@@ -109,12 +109,12 @@ its_run : (with_terms : Bool) → run_over with_terms script ≡ run
 unfolding run_over
 its_run with_terms =
     let built : State → Built = λ state. clean_build (world_of state) in_m None in
-    let terms : State → Option Page = λ state. option_map terms_page (clean_terms (world_of state) in_m None) in
+    let terms : State → Option Page = λ state. option_map page_of_terms (clean_terms (world_of state) in_m None) in
     ap (run_of with_terms) its_steps
     ∙ ap (λ state. run_with with_terms (reply [] 0 put) (built state) (terms state)) map_stored
     ∙ ap (λ answer. run_with with_terms answer (built stored) (terms stored)) its_reply
     ∙ ap (λ given. run_with with_terms (IsStored 1) given (terms stored)) its_build
-    ∙ ap (λ given. run_with with_terms (IsStored 1) build (option_map terms_page given)) its_terms ∙ shown with_terms
+    ∙ ap (λ given. run_with with_terms (IsStored 1) build (option_map page_of_terms given)) its_terms ∙ shown with_terms
 
 its_clean_run : clean_run script ≡ run
 its_clean_run = its_run false

@@ -1,0 +1,6 @@
+mod Shown
+mod TwoSessions
+mod BuildAgain
+mod OneMap
+mod OneTopic
+mod Generated
