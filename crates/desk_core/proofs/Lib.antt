@@ -1,0 +1,4 @@
+pub mod NumberLaws
+pub mod InvariantLaws
+pub mod JudgedLaws
+pub mod StampLaws

@@ -1,0 +1,5 @@
+mod Small
+mod TableRows
+mod ClaimRows
+mod BookRows
+mod FactRows

@@ -1,0 +1,6 @@
+pub mod Answer
+pub mod Agreed
+pub mod Order
+pub mod Founded
+pub mod Asks
+pub mod Sound
