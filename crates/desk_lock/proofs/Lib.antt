@@ -1,0 +1,11 @@
+pub mod Weights
+pub mod LearnsLaws
+pub mod RuledLaws
+pub mod GateLaws
+pub mod EventLaws
+pub mod GrowthLaws
+pub mod EndLaws
+pub mod PublishLaws
+pub mod TokenLaws
+pub mod JoinLaws
+pub mod OpenLaws

@@ -1,0 +1,10 @@
+pub mod Lists
+pub mod Knows
+pub mod Past
+pub mod Rule
+pub mod Meaning
+pub mod Learns
+pub mod Steps
+pub mod Calls
+pub mod Closes
+pub mod Tokens

@@ -1,0 +1,3 @@
+pub mod Language
+pub mod Work
+pub mod Build

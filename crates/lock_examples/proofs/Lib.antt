@@ -1,0 +1,4 @@
+mod Short
+mod SeenRows
+mod ClaimRows
+mod WorkRows
