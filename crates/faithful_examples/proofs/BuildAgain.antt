@@ -39,8 +39,8 @@ cites session place serial = record {
   shown = OfBuild (BuiltPages (record { name = codes "index.html"; mark = InRow serial } ∷ []) []);
 }
 
-abbrev row : ℕ → RowShown
-row serial = record { serial = serial; part = IsContents; map = in_m; val = None; lines = codes "<p>" ∷ [] }
+abbrev row_of_serial : ℕ → RowShown
+row_of_serial serial = record { serial = serial; part = IsContents; map = in_m; val = None; lines = codes "<p>" ∷ [] }
 
 abbrev totals : ℕ → ℕ → ℕ → Totals
 totals entries made dropped = record { entries = entries; made = made; dropped = dropped }
@@ -50,7 +50,7 @@ totals entries made dropped = record { entries = entries; made = made; dropped =
 abbrev twice : List Step
 twice = builds_m 1 ∷ builds_m 1 ∷ []
 
--- the first cites row 2, and the second this row
+-- the first cites the row of serial 2, and the second the row of this serial
 abbrev then_cites : ℕ → List EntryShown
 then_cites serial = cites 1 0 2 ∷ cites 1 1 serial ∷ []
 
@@ -87,7 +87,7 @@ cites_two build zero is = sym (ap (λ (one : BuildTold). one.cited) (same_Some _
 cites_two build (suc zero) is = sym (ap (λ (one : BuildTold). one.cited) (same_Some _ build is))
 cites_two build (suc (suc place)) is = absurd (none-some build is)
 
--- so it cites row 2 again
+-- so it cites the same row again
 again : CitesAgain small (totals 2 2 0) (told 2)
 again none at later repeats =
     cites_two repeats.second later repeats.is_second ∙ sym (cites_two repeats.first at repeats.is_first)
@@ -100,10 +100,10 @@ not_another same = omega (arith, ap sum (same refl 0 1 (second_repeats 3)))
 abbrev transcript : ℕ → List RowShown → Totals → Transcript
 transcript serial rows end = record { entries = then_cites serial; rows = rows; totals = end }
 
-some_rows : CitesEachRow (transcript 2 (row 2 ∷ []) (totals 2 2 0))
+some_rows : CitesEachRow (transcript 2 (row_of_serial 2 ∷ []) (totals 2 2 0))
 some_rows = record {
-  different = pairs_of (λ (first other : RowShown). first.serial ≢ other.serial) (row 2 ∷ []) (tt, tt);
-  cited = all_of (λ (first : RowShown). Contains (serials_cited (then_cites 2)) first.serial) (row 2 ∷ [])
+  different = pairs_of (λ (first other : RowShown). first.serial ≢ other.serial) (row_of_serial 2 ∷ []) (tt, tt);
+  cited = all_of (λ (first : RowShown). Contains (serials_cited (then_cites 2)) first.serial) (row_of_serial 2 ∷ [])
       ((0, omega arith, refl), tt);
 }
 
@@ -120,7 +120,7 @@ counts_first : (end : Totals) (chosen : ℕ → Bool) → ChoosesRepeats small e
 counts_first end chosen chooses = first_counts (chosen 0) chosen (told 2) refl (λ e.
     let repeats = (chooses 0 e).1 in none_before (told 2) repeats.0 repeats.1)
 
-some_counts : CountsRight small twice (transcript 2 (row 2 ∷ []) (totals 2 2 0)) (told 2)
+some_counts : CountsRight small twice (transcript 2 (row_of_serial 2 ∷ []) (totals 2 2 0)) (told 2)
 some_counts = record {
   entries = refl;
   fewer = omega arith;
@@ -130,7 +130,7 @@ some_counts = record {
 }
 
 -- fewer made than there are row lines
-too_few : CountsRight small twice (transcript 2 (row 2 ∷ []) (totals 2 0 0)) (told 2) → ⊥
+too_few : CountsRight small twice (transcript 2 (row_of_serial 2 ∷ []) (totals 2 0 0)) (told 2) → ⊥
 too_few counts = omega (arith, counts.rows)
 
 -- more made than the first build has parts: the second has none to make
@@ -145,20 +145,20 @@ choice serial end none zero e = absurd (cc e)
 choice serial end none (suc zero) e = (none, (0, second_repeats serial))
 choice serial end none (suc (suc later)) e = absurd (cc e)
 
-too_many : CountsRight small twice (transcript 2 (row 2 ∷ []) (totals 2 3 0)) (told 2) → ⊥
+too_many : CountsRight small twice (transcript 2 (row_of_serial 2 ∷ []) (totals 2 3 0)) (told 2) → ⊥
 too_many counts = omega (arith, counts.most second_alone (choice 2 (totals 2 3 0) refl))
 
 -- an invented count of dropped rows: all parts fit the table
-dropped : CountsRight small twice (transcript 3 (row 2 ∷ row 3 ∷ []) (totals 2 4 1)) (told 3) → ⊥
+dropped : CountsRight small twice (transcript 3 (row_of_serial 2 ∷ row_of_serial 3 ∷ []) (totals 2 4 1)) (told 3) → ⊥
 dropped counts = omega (arith, counts.fits (omega arith))
 
 -- one request is not counted
-uncounted : CountsRight small twice (transcript 2 (row 2 ∷ []) (totals 1 2 0)) (told 2) → ⊥
+uncounted : CountsRight small twice (transcript 2 (row_of_serial 2 ∷ []) (totals 1 2 0)) (told 2) → ⊥
 uncounted counts = omega (arith, counts.entries)
 
 -- one row line twice; and one that is cited by nobody
-same_serial : CitesEachRow (transcript 2 (row 2 ∷ row 2 ∷ []) (totals 2 2 0)) → ⊥
-same_serial rows = rows.different 0 1 (row 2) (omega arith) (omega arith) refl
+same_serial : CitesEachRow (transcript 2 (row_of_serial 2 ∷ row_of_serial 2 ∷ []) (totals 2 2 0)) → ⊥
+same_serial rows = rows.different 0 1 (row_of_serial 2) (omega arith) (omega arith) refl
 
 abbrev serials : List ℕ
 serials = 2 ∷ 2 ∷ []
@@ -168,9 +168,9 @@ not_three zero low e = omega (arith, e)
 not_three (suc zero) low e = omega (arith, e)
 not_three (suc (suc place)) low e = omega (arith, low)
 
-uncited : CitesEachRow (transcript 2 (row 2 ∷ row 3 ∷ []) (totals 2 2 0)) → ⊥
+uncited : CitesEachRow (transcript 2 (row_of_serial 2 ∷ row_of_serial 3 ∷ []) (totals 2 2 0)) → ⊥
 uncited rows =
-    let found = rows.cited 1 (row 3) (omega arith) in not_three found.0 found.1 found.2
+    let found = rows.cited 1 (row_of_serial 3) (omega arith) in not_three found.0 found.1 found.2
 
 -- A build between that stores the map again: the third build of the map repeats the second, and not the first
 
@@ -262,5 +262,5 @@ other_bytes shows =
     omega (arith, ap (λ bytes. slice_index bytes 1) same)
 
 -- it tells how many bytes the page has, and no row
-no_row : ShowsBuilt (row 2 ∷ []) in_m None (Done (page ∷ []) []) (OfBuild (BuiltPages (shown (InOutlet 4)) [])) → ⊥
-no_row shows = cc (cites_told (row 2 ∷ []) (InOutlet 4) shows).cited
+no_row : ShowsBuilt (row_of_serial 2 ∷ []) in_m None (Done (page ∷ []) []) (OfBuild (BuiltPages (shown (InOutlet 4)) [])) → ⊥
+no_row shows = cc (cites_told (row_of_serial 2 ∷ []) (InOutlet 4) shows).cited
