@@ -3,4 +3,3 @@ pub mod NearestLaws
 pub mod TokenLaws
 pub mod TextLaws
 pub mod ValueLaws
-pub mod Walking

@@ -7,6 +7,7 @@ use Rattle.std.proofs.lemmas.Bool.Decides.{nat_tests}
 use Rattle.std.proofs.lemmas.List.{map-append, take_all}
 use Rattle.std.proofs.lemmas.Option.{slice_get-get_or}
 use Rattle.dita_doc.specs.declared.plan.PlanNode.{PlanNode}
+use Rattle.dita_doc.proofs.Lists.{get_read}
 use Rattle.map_spec.specs.Cascade.{attribute_at, nearest, passed, stays_behind, walk, whole_at}
 use Rattle.map_spec.specs.Scopes.{places}
 use Rattle.map_spec.specs.Written.{Whole}
@@ -14,8 +15,9 @@ use Rattle.plan_nodes.specs.Home as home
 use Rattle.plan_nodes.specs.Preorder.{HasParentsBefore}
 use Rattle.reader_spec.specs.World.{World}
 use Rattle.attr_cascade.specs.Nearest.{Value, nearest_at, nearest_of, parent_of, passed_on, seen, stops, value_at}
-use Rattle.attr_cascade.proofs.PlaceLaws.{Begins, own_value, walk_begins}
-use Rattle.plan_nodes.proofs.PlaceLaws.{known, known_at, known_more, node_at, walk_root, walk_up}
+use Rattle.attr_cascade.proofs.PlaceLaws.{Begins, walk_begins}
+use Rattle.plan_nodes.proofs.HomeLaws.{value_same}
+use Rattle.plan_nodes.proofs.PlaceLaws.{known, known_at, known_more, walk_root, walk_up}
 
 abbrev nothing : Value
 nothing = None
@@ -82,11 +84,11 @@ module _ (world : World) (name : List ℕ) (nodes : List PlanNode) where
       → option_copied value ≡ option_or (option_copied own) (passed_on name node parent (seen old))
       → new ≡ old ++ value ∷ [] → seen new ≡ known (nearest_at world name nodes) nodes (at + 1)
   values_more homes at node old new own value parent before same within item told own_is parent_is value_is more =
-      let is = node_at nodes at node within item in
+      let is = get_read nodes at node within item in
       let here : option_copied value ≡ nearest_at world name nodes at =
       value_is
       ∙ ap (λ o. option_or o (passed_on name node parent (seen old)))
-      (own_is ∙ own_value world homes nodes at node name same is)
+      (own_is ∙ value_same world homes nodes at node name same is)
       ∙ ap (λ p. option_or (attribute_at world name node) (passed_on name node p (seen old))) parent_is
       ∙ ap (λ v. option_or (attribute_at world name node) (passed_on name node (parent_of nodes at node) v)) told
       ∙ value_here before at node is within in

@@ -1,15 +1,11 @@
 -- The walk from a node begins with it; and the value that its element has.
-use Rattle.std.specs.Prelude.{◌≡◌, ◌+◌, ◌==◌, ℕ, suc, List, [], ◌∷◌, Option, Some, map, slice_get, if◌then◌else◌}
+use Rattle.std.specs.Prelude.{◌≡◌, ◌+◌, ◌==◌, ℕ, suc, List, [], ◌∷◌, Some, slice_get, if◌then◌else◌}
 use Rattle.std.specs.List.{filter_map}
 use Rattle.std.specs.Option.{option_map_or}
-use Rattle.std.proofs.Common.{ap, ◌∙◌, arith, refl}
-use Rattle.std.proofs.lemmas.Option.{slice_get-map}
+use Rattle.std.proofs.Common.{ap, ◌∙◌, arith}
 use Rattle.dita_doc.specs.declared.plan.PlanNode.{PlanNode}
-use Rattle.map_spec.specs.Cascade.{attribute_at, steps_up, walk, whole_at}
-use Rattle.map_spec.specs.Written.{Whole}
+use Rattle.map_spec.specs.Cascade.{steps_up, walk}
 use Rattle.plan_nodes.proofs.PlaceLaws.{seen_here}
-use Rattle.plan_nodes.specs.Home.{value_at}
-use Rattle.reader_spec.specs.World.{World}
 
 -- a walk begins with its node
 pub record Begins (nodes : List PlanNode) (at : ℕ) (node : PlanNode) : Type 0 where
@@ -26,11 +22,3 @@ walk_begins nodes at node is =
       is =
           ap (λ steps. filter_map (slice_get nodes) (steps_up steps nodes at)) more ∙ seen_here nodes at node is above;
     }
-
--- the value that its element has
-pub own_value : (world : World) (homes : List (Option Whole)) (nodes : List PlanNode) (at : ℕ) (node : PlanNode)
-    (name : List ℕ) → homes ≡ map (whole_at world) nodes → slice_get nodes at ≡ Some node
-    → value_at homes at name ≡ attribute_at world name node
-own_value world homes nodes at node name same is =
-    ap (λ all. value_at all at name) same
-    ∙ rw (slice_get-map (whole_at world) nodes at, is) refl

@@ -8,6 +8,7 @@ use Rattle.std.proofs.lemmas.List.{append-nil, append_assoc, length-map, length-
 use Rattle.std.proofs.lemmas.Bool.Decides.{nat_tests}
 use Rattle.plan_nodes.proofs.TextSetLaws.{Str, has_one, is_one, order, set_put, texts_push}
 use Rattle.dita_doc.specs.Bytes.{space}
+use Rattle.dita_doc.proofs.Tests.{not_false, not_true}
 use Rattle.map_spec.specs.Cascade.{spaced, with_new}
 use Rattle.attr_cascade.specs.Tokens.{AreTexts, texts, with_one}
 
@@ -18,14 +19,6 @@ both_put old tokens keys later text all are more put = record {
   are = ap texts more ∙ texts_push old text ∙ ap (λ some. some ++ text.now ∷ []) are.are;
   set = set_put keys later text all are.set put;
 }
-
-not_true : (b c : Bool) → c ≡ true → c ≡ not b → b ≡ false
-not_true true c is same = cc
-not_true false c is same = refl
-
-not_false : (b c : Bool) → c ≡ false → c ≡ not b → b ≡ true
-not_false true c is same = refl
-not_false false c is same = cc
 
 is_known : (old keys : List Str) (text : Str) (all : List (List ℕ)) → AreTexts old keys all
     → list_any (is_at (order text)) keys ≡ is_one text.now all

@@ -7,31 +7,26 @@ use Rattle.std.proofs.Math.Logic.{⊎_elim}
 use Rattle.std.proofs.lemmas.Bool.{cases_lt}
 use Rattle.std.proofs.lemmas.List.{append-nil}
 use Rattle.dita_doc.specs.declared.plan.PlanNode.{PlanNode}
+use Rattle.dita_doc.proofs.Lists.{get_front, get_read}
 use Rattle.map_spec.specs.Cascade as cascade
-use Rattle.map_spec.specs.Cascade.{attribute_at, merged, spaced, tokens_on, walk, whole_at, with_new}
+use Rattle.map_spec.specs.Cascade.{attribute_at, merged_tokens, spaced, tokens_on, walk, whole_at, with_new}
 use Rattle.map_spec.specs.Written.{Whole}
 use Rattle.plan_nodes.specs.Home as home
 use Rattle.plan_nodes.specs.Preorder.{HasParentsBefore}
 use Rattle.reader_spec.specs.World.{World}
 use Rattle.attr_cascade.specs.Nearest as near
-use Rattle.attr_cascade.specs.Tokens.{AreTokens, IsPlaceOf, IsTokens, Longer, merges, own_tokens, place_at, tokens_at, tokens_in, value_of}
+use Rattle.attr_cascade.specs.Tokens.{AreTokens, IsPlaceOf, IsTokens, Longer, value_merges, own_tokens, place_at, tokens_at, tokens_in, value_of}
 use Rattle.attr_cascade.specs.declared.tokens.TokenList.{TokenList}
 use Rattle.attr_cascade.proofs.NearestLaws.{nearest_there}
-use Rattle.attr_cascade.proofs.PlaceLaws.{own_value}
+use Rattle.plan_nodes.proofs.HomeLaws.{value_same}
 use Rattle.plan_nodes.proofs.ListLaws.{get_more}
-use Rattle.plan_nodes.proofs.PlaceLaws.{node_at, walk_root, walk_up}
+use Rattle.plan_nodes.proofs.PlaceLaws.{walk_root, walk_up}
 
 get-last : {X : Type 0} (xs : List X) (at : ℕ) (x : X) → at ≡ length xs → slice_get (xs ++ x ∷ []) at ≡ Some x
 get-last [] zero x is = refl
 get-last [] (suc at) x is = absurd (omega arith)
 get-last (y ∷ xs) zero x is = absurd (omega arith)
 get-last (y ∷ xs) (suc at) x is = get-last xs at x (omega arith)
-
-get-found : {X : Type 0} (xs more : List X) (at : ℕ) (x : X) → slice_get xs at ≡ Some x
-    → slice_get (xs ++ more) at ≡ Some x
-get-found [] more at x is = cc
-get-found (y ∷ xs) more zero x is = is
-get-found (y ∷ xs) more (suc at) x is = get-found xs more at x is
 
 value_there : (tokens : List (List ℕ)) → 0 < length tokens → Some (spaced tokens) ≡ value_of tokens
 value_there [] some = absurd (omega arith)
@@ -69,14 +64,14 @@ longer_tokens : (old new : List TokenList) (place : Option ℕ) (tokens : List (
     → IsTokens old place tokens → IsTokens new place tokens
 longer_tokens old new None tokens longer is = is
 longer_tokens old new (Some at) tokens longer is =
-    (is.0, ap (λ all. slice_get all at) longer.1 ∙ get-found old longer.0 at is.0 is.1, is.2)
+    (is.0, ap (λ all. slice_get all at) longer.1 ∙ get_front old longer.0 at is.0 is.1, is.2)
 
 module _ (world : World) (name : List ℕ) (nodes : List PlanNode) where
   -- the tokens above a node
   pub record Above (lists : List TokenList) (places : List (Option ℕ)) (at : ℕ) (node : PlanNode) : Type 0 where
     pub tokens : List (List ℕ)
     pub are : IsTokens lists (place_at places node.parent) tokens
-    pub is : merged (cascade.merges world (walk nodes at)) (cascade.own_tokens world name node) tokens
+    pub is : merged_tokens (cascade.merges world (walk nodes at)) (cascade.own_tokens world name node) tokens
         ≡ tokens_at world name nodes at
 
   no_place : (places : List (Option ℕ)) (at : ℕ) → length places ≡ 0 → place_at places at ≡ None
@@ -89,7 +84,8 @@ module _ (world : World) (name : List ℕ) (nodes : List PlanNode) where
     tokens = [];
     are = subst (λ p. IsTokens lists p []) (sym (no_place places node.parent so_far.many)) refl;
     is =
-        ap (λ w. merged (cascade.merges world w) (cascade.own_tokens world name node) []) (walk_root nodes node is)
+        ap (λ w. merged_tokens (cascade.merges world w) (cascade.own_tokens world name node) [])
+        (walk_root nodes node is)
         ∙ ap (tokens_on world name) (sym (walk_root nodes node is));
   }
 
@@ -102,7 +98,7 @@ module _ (world : World) (name : List ℕ) (nodes : List PlanNode) where
         tokens = tokens_at world name nodes node.parent;
         are = so_far.each node.parent (before at node above is);
         is =
-            ap (λ w. merged (cascade.merges world w) (cascade.own_tokens world name node)
+            ap (λ w. merged_tokens (cascade.merges world w) (cascade.own_tokens world name node)
             (tokens_at world name nodes node.parent)) up
             ∙ ap (tokens_on world name) (sym up);
       }
@@ -136,9 +132,10 @@ module _ (world : World) (name : List ℕ) (nodes : List PlanNode) where
 -- the value of `cascade` at a node
 pub merges_here : (world : World) (nodes : List PlanNode) (values : List near.Value) (at : ℕ)
     → values ≡ near.nearest_of world (codes "cascade") nodes → at < length nodes
-    → merges (near.value_at values at) ≡ cascade.merges world (walk nodes at)
+    → value_merges (near.value_at values at) ≡ cascade.merges world (walk nodes at)
 merges_here world nodes values at are within =
-    ap (λ v. merges (near.value_at v at)) are ∙ ap merges (nearest_there world (codes "cascade") nodes at within)
+    ap (λ v. value_merges (near.value_at v at)) are
+    ∙ ap value_merges (nearest_there world (codes "cascade") nodes at within)
 
 -- one more node
 pub table_more : (world : World) (name : List ℕ) (nodes : List PlanNode) (homes : List (Option Whole)) (at : ℕ)
@@ -146,17 +143,17 @@ pub table_more : (world : World) (name : List ℕ) (nodes : List PlanNode) (home
     (own : Option (Bor (List ℕ))) (test : Bool) (values : List near.Value) → homes ≡ map (whole_at world) nodes
     → HasParentsBefore nodes → values ≡ near.nearest_of world (codes "cascade") nodes → at < length nodes
     → node ≡ get_or nodes at node → AreTokens world name nodes old places at → over ≡ place_at places node.parent
-    → option_copied own ≡ home.value_at homes at name → test ≡ merges (near.value_at values at)
+    → option_copied own ≡ home.value_at homes at name → test ≡ value_merges (near.value_at values at)
     → ((tokens : List (List ℕ)) → IsTokens old over tokens
-    → IsPlaceOf old new place (merged test (own_tokens (option_copied own)) tokens))
+    → IsPlaceOf old new place (merged_tokens test (own_tokens (option_copied own)) tokens))
     → later ≡ places ++ place ∷ [] → AreTokens world name nodes new later (at + 1)
 table_more world name nodes homes at node old new places later place over own test values same before cascades within item
     so_far over_is own_is test_is made more =
-    let is = node_at nodes at node within item in
+    let is = get_read nodes at node within item in
     let up = above world name nodes old places at node before is so_far in
     tokens_more world name nodes old new places later at place _ so_far more
-    (ap (λ t. merged t (own_tokens (option_copied own)) up.tokens) (test_is ∙ merges_here world nodes values at cascades within)
-    ∙ ap (λ v. merged (cascade.merges world (walk nodes at)) (own_tokens v) up.tokens)
-    (own_is ∙ own_value world homes nodes at node name same is)
+    (ap (λ t. merged_tokens t (own_tokens (option_copied own)) up.tokens) (test_is ∙ merges_here world nodes values at cascades within)
+    ∙ ap (λ v. merged_tokens (cascade.merges world (walk nodes at)) (own_tokens v) up.tokens)
+    (own_is ∙ value_same world homes nodes at node name same is)
     ∙ up.is)
     (made up.tokens (subst (λ p. IsTokens old p up.tokens) (sym over_is) up.are))

@@ -1,16 +1,16 @@
 -- The values of nodes one after the other.
-use Rattle.std.specs.Prelude.{◌≡◌, ◌+◌, ◌<◌, ◌≤◌, ℕ, zero, suc, Bool, false, List, [], ◌∷◌, ◌++◌, Option, Some, None, map, length, take, drop, unwrap_or}
+use Rattle.std.specs.Prelude.{◌≡◌, ◌+◌, ◌<◌, ◌≤◌, ℕ, zero, suc, Bool, false, List, [], ◌∷◌, ◌++◌, Option, map, length, take, drop, unwrap_or}
 use Rattle.std.specs.Borrow.{Bor}
 use Rattle.attr_cascade.specs.Nearest.{nearest_at, nearest_of, seen, value_at}
 use Rattle.attr_cascade.proofs.NearestLaws.{nearest_there}
 use Rattle.std.specs.List.{filter_map}
-use Rattle.std.specs.Option.{option_to_list}
 use Rattle.std.proofs.Common.{refl, sym, ap, ◌∙◌, arith, get_or, append_assoc}
 use Rattle.std.proofs.lemmas.List.{append-nil, drop_all, take_all}
 use Rattle.std.proofs.lemmas.List.Elements.{filter_map-append}
 use Rattle.std.proofs.Math.Seq.{drop-cons}
 use Rattle.dita_doc.specs.declared.doc.Attribute.{Attribute}
 use Rattle.dita_doc.specs.declared.plan.PlanNode.{PlanNode}
+use Rattle.dita_doc.proofs.Lists.{one_found}
 use Rattle.map_spec.specs.Cascade.{cascaded_from, cascaded_on, named_tokens, walk}
 use Rattle.reader_spec.specs.World.{World}
 use Rattle.attr_cascade.specs.Tokens.{AreTables, IsTableOf, tokens_at}
@@ -73,11 +73,6 @@ table_at world nodes (name ∷ names) (first ∷ tables) zero table are within i
 table_at world nodes (name ∷ names) (first ∷ tables) (suc at) table are within is =
     table_front world nodes name names at table (table_at world nodes names tables at table are.1 (omega arith) is)
 
-filter_one : {X Y : Type 0} (f : X → Option Y) (x : X) (found : Option Y) → f x ≡ found
-    → filter_map f (x ∷ []) ≡ option_to_list found
-filter_one f x None is = rw is refl
-filter_one f x (Some y) is = rw is refl
-
 -- one more of them
 pub tokens_put : (world : World) (nodes : List PlanNode) (names some more : List (List ℕ)) (at : ℕ) (name : List ℕ)
     (front old new : List Attribute) → more ≡ some ++ name ∷ [] → old ≡ front ++ with_tokens world nodes at some
@@ -87,7 +82,7 @@ tokens_put world nodes names some more at name front old new here told is =
     let f = λ (n : List ℕ). named_tokens n (tokens_at world n nodes at) in
     is ∙ ap (λ all. all ++ put_if (f name)) told
     ∙ append_assoc front (with_tokens world nodes at some) (put_if (f name))
-    ∙ ap (λ last. front ++ (with_tokens world nodes at some ++ last)) (sym (filter_one f name (f name) refl))
+    ∙ ap (λ last. front ++ (with_tokens world nodes at some ++ last)) (sym (one_found f name (f name) refl))
     ∙ sym (ap (λ all. front ++ all) (ap (filter_map f) here ∙ filter_map-append f some (name ∷ [])))
 
 -- as many names as tables

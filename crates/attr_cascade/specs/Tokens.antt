@@ -54,8 +54,8 @@ IsTokens lists (Some at) tokens = (list : TokenList) × (slice_get lists at ≡ 
 abbrev pub own_tokens : Option (List ℕ) → Option (List (List ℕ))
 own_tokens value = option_and_then if_not_grouped value
 
-abbrev pub merges : Option (List ℕ) → Bool
-merges value = not (bytes_eq (unwrap_or value (codes "merge")) (codes "nomerge"))
+abbrev pub value_merges : Option (List ℕ) → Bool
+value_merges value = not (bytes_eq (unwrap_or value (codes "merge")) (codes "nomerge"))
 
 abbrev pub Longer : List TokenList → List TokenList → Type 0
 Longer old new = (more : List TokenList) × (new ≡ old ++ more)

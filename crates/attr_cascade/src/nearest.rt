@@ -8,7 +8,7 @@ ghost use Rattle.plan_nodes.specs.Preorder as preorder_spec;
 ghost use Rattle.reader_spec.specs.World.{World};
 
 use dita_doc::{PlanKind, PlanNode};
-use plan_nodes::Homes;
+use plan_nodes::NodeElements;
 use std::alloc::{AllocError, Global};
 
 /// For each node the nearest value of each attribute, if one is written on its walk.
@@ -26,7 +26,7 @@ pub(crate) struct Nearest<'a> {
 impl<'a> Nearest<'a> {
     pub(crate) fn of(
         alloc: Global,
-        homes: &'a Homes,
+        homes: &'a NodeElements,
         nodes: &[PlanNode],
     ) -> Result<Nearest<'a>, AllocError>
         ensures { (world : World) → homes.now ≡ map (cascade_spec.whole_at world) nodes.now
@@ -54,7 +54,7 @@ pub(crate) fn nearest_at<'a>(values: &[Option<&'a str>], at: usize) -> Option<&'
 // The nearest value of an attribute for each node: its own, else what its parent passes on.
 fn nearest_values<'a>(
     alloc: Global,
-    homes: &'a Homes,
+    homes: &'a NodeElements,
     nodes: &[PlanNode],
     name: &str,
 ) -> Result<Vec<Option<&'a str>>, AllocError>

@@ -13,7 +13,7 @@ ghost use Rattle.reader_spec.specs.World.{World};
 
 use crate::nearest::nearest_at;
 use dita_doc::{PlanNode, Text, split_word};
-use plan_nodes::Homes;
+use plan_nodes::NodeElements;
 use std::alloc::{AllocError, Global};
 use std::collections::BTreeSet;
 
@@ -38,7 +38,7 @@ impl<'a> TokenTable<'a> {
     /// `cascade` for each node.
     pub(crate) fn of(
         alloc: Global,
-        homes: &'a Homes,
+        homes: &'a NodeElements,
         nodes: &[PlanNode],
         cascades: &[Option<&str>],
         name: &'static str,
@@ -78,7 +78,7 @@ impl<'a> TokenTable<'a> {
 
 // Whether the tokens of the node at this place stand beside those above it.
 fn merges(cascades: &[Option<&str>], at: usize) -> bool
-    ensures { result ≡ spec.merges (nearest_spec.value_at (nearest_spec.seen cascades.now) at) }
+    ensures { result ≡ spec.value_merges (nearest_spec.value_at (nearest_spec.seen cascades.now) at) }
 {
     match nearest_at(cascades, at) {
         Some(value) => value != "nomerge",
@@ -103,7 +103,7 @@ fn place_of<'a>(
 ) -> Result<Option<usize>, AllocError>
     ensures { (tokens : spec.Texts) → spec.IsTokens lists.old.items above tokens
         → IfOk result (λ place. spec.IsPlaceOf lists.old.items lists.new.items place
-        (cascade_spec.merged merges (spec.own_tokens (option_copied own.entry)) tokens)) }
+        (cascade_spec.merged_tokens merges (spec.own_tokens (option_copied own.entry)) tokens)) }
 {
     match own {
         Some(own) if !is_grouped(own) => place_of_own(alloc, lists, above, own, merges),
@@ -128,7 +128,7 @@ fn place_of_own<'a>(
 ) -> Result<Option<usize>, AllocError>
     ensures { (tokens : spec.Texts) → spec.IsTokens lists.old.items above tokens
         → IfOk result (λ place. spec.IsPlaceOf lists.old.items lists.new.items place
-        (cascade_spec.merged merges (Some (class_value_spec.words_of own.now)) tokens)) }
+        (cascade_spec.merged_tokens merges (Some (class_value_spec.words_of own.now)) tokens)) }
 {
     if !merges {
         let tokens = words_in(alloc, own)?;

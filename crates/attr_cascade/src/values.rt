@@ -17,7 +17,7 @@ ghost use Rattle.readers.specs.Told.{Agrees};
 use crate::nearest::{Nearest, nearest_at};
 use crate::tokens::TokenTable;
 use dita_doc::{Attribute, List, NoMemory, PlanNode, Text};
-use plan_nodes::{Homes, copy_node, in_tables};
+use plan_nodes::{NodeElements, copy_node, in_tables};
 use readers::Reader;
 use std::alloc::{AllocError, Global};
 
@@ -51,7 +51,7 @@ pub fn cascade<R: Reader>(
 }
 
 // What `cascade` says, but of the reader's own world.
-#[tactic(auto, using(crate::proofs::Walking::walking))]
+#[tactic(auto, using(readers::proofs::Rules::walking))]
 fn cascaded<R: Reader>(
     alloc: Global,
     reader: &mut R,
@@ -67,12 +67,16 @@ fn cascaded<R: Reader>(
         (R.told reader.old) (R.told reader.new) }
     ensures grows { Grows (R.told reader.old) (R.told reader.new) }
 {
-    let homes = Homes::of(alloc, reader, nodes)?;
+    let homes = NodeElements::of(alloc, reader, nodes)?;
     cascade_in(alloc, &homes, nodes)
 }
 
 // The nodes with their values, where the element of each is known.
-fn cascade_in(alloc: Global, homes: &Homes, nodes: &[PlanNode]) -> Result<List<PlanNode>, NoMemory>
+fn cascade_in(
+    alloc: Global,
+    homes: &NodeElements,
+    nodes: &[PlanNode],
+) -> Result<List<PlanNode>, NoMemory>
     ensures { (world : World) → homes.now ≡ map (cascade_spec.whole_at world) nodes.now
         → preorder_spec.HasParentsBefore nodes.now
         → IfOk result (λ made. made ≡ cascade_spec.cascaded world nodes.now) }
@@ -138,7 +142,7 @@ fn with_values(
 fn put_tables<'a>(
     alloc: Global,
     tables: &mut Vec<TokenTable<'a>>,
-    homes: &'a Homes,
+    homes: &'a NodeElements,
     nodes: &[PlanNode],
     nearest: &Nearest<'_>,
 ) -> Result<(), NoMemory>
@@ -160,7 +164,7 @@ fn put_tables<'a>(
 fn put_table<'a>(
     alloc: Global,
     tables: &mut Vec<TokenTable<'a>>,
-    homes: &'a Homes,
+    homes: &'a NodeElements,
     nodes: &[PlanNode],
     nearest: &Nearest<'_>,
     name: &'static str,

@@ -6,7 +6,7 @@ use Rattle.std.proofs.lemmas.Grind.{flat_map-append}
 use Rattle.dita_doc.specs.declared.plan.PlanNode.{PlanNode}
 use Rattle.ditaval_rules.specs.declared.rules.RulesRead.{RulesRead}
 use Rattle.doc_elements.specs.Walk as walk
-use Rattle.doc_elements.specs.Walk.{Found, content_in, element_of}
+use Rattle.doc_elements.specs.Walk.{FoundElement, content_in, element_of}
 use Rattle.map_spec.specs.Branches as branches
 use Rattle.map_spec.specs.Branches.{branch_of, is_ditavalref}
 use Rattle.map_spec.specs.Judged.{whole_of}
@@ -129,7 +129,7 @@ none_appended world nodes read entries made head none known =
     (appended_none world nodes read entries made known)
 
 pub one_appended : (world : World) (nodes : List PlanNode) (old new : List RulesRead) (entries : List Known)
-    (before after : Branches) (place parent end : ℕ) (head : Head) (found : Found) (branch : Branch)
+    (before after : Branches) (place parent end : ℕ) (head : Head) (found : FoundElement) (branch : Branch)
     → slice_get nodes place ≡ Some (node_of head parent end)
     → Some (walk.whole_of head.doc found) ≡ whole_of world head
     → IsBranchOf world old new entries before.faults after.faults place (element_of head.doc found.0.now)

@@ -8,9 +8,9 @@ use Rattle.std.proofs.Common.{refl, sym, subst, ◌∙◌, arith, append-nil, le
 use Rattle.std.proofs.lemmas.Option.{slice_get_past}
 use Rattle.dita_doc.specs.declared.fault.Fault.{Fault}
 use Rattle.ditaval_rules.specs.declared.rules.RulesRead.{RulesRead}
+use Rattle.plan_nodes.proofs.HomeLaws.{within_more}
 use Rattle.plan_nodes.proofs.ListLaws.{get_more}
 use Rattle.plan_nodes.proofs.MemoLaws.{IsEach, each_found, each_kept, each_put}
-use Rattle.node_filter.proofs.DomainLaws.{within_more}
 use Rattle.reader_spec.specs.World.{World}
 use Rattle.plan_nodes.specs.HomeDocs.{IsWithin, Known}
 use Rattle.branch_copies.specs.Ditavals.{AreKnown, IsDitavalOf, IsKnown, Longer, ditaval_at, faults_at}

@@ -5,7 +5,7 @@ use Rattle.std.proofs.Common.{refl, sym, ap, subst, ◌∙◌}
 use Rattle.std.proofs.lemmas.Bool.{false≢true}
 use Rattle.std.proofs.lemmas.Option.{slice_get-map}
 use Rattle.dita_doc.specs.declared.plan.PlanNode.{PlanNode}
-use Rattle.doc_elements.specs.Walk.{Found, element_of, found_in, whole_of}
+use Rattle.doc_elements.specs.Walk.{FoundElement, element_of, found_in, whole_of}
 use Rattle.map_spec.specs.Branches.{is_ditavalref}
 use Rattle.map_spec.specs.Cascade.{whole_at}
 use Rattle.map_spec.specs.Elements.{attribute}
@@ -72,7 +72,7 @@ some_at : (found : Option (Option Whole)) (whole : Whole) → option_and_then (�
 some_at None whole is = cc
 some_at (Some other) whole is = ap (λ w. Some w) is
 
-module _ (nodes : List PlanNode) (homes : List (Option Whole)) (at : ℕ) (node : PlanNode) (found : Found)
+module _ (nodes : List PlanNode) (homes : List (Option Whole)) (at : ℕ) (node : PlanNode) (found : FoundElement)
     (here : slice_get nodes at ≡ Some node)
     (there : found_in (home.doc_of homes at) (Some found) ≡ home.whole_at homes at) where
   home_at : (world : World) → homes ≡ map (whole_at world) nodes → home.whole_at homes at ≡ whole_at world node

@@ -1,8 +1,8 @@
 -- The copying of all nodes is begun and ended.
-use Rattle.std.specs.Prelude.{◌≡◌, ◌<◌, ◌≤◌, ℕ, Bool, true, false, List, [], ◌∷◌, Result, Ok, Err, length, map, nat_le, if◌then◌else◌}
+use Rattle.std.specs.Prelude.{◌≡◌, ◌≤◌, ℕ, Bool, true, false, List, [], ◌∷◌, Result, Ok, Err, length, map, nat_le, if◌then◌else◌}
 use Rattle.std.specs.Result.{result_map_both}
 use Rattle.std.proofs.Common.{refl, sym, ap, subst, ◌∙◌, arith}
-use Rattle.std.proofs.lemmas.Bool.Decides.{nat_tests}
+use Rattle.std.proofs.lemmas.Bool.{le-leb, lt-leb}
 use Rattle.dita_doc.specs.Gives.{Gives}
 use Rattle.dita_doc.specs.declared.fault.Fault.{Fault}
 use Rattle.dita_doc.specs.declared.plan.Expanded.{Expanded}
@@ -13,24 +13,26 @@ use Rattle.dita_doc.specs.declared.plan.PlanStop.TheVariants as stops
 use Rattle.dita_doc.specs.declared.stop.Stop.{Stop}
 use Rattle.dita_doc.specs.declared.stop.Stop.TheVariants as stop
 use Rattle.map_spec.specs.Branches.{Branch, all_beside, branch_faults, branches_of, branched, copied, copies, group_for, is_ditavalref, is_map_node, copy_for, with_scope_names}
-use Rattle.map_spec.specs.Included.{expanded, node_limit}
+use Rattle.map_spec.specs.Included.{expanded, map_node_limit}
 use Rattle.map_spec.specs.MapTree.{Grown, Head, MapTree, MapNode, NoNodes, count, plan_nodes, trees_beside}
 use Rattle.plan_nodes.specs.Preorder.{HasOneRoot, without_end}
 use Rattle.reader_spec.specs.World.{World}
+use Rattle.map_lemmas.proofs.TreeLaws.{length_below}
+use Rattle.plan_nodes.proofs.EndLaws.{cleared_twice}
 use Rattle.branch_copies.specs.Going.{Going, IsOver, chains_of}
 use Rattle.branch_copies.specs.Leaves.{Leaves, WalkMakes}
 use Rattle.branch_copies.specs.Read.{HaveBranches}
 use Rattle.branch_copies.specs.declared.copying.Copying.{Copying}
-use Rattle.branch_copies.specs.declared.node.Source.{Source}
+use Rattle.branch_copies.specs.declared.node.Originals.{Originals}
 use Rattle.branch_copies.specs.declared.work.Walk.{Walk}
 use Rattle.branch_copies.specs.declared.work.Work.TheVariants as works
 use Rattle.branch_copies.proofs.FirstLaws as firsts
 use Rattle.branch_copies.proofs.LeavesLaws.{pushed}
-use Rattle.branch_copies.proofs.StandLaws.{count_all, length_below, stands_all}
-use Rattle.branch_copies.proofs.TreeLaws.{length_without, without_again}
+use Rattle.branch_copies.proofs.StandLaws.{count_all, stands_all}
+use Rattle.branch_copies.proofs.TreeLaws.{length_without}
 
 -- all nodes are left
-pub begun : (world : World) (source : Source) (defined : List Branch) (tree : MapTree) (x : Copying) (end : ℕ)
+pub begun : (world : World) (source : Originals) (defined : List Branch) (tree : MapTree) (x : Copying) (end : ℕ)
     → x.made.items ≡ [] → chains_of x ≡ [] ∷ []
     → x.left.items ≡ works.Walk (record { at = 0; end = end; parent = 0; chain = 0 }) ∷ []
     → source.nodes.now ≡ plan_nodes tree → end ≡ length source.nodes.now
@@ -58,7 +60,7 @@ begun world source defined tree x end made chains left are ended have =
     }
 
 -- nothing is left
-pub ended_all : (world : World) (source : Source) (defined : List Branch) (x : Copying) (all : List PlanNode)
+pub ended_all : (world : World) (source : Originals) (defined : List Branch) (x : Copying) (all : List PlanNode)
     → x.left.items ≡ [] → Going world source defined x x.made.items all → x.made.items ≡ all
 ended_all world source defined x all none going =
     subst (λ l. Leaves world source defined (chains_of x) l x.made.items all) none going.leaves
@@ -88,12 +90,6 @@ one_root world head below is =
 
 -- The answer
 
-test_within : (a b : ℕ) → a ≤ b → nat_le a b ≡ true
-test_within a b less = grind (arith, nat_tests)
-
-test_over : (a b : ℕ) → b < a → nat_le a b ≡ false
-test_over a b more = grind (arith, nat_tests)
-
 abbrev given : Result Grown PlanStop → Result (List PlanNode) PlanStop
 given grown = result_map_both (λ (g : Grown). plan_nodes g.tree) (λ stop. stop) grown
 
@@ -101,28 +97,28 @@ long_all : (tree : MapTree) → length (map without_end (plan_nodes tree)) ≡ c
 long_all tree = length_without (plan_nodes tree) ∙ length_below 0 0 tree
 
 pub finished : (world : World) (tree : MapTree) (made nodes : List PlanNode)
-    → made ≡ map without_end (plan_nodes (copied world tree)) → length made ≤ node_limit
-    → nodes ≡ plan_nodes (copied world tree) → given (branched node_limit world tree) ≡ Ok nodes
+    → made ≡ map without_end (plan_nodes (copied world tree)) → length made ≤ map_node_limit
+    → nodes ≡ plan_nodes (copied world tree) → given (branched map_node_limit world tree) ≡ Ok nodes
 finished world tree made nodes all few are =
     let grown : Grown = record { tree = copied world tree; faults = branch_faults world tree } in
     ap (λ (t : Bool). given (if t then Ok grown else Err stops.TooManyNodes))
-    (test_within (count (copied world tree)) node_limit
+    (le-leb (count (copied world tree)) map_node_limit
     (omega (arith, ap (λ l. length l) all, long_all (copied world tree), few)))
     ∙ ap Ok (sym are)
 
 pub stopped : (world : World) (tree : MapTree) (end : Stop PlanStop)
     → IsOver end (map without_end (plan_nodes (copied world tree)))
-    → Gives {A = List PlanNode} (Err end) (given (branched node_limit world tree))
+    → Gives {A = List PlanNode} (Err end) (given (branched map_node_limit world tree))
 stopped world tree (stop.Fault fault) over =
     let grown : Grown = record { tree = copied world tree; faults = branch_faults world tree } in
     ap (λ (t : Bool). given (if t then Ok grown else Err stops.TooManyNodes))
-    (test_over (count (copied world tree)) node_limit (omega (arith, long_all (copied world tree), over.1)))
+    (lt-leb (count (copied world tree)) map_node_limit (omega (arith, long_all (copied world tree), over.1)))
     ∙ ap Err (sym over.0)
 stopped world tree stop.NoMemory over = tt
 
 pub ends_of : (made : List PlanNode) (tree : MapTree) → made ≡ map without_end (plan_nodes tree)
     → map without_end made ≡ map without_end (plan_nodes tree)
-ends_of made tree is = ap (map without_end) is ∙ without_again (plan_nodes tree)
+ends_of made tree is = ap (map without_end) is ∙ cleared_twice (plan_nodes tree)
 
 -- With the faults
 
@@ -135,9 +131,9 @@ seen_by (Ok grown) nodes faults same is =
     ∙ ap (λ f. Ok (let made : Expanded = record { nodes = nodes; faults = f } in made)) (same grown refl)
 seen_by (Err end) nodes faults same is = absurd (cc)
 
-faults_are : (world : World) (tree : MapTree) (one : Grown) → branched node_limit world tree ≡ Ok one
+faults_are : (world : World) (tree : MapTree) (one : Grown) → branched map_node_limit world tree ≡ Ok one
     → one.faults ≡ branch_faults world tree
-faults_are world tree one is = by_test (nat_le (count (copied world tree)) node_limit) is
+faults_are world tree one is = by_test (nat_le (count (copied world tree)) map_node_limit) is
   where
     by_test : (test : Bool)
         → (if test then Ok (let grown : Grown = record { tree = copied world tree; faults = branch_faults world tree } in grown)
@@ -146,11 +142,11 @@ faults_are world tree one is = by_test (nat_le (count (copied world tree)) node_
     by_test false e = absurd (cc)
 
 pub with_faults : (world : World) (tree : MapTree) (nodes : List PlanNode) (faults : List Fault)
-    → faults ≡ branch_faults world tree → given (branched node_limit world tree) ≡ Ok nodes
-    → result_map_both expanded (λ stop. stop) (branched node_limit world tree)
+    → faults ≡ branch_faults world tree → given (branched map_node_limit world tree) ≡ Ok nodes
+    → result_map_both expanded (λ stop. stop) (branched map_node_limit world tree)
     ≡ Ok (record { nodes = nodes; faults = faults })
 with_faults world tree nodes faults are is =
-    seen_by (branched node_limit world tree) nodes faults (λ one same. faults_are world tree one same ∙ sym are) is
+    seen_by (branched map_node_limit world tree) nodes faults (λ one same. faults_are world tree one same ∙ sym are) is
 
 stop_by : (grown : Result Grown PlanStop) (stop : PlanStop) → given grown ≡ Err stop
     → result_map_both expanded (λ stop. stop) grown ≡ Err stop

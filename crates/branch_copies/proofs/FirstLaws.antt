@@ -5,6 +5,7 @@ use Rattle.map_spec.specs.Branches.{Branch, all_beside, branches_of, copied, cop
 use Rattle.map_spec.specs.Judged.{is_excluded}
 use Rattle.map_spec.specs.MapTree.{Head, MapTree, NoNodes, MapNode, trees_beside}
 use Rattle.dita_doc.specs.declared.plan.PlanKind.TheVariants as kinds
+use Rattle.dita_doc.proofs.Tests.{or_true}
 use Rattle.reader_spec.specs.World.{World}
 use Rattle.branch_copies.specs.Leaves.{copies_of, copy_of}
 use Rattle.branch_copies.specs.Through.{excluded_by, marked_by, through}
@@ -26,10 +27,6 @@ excluded_named : (world : World) (head : Head) (below : MapTree) (chain : List B
 excluded_named world head below [] = refl
 excluded_named world head below (branch ∷ chain) =
     ap (λ b. is_excluded world branch.filter.rules head || b) (excluded_named world head below chain)
-
-or_true : (a : Bool) → (a || true) ≡ true
-or_true true = refl
-or_true false = refl
 
 module _ (world : World) (chain : List Branch) (head : Head) (below : MapTree) where
   abbrev named : Head

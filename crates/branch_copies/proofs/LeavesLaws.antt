@@ -10,7 +10,7 @@ use Rattle.branch_copies.specs.Chained.{chain_at, shown}
 use Rattle.branch_copies.specs.Going.{Going, chains_of}
 use Rattle.branch_copies.specs.Leaves.{CopiesMake, Leaves, WalkMakes, WorkMakes, chain_in, parent_of, put}
 use Rattle.branch_copies.specs.declared.copying.Copying.{Copying}
-use Rattle.branch_copies.specs.declared.node.Source.{Source}
+use Rattle.branch_copies.specs.declared.node.Originals.{Originals}
 use Rattle.branch_copies.specs.declared.work.Work.{Work}
 use Rattle.branch_copies.specs.declared.work.Work.TheVariants as works
 use Rattle.branch_copies.proofs.TreeLaws.{length_put}
@@ -36,7 +36,7 @@ chain_put [] chain (suc at) is = absurd (omega arith)
 chain_put (first ∷ chains) chain zero is = absurd (omega arith)
 chain_put (first ∷ chains) chain (suc at) is = chain_put chains chain at (omega arith)
 
-module _ (world : World) (source : Source) (defined : List Branch) where
+module _ (world : World) (source : Originals) (defined : List Branch) where
   pub pushed : (chains : List (List ℕ)) (front : List Work) (work : Work) (tree : MapTree) (made all : List PlanNode)
       → WorkMakes world source defined chains work tree
       → Leaves world source defined chains front (put (parent_of work) tree made) all

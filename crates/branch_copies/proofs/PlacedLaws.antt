@@ -7,20 +7,22 @@ use Rattle.std.proofs.lemmas.List.{length-replicate}
 use Rattle.map_spec.specs.Branches.{Branch, branch_faults, branches_of, is_ditavalref}
 use Rattle.map_spec.specs.MapTree.{Head, MapTree, MapNode, NoNodes, count}
 use Rattle.reader_spec.specs.World.{World}
-use Rattle.branch_copies.specs.Placed.{faults_in, joined, placed, span_of, spans_of}
+use Rattle.branch_copies.specs.Placed.{faults_in, branches_joined, placed, span_of, spans_of}
 use Rattle.branch_copies.specs.Read.{HasBranches, HaveBranches}
 
 -- Lists that are joined
 
-pub joined_append : (front back : List (List Branch)) → joined (front ++ back) ≡ joined front ++ joined back
+pub joined_append : (front back : List (List Branch))
+    → branches_joined (front ++ back) ≡ branches_joined front ++ branches_joined back
 joined_append front back = flat_map-append (λ (own : List Branch). own) front back
 
-pub joined_last : (front : List (List Branch)) (own : List Branch) → joined (front ++ own ∷ []) ≡ joined front ++ own
+pub joined_last : (front : List (List Branch)) (own : List Branch)
+    → branches_joined (front ++ own ∷ []) ≡ branches_joined front ++ own
 joined_last [] own = append-nil own
 joined_last (first ∷ front) own =
-    ap (λ l. first ++ l) (joined_last front own) ∙ sym (append_assoc first (joined front) own)
+    ap (λ l. first ++ l) (joined_last front own) ∙ sym (append_assoc first (branches_joined front) own)
 
-joined_none : (n : ℕ) → joined (replicate n []) ≡ []
+joined_none : (n : ℕ) → branches_joined (replicate n []) ≡ []
 joined_none zero = refl
 joined_none (suc n) = joined_none n
 
@@ -30,23 +32,25 @@ faults_append front back = flat_map-append (λ (branch : Branch). branch.filter.
 -- Spans
 
 pub spans_last : (front : List (List Branch)) (first : ℕ) (own : List Branch)
-    → spans_of first (front ++ own ∷ []) ≡ spans_of first front ++ span_of (first + length (joined front)) own ∷ []
+    → spans_of first (front ++ own ∷ [])
+    ≡ spans_of first front ++ span_of (first + length (branches_joined front)) own ∷ []
 spans_last [] first own = let same : first ≡ first + 0 = omega arith in ap (λ n. span_of n own ∷ []) same
 spans_last (x ∷ front) first own =
-    let same : first + length x + length (joined front) ≡ first + length (joined (x ∷ front)) =
-    omega (arith, length-append x (joined front)) in
+    let same : first + length x + length (branches_joined front) ≡ first + length (branches_joined (x ∷ front)) =
+    omega (arith, length-append x (branches_joined front)) in
     ap (λ l. span_of first x ∷ l) (spans_last front (first + length x) own
     ∙ ap (λ n. spans_of (first + length x) front ++ span_of n own ∷ []) same)
 
 span_at : (front others : List (List Branch)) (own : List Branch) (first at : ℕ) → length front ≡ at
-    → slice_get (spans_of first (front ++ own ∷ others)) at ≡ Some (span_of (first + length (joined front)) own)
+    → slice_get (spans_of first (front ++ own ∷ others)) at
+    ≡ Some (span_of (first + length (branches_joined front)) own)
 span_at [] others own first zero long =
     let same : first ≡ first + 0 = omega arith in ap (λ n. Some (span_of n own)) same
 span_at [] others own first (suc at) long = absurd (omega (arith, long))
 span_at (x ∷ front) others own first zero long = absurd (omega (arith, long))
 span_at (x ∷ front) others own first (suc at) long =
-    let same : first + length x + length (joined front) ≡ first + length (joined (x ∷ front)) =
-    omega (arith, length-append x (joined front)) in
+    let same : first + length x + length (branches_joined front) ≡ first + length (branches_joined (x ∷ front)) =
+    omega (arith, length-append x (branches_joined front)) in
     span_at front others own (first + length x) at (omega (arith, long)) ∙ ap (λ n. Some (span_of n own)) same
 
 -- Trees
@@ -104,30 +108,30 @@ module _ (world : World) where
 
   has_at : (head : Head) (below : MapTree) (front others all : List (List Branch)) (at : ℕ) → length front ≡ at
       → all ≡ front ++ branches_of world head below ∷ others
-      → HasBranches world (spans_of 0 all) (joined all) at head below
+      → HasBranches world (spans_of 0 all) (branches_joined all) at head below
   has_at head below front others all at long is =
       let own = branches_of world head below in
-      let whole : joined all ≡ joined front ++ (own ++ joined others) =
-      ap joined is ∙ joined_append front (own ∷ others) in
-      let zero_first : 0 + length (joined front) ≡ length (joined front) = omega arith in
+      let whole : branches_joined all ≡ branches_joined front ++ (own ++ branches_joined others) =
+      ap branches_joined is ∙ joined_append front (own ∷ others) in
+      let zero_first : 0 + length (branches_joined front) ≡ length (branches_joined front) = omega arith in
       record {
-        span = span_of (length (joined front)) own;
+        span = span_of (length (branches_joined front)) own;
         here = ap (λ l. slice_get (spans_of 0 l) at) is ∙ span_at front others own 0 at long
             ∙ ap (λ n. Some (span_of n own)) zero_first;
         fits = omega (
           arith,
           ap length whole,
-          length-append (joined front) (own ++ joined others),
-          length-append own (joined others),
+          length-append (branches_joined front) (own ++ branches_joined others),
+          length-append own (branches_joined others),
         );
-        are = ap (λ l. take (length own) (drop (length (joined front)) l)) whole
-            ∙ ap (take (length own)) (drop-append_seam (joined front) (own ++ joined others))
-            ∙ take-append_seam own (joined others);
+        are = ap (λ l. take (length own) (drop (length (branches_joined front)) l)) whole
+            ∙ ap (take (length own)) (drop-append_seam (branches_joined front) (own ++ branches_joined others))
+            ∙ take-append_seam own (branches_joined others);
       }
 
   -- the nodes of a tree have the branches that stand at their places
   have_in : (tree : MapTree) (front back all : List (List Branch)) (at : ℕ) → length front ≡ at
-      → all ≡ front ++ (placed world tree ++ back) → HaveBranches world (spans_of 0 all) (joined all) at tree
+      → all ≡ front ++ (placed world tree ++ back) → HaveBranches world (spans_of 0 all) (branches_joined all) at tree
   have_in NoNodes front back all at long is = tt
   have_in (MapNode head below more) front back all at long is = (
     λ other.
@@ -147,30 +151,30 @@ module _ (world : World) where
         ∙ sym (append_assoc front start.0 (placed world more ++ back))),
   )
 
-  pub have_all : (tree : MapTree) → HaveBranches world (spans_of 0 (placed world tree)) (joined (placed world tree)) 0 tree
+  pub have_all : (tree : MapTree) → HaveBranches world (spans_of 0 (placed world tree)) (branches_joined (placed world tree)) 0 tree
   have_all tree = have_in tree [] [] (placed world tree) 0 refl (sym (append-nil (placed world tree)))
 
   -- and their faults are those of all
-  pub faults_all : (tree : MapTree) → faults_in (joined (placed world tree)) ≡ branch_faults world tree
+  pub faults_all : (tree : MapTree) → faults_in (branches_joined (placed world tree)) ≡ branch_faults world tree
   faults_all NoNodes = refl
   faults_all (MapNode head below more) =
       by_test (is_ditavalref head.kind) (faults_all below) (faults_all more)
     where
-      by_test : (test : Bool) → faults_in (joined (placed world below)) ≡ branch_faults world below
-          → faults_in (joined (placed world more)) ≡ branch_faults world more
-          → faults_in (joined (if test then ([] ∷ replicate (count below) []) ++ placed world more
+      by_test : (test : Bool) → faults_in (branches_joined (placed world below)) ≡ branch_faults world below
+          → faults_in (branches_joined (placed world more)) ≡ branch_faults world more
+          → faults_in (branches_joined (if test then ([] ∷ replicate (count below) []) ++ placed world more
           else branches_of world head below ∷ (placed world below ++ placed world more)))
           ≡ (if test then branch_faults world more
           else faults_in (branches_of world head below) ++ branch_faults world below ++ branch_faults world more)
       by_test true inner behind =
           ap faults_in (joined_append (replicate (count below) []) (placed world more)
-          ∙ ap (λ l. l ++ joined (placed world more)) (joined_none (count below))) ∙ behind
+          ∙ ap (λ l. l ++ branches_joined (placed world more)) (joined_none (count below))) ∙ behind
       by_test false inner behind =
-          faults_append (branches_of world head below) (joined (placed world below ++ placed world more))
+          faults_append (branches_of world head below) (branches_joined (placed world below ++ placed world more))
           ∙ ap (λ l. faults_in (branches_of world head below) ++ l)
           (ap faults_in (joined_append (placed world below) (placed world more))
-          ∙ faults_append (joined (placed world below)) (joined (placed world more))
-          ∙ ap (λ l. l ++ faults_in (joined (placed world more))) inner
+          ∙ faults_append (branches_joined (placed world below)) (branches_joined (placed world more))
+          ∙ ap (λ l. l ++ faults_in (branches_joined (placed world more))) inner
           ∙ ap (λ l. branch_faults world below ++ l) behind)
           ∙ sym (append_assoc (faults_in (branches_of world head below)) (branch_faults world below)
           (branch_faults world more))

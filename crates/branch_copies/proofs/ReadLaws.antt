@@ -3,6 +3,7 @@ use Rattle.std.specs.Prelude.{◌≡◌, ◌++◌, ◌&&◌, ◌||◌, ◌==◌,
 use Rattle.std.specs.List.{list_all, list_any}
 use Rattle.std.specs.Option.{option_and_then, option_map_or, option_to_list}
 use Rattle.std.proofs.Common.{refl, sym, ap, ◌∙◌, append-nil, append_assoc}
+use Rattle.std.proofs.lemmas.Bool.{and_right}
 use Rattle.std.proofs.lemmas.Option.{slice_get-map}
 use Rattle.dita_doc.specs.ClassValue.{words_of}
 use Rattle.dita_doc.specs.declared.content.Rule.{Rule}
@@ -24,10 +25,10 @@ use Rattle.node_filter.specs.Domains.{names_at}
 use Rattle.branch_copies.specs.Leaves.{chosen}
 use Rattle.branch_copies.specs.Marks.{affixes_of, copied_node, filters_of, if_affix}
 use Rattle.branch_copies.specs.Read.{AreRead, IsRead}
-use Rattle.branch_copies.specs.Source.{IsSource, excludes, excludes_at, table_at}
+use Rattle.branch_copies.specs.Originals.{IsSource, branch_excludes, excludes_at, table_at}
 use Rattle.branch_copies.specs.Through.{excluded_by, marked_by}
 use Rattle.branch_copies.specs.declared.branch.Branch.{Branch}
-use Rattle.branch_copies.specs.declared.node.Source.{Source}
+use Rattle.branch_copies.specs.declared.node.Originals.{Originals}
 use Rattle.branch_copies.proofs.StandLaws.{whole_here}
 
 -- the branch at a place was read as it is defined, or there is none
@@ -153,13 +154,9 @@ copied_is read nodes all defined chain head above end parent names are =
 -- What is excluded
 
 -- no rules exclude nothing
-and_false : (a b : Bool) → b ≡ false → (a && b) ≡ false
-and_false true b is = is
-and_false false b is = refl
-
 no_token : (tokens : List (List ℕ)) → (not (length tokens == 0) && list_all (λ token. false) tokens) ≡ false
 no_token [] = refl
-no_token (token ∷ tokens) = and_false (not (length (token ∷ tokens) == 0)) false refl
+no_token (token ∷ tokens) = and_right (not (length (token ∷ tokens) == 0)) false refl
 
 none_by : (conditional grouped : Bool) (tokens : List (List ℕ))
     → (conditional && not grouped && not (length tokens == 0) && list_all (λ token. false) tokens) ≡ false
@@ -179,7 +176,7 @@ none_excluded declared (attribute ∷ attributes) =
     ∙ none_excluded declared attributes
 
 excludes_read : (declared : List (List ℕ)) (whole : Option Whole) (found : Option RulesRead)
-    → excludes (Some declared) whole (option_map (λ (read : RulesRead). read.rules) found)
+    → branch_excludes (Some declared) whole (option_map (λ (read : RulesRead). read.rules) found)
     ≡ option_map_or (λ (here : Whole).
     verdict.excluded (option_map_or (λ (read : RulesRead). read.rules) found []) declared here.0.attributes) whole false
 excludes_read declared None found = refl
@@ -192,7 +189,7 @@ rules_found : (read : List RulesRead) (place : Option ℕ)
 rules_found read None = refl
 rules_found read (Some at) = slice_get-map (λ (one : RulesRead). one.rules) read at
 
-excludes_none : (declared : List (List ℕ)) (whole : Option Whole) → excludes (Some declared) whole None ≡ false
+excludes_none : (declared : List (List ℕ)) (whole : Option Whole) → branch_excludes (Some declared) whole None ≡ false
 excludes_none declared None = refl
 excludes_none declared (Some whole) = refl
 
@@ -204,7 +201,7 @@ module _ (world : World) (head : Head) where
   excludes_one : (read : List RulesRead) (nodes : List PlanNode) (tables : List (List Rule)) (whole : Option Whole)
       (one : Option Branch) (two : Option branches.Branch) → whole ≡ whole_of world head
       → tables ≡ map (λ (r : RulesRead). r.rules) read → AtBoth read nodes one two
-      → excludes (Some (declared_of world head)) whole (option_and_then (λ (place : ℕ). slice_get tables place)
+      → branch_excludes (Some (declared_of world head)) whole (option_and_then (λ (place : ℕ). slice_get tables place)
       (option_and_then (λ (branch : Branch). place_of branch.filter) one))
       ≡ excluded_by world (option_to_list two) head
   excludes_one read nodes tables whole None None here are both = excludes_none (declared_of world head) whole
@@ -212,9 +209,9 @@ module _ (world : World) (head : Head) where
   excludes_one read nodes tables whole (Some branch) None here are both = absurd both
   excludes_one read nodes tables whole (Some branch) (Some defined) here are both =
       let names = declared_of world head in
-      ap (λ all. excludes (Some names) whole
+      ap (λ all. branch_excludes (Some names) whole
       (option_and_then (λ (place : ℕ). slice_get all place) (place_of branch.filter))) are
-      ∙ ap (excludes (Some names) whole) (rules_found read (place_of branch.filter))
+      ∙ ap (branch_excludes (Some names) whole) (rules_found read (place_of branch.filter))
       ∙ excludes_read names whole (ditaval_at read (place_of branch.filter))
       ∙ ap (λ rules. option_map_or (λ (w : Whole). verdict.excluded rules names w.0.attributes) whole false) both.rules
       ∙ ap (λ w. option_map_or (λ (w : Whole). verdict.excluded defined.filter.rules names w.0.attributes) w false) here
@@ -232,12 +229,12 @@ module _ (world : World) (head : Head) where
       or_assoc false b c = refl
 
 -- whether the branch at a place excludes the node at another
-pub excludes_is : (world : World) (source : Source) (defined : List branches.Branch) (above at end branch : ℕ)
+pub excludes_is : (world : World) (source : Originals) (defined : List branches.Branch) (above at end branch : ℕ)
     (head : Head)
     → IsSource world source defined → slice_get source.nodes.now at ≡ Some (node_of head above end)
     → excludes_at source at branch ≡ excluded_by world (option_to_list (slice_get defined branch)) head
 excludes_is world source defined above at end branch head is here =
-    ap (λ names. excludes names (home.whole_at source.homes.now at)
+    ap (λ names. branch_excludes names (home.whole_at source.homes.now at)
     (table_at source.branches.now source.tables.items branch))
     (ap (λ all. slice_get all at) is.declared ∙ slice_get-map (names_at world) source.nodes.now at
     ∙ ap (option_map (names_at world)) here)
@@ -247,7 +244,8 @@ excludes_is world source defined above at end branch head is here =
     (read_at is.ditavals source.nodes.now source.branches.now defined branch is.read)
 
 -- whether one of a chain does
-pub chain_excludes : (world : World) (source : Source) (defined : List branches.Branch) (above at end : ℕ) (head : Head)
+pub chain_excludes : (world : World) (source : Originals) (defined : List branches.Branch) (above at end : ℕ)
+    (head : Head)
     (chain : List ℕ) → IsSource world source defined → slice_get source.nodes.now at ≡ Some (node_of head above end)
     → list_any (excludes_at source at) chain ≡ excluded_by world (chosen defined chain) head
 chain_excludes world source defined above at end head [] is here = refl

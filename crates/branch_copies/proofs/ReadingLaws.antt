@@ -12,7 +12,7 @@ use Rattle.reader_spec.specs.World.{World}
 use Rattle.branch_copies.specs.Appended.{AreAppended}
 use Rattle.plan_nodes.specs.HomeDocs.{Known}
 use Rattle.branch_copies.specs.Ditavals.{AreKnown}
-use Rattle.branch_copies.specs.Placed.{faults_in, joined, placed, span_of, spans_of}
+use Rattle.branch_copies.specs.Placed.{faults_in, branches_joined, placed, span_of, spans_of}
 use Rattle.branch_copies.specs.Read.{AllRead, AreRead, HaveBranches}
 use Rattle.branch_copies.specs.Reading.{AreDone, AreLeft, IsReading, StandAll, Trees, count_all, next_behind, placed_all}
 use Rattle.branch_copies.specs.Stands.{StandsAt}
@@ -222,8 +222,8 @@ module _ (world : World) (nodes : List PlanNode) (tree : MapTree) where
         → AreDone world nodes new later done_now (done ++ own ∷ [])
     done_next done own before read =
         let all = after.branches.items in
-        let many : length made.branches.items ≡ 0 + length (joined done) =
-        omega (arith, read_length old nodes made.branches.items (joined done) before.are) in
+        let many : length made.branches.items ≡ 0 + length (branches_joined done) =
+        omega (arith, read_length old nodes made.branches.items (branches_joined done) before.are) in
         let more : length all - length made.branches.items ≡ length own =
         omega (
           arith,
@@ -232,19 +232,20 @@ module _ (world : World) (nodes : List PlanNode) (tree : MapTree) where
           read_length new nodes read.more own read.are,
         ) in
         let span : Span = record { first = first; count = count_now } in
-        let here : span ≡ span_of (0 + length (joined done)) own =
+        let here : span ≡ span_of (0 + length (branches_joined done)) own =
         ap (λ n. record { first = n; count = count_now }) (first_is ∙ many)
-        ∙ ap (λ n. record { first = 0 + length (joined done); count = n }) (count_is ∙ more) in
+        ∙ ap (λ n. record { first = 0 + length (branches_joined done); count = n }) (count_is ∙ more) in
         record {
           known = read.known;
-          are = subst (λ l. AreRead new nodes l (joined (done ++ own ∷ []))) (sym (branches_same ∙ read.branches))
+          are = subst (λ l. AreRead new nodes l (branches_joined (done ++ own ∷ [])))
+              (sym (branches_same ∙ read.branches))
               (subst (AreRead new nodes (made.branches.items ++ read.more)) (sym (joined_last done own))
-              (read_append new nodes made.branches.items read.more (joined done) own
-              (read_longer old new nodes made.branches.items (joined done) read.longer before.are) read.are));
+              (read_append new nodes made.branches.items read.more (branches_joined done) own
+              (read_longer old new nodes made.branches.items (branches_joined done) read.longer before.are) read.are));
           spans = spans_put ∙ ap (λ l. l ++ span ∷ []) (read.spans ∙ before.spans)
               ∙ ap (λ s. spans_of 0 done ++ s ∷ []) here ∙ sym (spans_last done 0 own);
           faults = faults_same ∙ read.faults ∙ ap (λ l. l ++ faults_in own) before.faults
-              ∙ sym (faults_append (joined done) own) ∙ ap faults_in (sym (joined_last done own));
+              ∙ sym (faults_append (branches_joined done) own) ∙ ap faults_in (sym (joined_last done own));
         }
 
     reading_after : (at next end : ℕ) (so_far : IsReading world nodes tree old entries made at next)
@@ -284,9 +285,9 @@ module _ (world : World) (nodes : List PlanNode) (tree : MapTree) where
       sym (so_far.all ∙ ap (λ l. so_far.done ++ l) (left_ends world nodes at next so_far.left past so_far.behind)
       ∙ append-nil so_far.done) in
       record {
-        defined = joined (placed world tree);
-        are = subst (λ l. AreRead read nodes made.branches.items (joined l)) whole so_far.before.are;
-        have = subst (λ spans. HaveBranches world spans (joined (placed world tree)) 0 tree)
+        defined = branches_joined (placed world tree);
+        are = subst (λ l. AreRead read nodes made.branches.items (branches_joined l)) whole so_far.before.are;
+        have = subst (λ spans. HaveBranches world spans (branches_joined (placed world tree)) 0 tree)
             (sym (so_far.before.spans ∙ ap (spans_of 0) whole)) (have_all world tree);
-        faults = so_far.before.faults ∙ ap (λ l. faults_in (joined l)) whole ∙ faults_all world tree;
+        faults = so_far.before.faults ∙ ap (λ l. faults_in (branches_joined l)) whole ∙ faults_all world tree;
       }

@@ -2,59 +2,26 @@
 use Rattle.std.specs.Prelude.{◌≡◌, ◌||◌, ℕ, Bool, true, false, not, List, [], ◌∷◌, ◌++◌, bytes_eq, filter, if◌then◌else◌}
 use Rattle.std.specs.BTreeMap.{is_at}
 use Rattle.std.specs.BTreeSet.{insert_key}
-use Rattle.std.specs.Cmp.Lexicographic.{slice_cmp, texts_ties}
+use Rattle.std.specs.Cmp.Lexicographic.{slice_cmp}
 use Rattle.std.specs.List.{list_any}
 use Rattle.std.specs.Bool.{OnFalse}
-use Rattle.std.specs.Ordering.{match_ordering, nat_cmp}
-use Rattle.std.proofs.Common.{Ordering, Less, Equal, Greater, refl, sym, ap, subst, ◌∙◌, append-nil, append_assoc}
+use Rattle.std.specs.Ordering.{nat_cmp}
+use Rattle.std.proofs.Common.{refl, sym, ap, subst, ◌∙◌, append-nil, append_assoc}
 use Rattle.std.proofs.lemmas.Bool.{true≢false}
 use Rattle.std.proofs.lemmas.Slice.Eq.{bytes_eq-Decides}
-use Rattle.dita_doc.proofs.NameOrder.{same_from_equal}
+use Rattle.dita_doc.proofs.Lists.{any_push, any_put, is_other, is_unseen}
+use Rattle.dita_doc.proofs.Orders.{at_text}
+use Rattle.dita_doc.proofs.Tests.{text_swaps}
 use Rattle.map_spec.specs.Branches.{each_once}
 use Rattle.map_spec.specs.Cascade.{with_new}
 use Rattle.branch_copies.specs.Seen.{AreSeen}
 
 -- Names in a set
 
-any_push : (p : List ℕ → Bool) (names : List (List ℕ)) (word : List ℕ)
-    → list_any p (names ++ word ∷ []) ≡ (p word || list_any p names)
-any_push p [] word = refl
-any_push p (name ∷ names) word = swap (p name) (p word) (list_any p names) _ (any_push p names word)
-  where
-    swap : (a b c d : Bool) → d ≡ (b || c) → (a || d) ≡ (b || (a || c))
-    swap true true c d e = refl
-    swap true false c d e = refl
-    swap false b c d e = e
-
-by_key : (name word : List ℕ) → is_at (slice_cmp nat_cmp word) name ≡ bytes_eq word name
-by_key name word = sym (texts_ties word name)
-
 any_key : (word : List ℕ) (keys : List (List ℕ))
     → list_any (is_at (slice_cmp nat_cmp word)) keys ≡ list_any (bytes_eq word) keys
 any_key word [] = refl
-any_key word (key ∷ keys) = rw (by_key key word, any_key word keys) refl
-
-any_put : (p : List ℕ → Bool) (word : List ℕ) (keys : List (List ℕ))
-    → list_any p (insert_key (slice_cmp nat_cmp) keys word) ≡ (p word || list_any p keys)
-any_put p word [] = refl
-any_put p word (key ∷ keys) = by_order (any_put p word keys) (slice_cmp nat_cmp word key) refl
-  where
-    twice : (a b c : Bool) → a ≡ b → (b || c) ≡ (a || (b || c))
-    twice true b c e = sym (ap (λ d. d || c) e)
-    twice false b c e = refl
-
-    swap : (a b c d : Bool) → d ≡ (b || c) → (a || d) ≡ (b || (a || c))
-    swap true true c d e = refl
-    swap true false c d e = refl
-    swap false b c d e = e
-
-    by_order : list_any p (insert_key (slice_cmp nat_cmp) keys word) ≡ (p word || list_any p keys) → (o : Ordering)
-        → slice_cmp nat_cmp word key ≡ o
-        → list_any p (match_ordering o (word ∷ key ∷ keys) (key ∷ keys) (key ∷ insert_key (slice_cmp nat_cmp) keys word))
-        ≡ (p word || list_any p (key ∷ keys))
-    by_order behind Less e = refl
-    by_order behind Equal e = twice (p word) (p key) (list_any p keys) (ap p (same_from_equal word key e))
-    by_order behind Greater e = swap (p key) (p word) (list_any p keys) _ behind
+any_key word (key ∷ keys) = rw (at_text key word, any_key word keys) refl
 
 -- a word that was not seen is put behind the names
 pub seen_push : (names keys later : List (List ℕ)) (word : List ℕ) → AreSeen names keys
@@ -92,22 +59,6 @@ new_parts (word ∷ first) second names =
 
 -- Each once
 
-abbrev other : List ℕ → List ℕ → Bool
-other name each = not (bytes_eq name each)
-
-abbrev unseen : List (List ℕ) → List ℕ → Bool
-unseen names name = not (list_any (bytes_eq name) names)
-
-by_truth : (a b : Bool) → (a ≡ true → b ≡ true) → (b ≡ true → a ≡ true) → a ≡ b
-by_truth true b there back = sym (there refl)
-by_truth false true there back = back refl
-by_truth false false there back = refl
-
-turned : (a b : List ℕ) → bytes_eq a b ≡ bytes_eq b a
-turned a b = by_truth (bytes_eq a b) (bytes_eq b a)
-    (λ e. (bytes_eq-Decides b a).1 (sym ((bytes_eq-Decides a b).0 e)))
-    (λ e. (bytes_eq-Decides a b).1 (sym ((bytes_eq-Decides b a).0 e)))
-
 filter_swap : (p q : List ℕ → Bool) (names : List (List ℕ))
     → filter p (filter q names) ≡ filter q (filter p names)
 filter_swap p q [] = refl
@@ -133,7 +84,7 @@ filter_less p q (name ∷ names) less = by_two (filter_less p q names less) (p n
     by_two behind false true e f = simp (e, f) behind
     by_two behind false false e f = simp (e, f) behind
 
-not_other : (name each : List ℕ) → other name each ≡ false → name ≡ each
+not_other : (name each : List ℕ) → is_other name each ≡ false → name ≡ each
 not_other name each e = by_test (bytes_eq name each) refl e
   where
     by_test : (b : Bool) → bytes_eq name each ≡ b → not b ≡ false → name ≡ each
@@ -147,42 +98,42 @@ filter_once p (name ∷ names) = by_one (filter_once p names) (p name) refl
     by_one : filter p (each_once names) ≡ each_once (filter p names) → (a : Bool) → p name ≡ a
         → filter p (each_once (name ∷ names)) ≡ each_once (filter p (name ∷ names))
     by_one behind true e = simp e (ap (λ more. name ∷ more)
-        (filter_swap p (other name) (each_once names) ∙ ap (filter (other name)) behind))
-    by_one behind false e = simp e (filter_less p (other name) (each_once names)
+        (filter_swap p (is_other name) (each_once names) ∙ ap (filter (is_other name)) behind))
+    by_one behind false e = simp e (filter_less p (is_other name) (each_once names)
         (λ each f. ap p (sym (not_other name each f)) ∙ e) ∙ behind)
 
 unseen_push : (names : List (List ℕ)) (word : List ℕ) (words : List (List ℕ))
-    → filter (unseen (names ++ word ∷ [])) words ≡ filter (other word) (filter (unseen names) words)
+    → filter (is_unseen (names ++ word ∷ [])) words ≡ filter (is_other word) (filter (is_unseen names) words)
 unseen_push names word [] = refl
 unseen_push names word (next ∷ words) = by_two (unseen_push names word words)
     (bytes_eq word next) (list_any (bytes_eq next) names) refl refl
   where
     both : list_any (bytes_eq next) (names ++ word ∷ []) ≡ (bytes_eq word next || list_any (bytes_eq next) names)
-    both = any_push (bytes_eq next) names word ∙ ap (λ b. b || list_any (bytes_eq next) names) (turned next word)
+    both = any_push (bytes_eq next) names word ∙ ap (λ b. b || list_any (bytes_eq next) names) (text_swaps next word)
 
-    by_two : filter (unseen (names ++ word ∷ [])) words ≡ filter (other word) (filter (unseen names) words)
+    by_two : filter (is_unseen (names ++ word ∷ [])) words ≡ filter (is_other word) (filter (is_unseen names) words)
         → (a b : Bool) → bytes_eq word next ≡ a → list_any (bytes_eq next) names ≡ b
-        → filter (unseen (names ++ word ∷ [])) (next ∷ words)
-        ≡ filter (other word) (filter (unseen names) (next ∷ words))
+        → filter (is_unseen (names ++ word ∷ [])) (next ∷ words)
+        ≡ filter (is_other word) (filter (is_unseen names) (next ∷ words))
     by_two behind true true e f = simp (both, e, f) behind
     by_two behind true false e f = simp (both, e, f) behind
     by_two behind false true e f = simp (both, e, f) behind
     by_two behind false false e f = simp (both, e, f) (ap (λ more. next ∷ more) behind)
 
-new_once : (words names : List (List ℕ)) → with_new names words ≡ names ++ each_once (filter (unseen names) words)
+new_once : (words names : List (List ℕ)) → with_new names words ≡ names ++ each_once (filter (is_unseen names) words)
 new_once [] names = sym (append-nil names)
 new_once (word ∷ words) names = by_one (new_once words) (list_any (bytes_eq word) names) refl
   where
-    by_one : ((some : List (List ℕ)) → with_new some words ≡ some ++ each_once (filter (unseen some) words)) → (a : Bool)
+    by_one : ((some : List (List ℕ)) → with_new some words ≡ some ++ each_once (filter (is_unseen some) words)) → (a : Bool)
         → list_any (bytes_eq word) names ≡ a
-        → with_new names (word ∷ words) ≡ names ++ each_once (filter (unseen names) (word ∷ words))
+        → with_new names (word ∷ words) ≡ names ++ each_once (filter (is_unseen names) (word ∷ words))
     by_one behind true e = simp e (behind names)
     by_one behind false e = simp e (behind (names ++ word ∷ [])
         ∙ append_assoc names (word ∷ []) _
         ∙ ap (λ more. names ++ word ∷ more) (ap each_once (unseen_push names word words)
-        ∙ sym (filter_once (other word) (filter (unseen names) words))))
+        ∙ sym (filter_once (is_other word) (filter (is_unseen names) words))))
 
-all_unseen : (words : List (List ℕ)) → filter (unseen []) words ≡ words
+all_unseen : (words : List (List ℕ)) → filter (is_unseen []) words ≡ words
 all_unseen [] = refl
 all_unseen (word ∷ words) = ap (λ more. word ∷ more) (all_unseen words)
 

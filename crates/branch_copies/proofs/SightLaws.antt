@@ -12,12 +12,12 @@ use Rattle.map_spec.specs.MapTree.{Head, MapTree, MapNode, NoNodes, count, node_
 use Rattle.map_spec.specs.Written.{Whole}
 use Rattle.reader_spec.specs.World.{World}
 use Rattle.branch_copies.specs.Read.{HasBranches, HaveBranches, branches_in}
-use Rattle.branch_copies.specs.Source.{HasSpan, IsFirst, IsSource, no_span, node_with, parts_of}
+use Rattle.branch_copies.specs.Originals.{HasSpan, IsFirst, IsSource, no_span, node_with, parts_of}
 use Rattle.branch_copies.specs.Stands.{StandsAt, next_at}
 use Rattle.branch_copies.specs.declared.branches.Span.{Span}
 use Rattle.branch_copies.specs.declared.node.Original.{Original}
 use Rattle.branch_copies.specs.declared.node.Seen.{Seen}
-use Rattle.branch_copies.specs.declared.node.Source.{Source}
+use Rattle.branch_copies.specs.declared.node.Originals.{Originals}
 use Rattle.branch_copies.proofs.StandLaws.{next_stands}
 
 -- A node has no more branches than nodes below it
@@ -68,7 +68,7 @@ span_length defined span fits = omega (
   length-drop span.first defined,
 )
 
-module _ (world : World) (source : Source) (defined : List Branch) (above at : ℕ) (head : Head)
+module _ (world : World) (source : Originals) (defined : List Branch) (above at : ℕ) (head : Head)
     (below more : MapTree) where
   original_is : (found : Option Original) → IsSource world source defined
       → StandsAt source.nodes.now above at (MapNode head below more)

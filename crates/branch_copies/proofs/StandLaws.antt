@@ -2,7 +2,7 @@
 use Rattle.std.specs.Prelude.{◌≡◌, ◌+◌, ◌<◌, ◌≤◌, ◌++◌, ℕ, zero, suc, Bool, true, false, List, [], ◌∷◌, Option, Some, None, codes, length, map, min, option_map, slice_get, if◌then◌else◌}
 use Rattle.std.specs.Option.{option_and_then, option_map_or}
 use Rattle.std.proofs.Common.{refl, sym, ap, subst, ◌∙◌, arith, append-nil, append_assoc, length-append}
-use Rattle.std.proofs.lemmas.Option.{none-some, slice_get-map}
+use Rattle.std.proofs.lemmas.Option.{slice_get-map, slice_get_within}
 use Rattle.dita_doc.specs.declared.plan.PlanKind.{PlanKind}
 use Rattle.dita_doc.specs.declared.plan.PlanKind.TheVariants as kinds
 use Rattle.dita_doc.specs.declared.plan.PlanNode.{PlanNode}
@@ -14,6 +14,7 @@ use Rattle.map_spec.specs.MapTree.{Head, MapTree, MapNode, NoNodes, count, node_
 use Rattle.map_spec.specs.Written.{Whole}
 use Rattle.plan_nodes.specs.Home as home
 use Rattle.reader_spec.specs.World.{World}
+use Rattle.map_lemmas.proofs.TreeLaws.{length_below}
 use Rattle.branch_copies.specs.Stands.{IsLeft, StandsAt, end_at, first_map, is_map_at, next_at}
 
 get_behind : {X : Type 0} (front : List X) (x : X) (others : List X) (at : ℕ) → length front ≡ at
@@ -22,16 +23,6 @@ get_behind [] x others zero long = refl
 get_behind [] x others (suc at) long = absurd (omega arith)
 get_behind (first ∷ front) x others zero long = absurd (omega arith)
 get_behind (first ∷ front) x others (suc at) long = get_behind front x others at (omega arith)
-
-pub length_below : (parent place : ℕ) (tree : MapTree) → length (nodes_below parent place tree) ≡ count tree
-length_below parent place NoNodes = refl
-length_below parent place (MapNode head below more) =
-    omega (
-      arith,
-      length-append (nodes_below place (place + 1) below) (nodes_below parent (place + 1 + count below) more),
-      length_below place (place + 1) below,
-      length_below parent (place + 1 + count below) more,
-    )
 
 stands_between : (tree : MapTree) (parent at : ℕ) (nodes front others : List PlanNode) → length front ≡ at
     → nodes ≡ front ++ (nodes_below parent at tree ++ others) → StandsAt nodes parent at tree
@@ -67,17 +58,12 @@ stands_all tree nodes is = stands_between tree 0 0 nodes [] [] refl (is ∙ sym 
 pub count_all : (tree : MapTree) (nodes : List PlanNode) → nodes ≡ plan_nodes tree → length nodes ≡ count tree
 count_all tree nodes is = ap length is ∙ length_below 0 0 tree
 
-pub within_get : {X : Type 0} (xs : List X) (at : ℕ) (x : X) → slice_get xs at ≡ Some x → at < length xs
-within_get [] at x is = absurd (none-some x is)
-within_get (first ∷ xs) zero x is = omega arith
-within_get (first ∷ xs) (suc at) x is = omega (arith, within_get xs at x is)
-
 -- a tree ends within the nodes
 pub stands_within : (tree : MapTree) (nodes : List PlanNode) (parent at : ℕ) → at ≤ length nodes
     → StandsAt nodes parent at tree → at + count tree ≤ length nodes
 stands_within NoNodes nodes parent at within stands = omega (arith, within)
 stands_within (MapNode head below more) nodes parent at within stands =
-    let here = within_get nodes at _ stands.0 in
+    let here = slice_get_within nodes at _ stands.0 in
     let inner = stands_within below nodes at (at + 1) (omega (arith, here)) stands.1 in
     omega (arith, stands_within more nodes parent (at + 1 + count below) (omega (arith, inner)) stands.2)
 
@@ -127,7 +113,7 @@ included_words world nodes homes (MapNode head below more) parent at are stands 
 module _ (nodes : List PlanNode) (parent at : ℕ) (head : Head) (below more : MapTree) where
   pub end_stands : StandsAt nodes parent at (MapNode head below more) → end_at nodes at ≡ at + 1 + count below
   end_stands stands =
-      let here = within_get nodes at _ stands.0 in
+      let here = slice_get_within nodes at _ stands.0 in
       let inner = stands_within below nodes at (at + 1) (omega (arith, here)) stands.1 in
       let same : min (at + 1 + count below) (length nodes) ≡ at + 1 + count below = omega (arith, inner) in
       rw stands.0 same

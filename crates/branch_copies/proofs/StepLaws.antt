@@ -11,17 +11,17 @@ use Rattle.map_spec.specs.Branches.{Branch, branches_of, copied, copies, is_dita
 use Rattle.map_spec.specs.MapTree.{Head, MapTree, MapNode, NoNodes, count, node_of, trees_beside}
 use Rattle.reader_spec.specs.World.{World}
 use Rattle.branch_copies.specs.Chained.{chain_at, shown}
-use Rattle.branch_copies.specs.Going.{Going, IsFull, IsNext, IsOver, chains_of, copies_left, first_copied}
+use Rattle.branch_copies.specs.Going.{Going, HasNoRoom, IsNext, IsOver, chains_of, copies_left, first_copied}
 use Rattle.branch_copies.specs.Leaves.{CopiesMake, Leaves, WalkMakes, WorkMakes, around, chain_in, copies_of, parent_of, put}
 use Rattle.branch_copies.specs.Marks.{copied_node}
 use Rattle.branch_copies.specs.Read.{HaveBranches, branches_in}
-use Rattle.branch_copies.specs.Source.{IsFirst, IsSource, excludes_at}
+use Rattle.branch_copies.specs.Originals.{IsFirst, IsSource, excludes_at}
 use Rattle.branch_copies.specs.Stands.{StandsAt}
 use Rattle.branch_copies.specs.Through.{excluded_by, marked_by, through}
 use Rattle.branch_copies.specs.declared.chains.Chains.{Chains}
 use Rattle.branch_copies.specs.declared.copying.Copying.{Copying}
 use Rattle.branch_copies.specs.declared.node.Seen.{Seen}
-use Rattle.branch_copies.specs.declared.node.Source.{Source}
+use Rattle.branch_copies.specs.declared.node.Originals.{Originals}
 use Rattle.branch_copies.specs.declared.work.Walk.{Walk}
 use Rattle.branch_copies.specs.declared.work.Work.{Work}
 use Rattle.branch_copies.specs.declared.work.Work.TheVariants as works
@@ -35,9 +35,9 @@ use Rattle.branch_copies.proofs.TreeLaws.{length_put, put_beside, put_node, put_
 -- No room
 
 -- a node is to be made, and there is no room
-pub full_over : (world : World) (source : Source) (defined : List Branch) (x : Copying) (end : Stop PlanStop)
+pub full_over : (world : World) (source : Originals) (defined : List Branch) (x : Copying) (end : Stop PlanStop)
     (parent : ℕ) (tree below : MapTree) (head : Head) (all : List PlanNode) → tree ≡ MapNode head below NoNodes
-    → IsFull end (length x.made.items) → Going world source defined x (put parent tree x.made.items) all
+    → HasNoRoom end (length x.made.items) → Going world source defined x (put parent tree x.made.items) all
     → IsOver end all
 full_over world source defined x (stop.Fault fault) parent tree below head all is full going = (
   full.0,
@@ -51,7 +51,7 @@ full_over world source defined x (stop.Fault fault) parent tree below head all i
 )
 full_over world source defined x stop.NoMemory parent tree below head all is full going = tt
 
-module _ (world : World) (source : Source) (defined : List Branch) where
+module _ (world : World) (source : Originals) (defined : List Branch) where
   -- a tree of no nodes is made at once
   pub none_made : (x : Copying) (parent : ℕ) (tree : MapTree) (all : List PlanNode) → tree ≡ NoNodes
       → Going world source defined x (put parent tree x.made.items) all

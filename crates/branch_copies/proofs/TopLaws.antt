@@ -16,12 +16,12 @@ use Rattle.branch_copies.specs.Going.{Going, IsTop, chains_of, top_copied}
 use Rattle.branch_copies.specs.Leaves.{CopiesMake, Leaves, WalkMakes, around, chain_in, chosen, copies_of, copy_of, put}
 use Rattle.branch_copies.specs.Marks.{copied_node, group_of, top_node}
 use Rattle.branch_copies.specs.Read.{IsRead}
-use Rattle.branch_copies.specs.Source.{IsSource, excludes_at, excludes_top_at}
+use Rattle.branch_copies.specs.Originals.{IsSource, excludes_at, excludes_top_at}
 use Rattle.branch_copies.specs.Stands.{is_map_at}
 use Rattle.branch_copies.specs.Through.{excluded_by, marked_by, through}
 use Rattle.branch_copies.specs.declared.branch.Branch.{Branch}
 use Rattle.branch_copies.specs.declared.copying.Copying.{Copying}
-use Rattle.branch_copies.specs.declared.node.Source.{Source}
+use Rattle.branch_copies.specs.declared.node.Originals.{Originals}
 use Rattle.branch_copies.specs.declared.work.Copies.{Copies}
 use Rattle.branch_copies.specs.declared.work.Walk.{Walk}
 use Rattle.branch_copies.specs.declared.work.Work.TheVariants as works
@@ -58,7 +58,7 @@ take_first (x ∷ xs) (suc first) count some fits =
       is = inner.is ∙ ap (λ n. inner.item ∷ take (count - 1) (drop n (x ∷ xs))) same;
     }
 
-module _ (world : World) (source : Source) (defined : List branches.Branch) where
+module _ (world : World) (source : Originals) (defined : List branches.Branch) where
   -- none is left
   pub copies_done : (chains : List (List ℕ)) (copies : Copies) (tree : MapTree) → copies.count ≡ 0
       → CopiesMake world source defined chains copies tree → tree ≡ NoNodes

@@ -3,25 +3,9 @@ use Rattle.std.specs.Prelude.{◌≡◌, ◌+◌, ◌++◌, ℕ, suc, List, [], 
 use Rattle.std.proofs.Common.{refl, sym, ap, ◌∙◌, arith, append_assoc, append-nil, length-append}
 use Rattle.dita_doc.specs.declared.plan.PlanNode.{PlanNode}
 use Rattle.map_spec.specs.MapTree.{Head, MapTree, NoNodes, MapNode, count, node_of, nodes_below, trees_beside}
+use Rattle.map_lemmas.proofs.TreeLaws.{below_beside, length_below}
 use Rattle.plan_nodes.specs.Preorder.{without_end}
 use Rattle.branch_copies.specs.Leaves.{put}
-use Rattle.branch_copies.proofs.StandLaws.{length_below}
-
-below_beside : (parent place : ℕ) (first second : MapTree)
-    → nodes_below parent place (trees_beside first second)
-    ≡ nodes_below parent place first ++ nodes_below parent (place + count first) second
-below_beside parent place NoNodes second =
-    let same : place ≡ place + 0 = omega arith in ap (λ n. nodes_below parent n second) same
-below_beside parent place (MapNode head below more) second =
-    let end = place + 1 + count below in
-    let node = node_of head parent end in
-    let inner = nodes_below place (place + 1) below in
-    let behind : end + count more ≡ place + (1 + (count below + count more)) = omega arith in
-    ap (λ others. node ∷ (inner ++ others)) (below_beside parent end more second)
-    ∙ ap (λ n. node ∷ (inner ++ (nodes_below parent end more ++ nodes_below parent n second))) behind
-    ∙ ap (λ others. node ∷ others)
-    (sym (append_assoc inner (nodes_below parent end more) (nodes_below parent (place + (1 +
-    (count below + count more))) second)))
 
 pub length_without : (nodes : List PlanNode) → length (map without_end nodes) ≡ length nodes
 length_without [] = refl
@@ -31,11 +15,6 @@ without_both : (nodes more : List PlanNode)
     → map without_end (nodes ++ more) ≡ map without_end nodes ++ map without_end more
 without_both [] more = refl
 without_both (node ∷ nodes) more = ap (λ others. without_end node ∷ others) (without_both nodes more)
-
--- no end is put twice
-pub without_again : (nodes : List PlanNode) → map without_end (map without_end nodes) ≡ map without_end nodes
-without_again [] = refl
-without_again (node ∷ nodes) = ap (λ others. without_end node ∷ others) (without_again nodes)
 
 pub length_put : (parent : ℕ) (tree : MapTree) (made : List PlanNode)
     → length (put parent tree made) ≡ length made + count tree

@@ -10,7 +10,7 @@ use Rattle.dita_doc.specs.declared.plan.PlanStop.TheVariants as stops
 use Rattle.dita_doc.specs.declared.stop.Stop.{Stop}
 use Rattle.dita_doc.specs.declared.stop.Stop.TheVariants.{Fault, NoMemory}
 use Rattle.map_spec.specs.Branches.{branched}
-use Rattle.map_spec.specs.Included.{expanded, node_limit}
+use Rattle.map_spec.specs.Included.{expanded, map_node_limit}
 use Rattle.map_spec.specs.MapTree.{Head, MapTree, MapNode, NoNodes, plan_nodes}
 use Rattle.reader_spec.specs.World.{World}
 
@@ -18,7 +18,8 @@ use Rattle.reader_spec.specs.World.{World}
 abbrev pub AreCopied : World → List PlanNode → Result Expanded (Stop PlanStop) → Type 0
 AreCopied world nodes result = (head : Head) (below : MapTree) → head.kind ≡ kinds.Map
     → nodes ≡ plan_nodes (MapNode head below NoNodes)
-    → Gives result (result_map_both expanded (λ stop. stop) (branched node_limit world (MapNode head below NoNodes)))
+    → Gives result (result_map_both expanded (λ stop. stop)
+    (branched map_node_limit world (MapNode head below NoNodes)))
 
 -- the only fault, whatever was handed in
 abbrev pub IsTooMany : Stop PlanStop → Type 0

@@ -6,18 +6,18 @@ use Rattle.dita_doc.specs.declared.plan.PlanStop.TheVariants as stops
 use Rattle.dita_doc.specs.declared.stop.Stop.{Stop}
 use Rattle.dita_doc.specs.declared.stop.Stop.TheVariants.{Fault, NoMemory}
 use Rattle.map_spec.specs.Branches.{Branch, branches_of, copied, copies, is_ditavalref, with_scope_names}
-use Rattle.map_spec.specs.Included.{node_limit}
+use Rattle.map_spec.specs.Included.{map_node_limit}
 use Rattle.map_spec.specs.MapTree.{Head, MapTree, MapNode, NoNodes, count}
 use Rattle.reader_spec.specs.World.{World}
 use Rattle.branch_copies.specs.Chained.{shown}
 use Rattle.branch_copies.specs.Leaves.{Leaves, around, copy_of}
 use Rattle.branch_copies.specs.Read.{HaveBranches}
-use Rattle.branch_copies.specs.Source.{IsFirst, excludes_top_at}
+use Rattle.branch_copies.specs.Originals.{IsFirst, excludes_top_at}
 use Rattle.branch_copies.specs.Stands.{StandsAt}
 use Rattle.branch_copies.specs.Through.{excluded_by, through}
 use Rattle.branch_copies.specs.declared.copying.Copying.{Copying}
 use Rattle.branch_copies.specs.declared.node.Seen.{Seen}
-use Rattle.branch_copies.specs.declared.node.Source.{Source}
+use Rattle.branch_copies.specs.declared.node.Originals.{Originals}
 use Rattle.branch_copies.specs.declared.work.Copies.{Copies}
 use Rattle.branch_copies.specs.declared.work.Walk.{Walk}
 
@@ -25,29 +25,29 @@ abbrev pub chains_of : Copying → List (List ℕ)
 chains_of x = shown x.chains.chains.items
 
 -- if these nodes are made next, there is all in the end
-pub record Going (world : World) (source : Source) (defined : List Branch) (x : Copying) (made all : List PlanNode)
+pub record Going (world : World) (source : Originals) (defined : List Branch) (x : Copying) (made all : List PlanNode)
     : Type 0 where
-  pub few : length x.made.items ≤ node_limit
+  pub few : length x.made.items ≤ map_node_limit
   pub leaves : Leaves world source defined (chains_of x) x.left.items made all
 
 -- a stop that is told only where there is too much
 abbrev pub IsOver : Stop PlanStop → List PlanNode → Type 0
-IsOver (Fault stop) all = (stop ≡ stops.TooManyNodes) × (node_limit < length all)
+IsOver (Fault stop) all = (stop ≡ stops.TooManyNodes) × (map_node_limit < length all)
 IsOver NoMemory all = Unit {0}
 
 -- what there is in the end is all, or all is too much
-abbrev pub Goes : {A : Type 0} → World → Source → List Branch → Result A (Stop PlanStop) → Copying → List PlanNode
+abbrev pub Goes : {A : Type 0} → World → Originals → List Branch → Result A (Stop PlanStop) → Copying → List PlanNode
     → Type 0
 Goes world source defined (Ok value) x all = Going world source defined x x.made.items all
 Goes world source defined (Err stop) x all = IsOver stop all
 
 -- there is no room for a node
-abbrev pub IsFull : Stop PlanStop → ℕ → Type 0
-IsFull (Fault stop) count = (stop ≡ stops.TooManyNodes) × (node_limit ≤ count)
-IsFull NoMemory count = Unit {0}
+abbrev pub HasNoRoom : Stop PlanStop → ℕ → Type 0
+HasNoRoom (Fault stop) count = (stop ≡ stops.TooManyNodes) × (map_node_limit ≤ count)
+HasNoRoom NoMemory count = Unit {0}
 
 -- the first node of a walk is copied next, which no branch around it excludes
-pub record IsNext (world : World) (source : Source) (defined : List Branch) (x : Copying) (walk : Walk) (seen : Seen)
+pub record IsNext (world : World) (source : Originals) (defined : List Branch) (x : Copying) (walk : Walk) (seen : Seen)
     (head : Head) (below : MapTree) : Type 0 where
   pub first : IsFirst world source defined walk.at seen head below
   pub other : is_ditavalref head.kind ≡ false
@@ -71,7 +71,7 @@ copies_left walk seen parent = record {
 }
 
 -- the next of some copies is made next, which no branch excludes
-pub record IsTop (world : World) (source : Source) (defined : List Branch) (x : Copying) (next : Copies)
+pub record IsTop (world : World) (source : Originals) (defined : List Branch) (x : Copying) (next : Copies)
     (head : Head) (below : MapTree) (branch : Branch) : Type 0 where
   pub above : ℕ
   pub stands : StandsAt source.nodes.now above next.at (MapNode head below NoNodes)

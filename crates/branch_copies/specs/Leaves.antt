@@ -10,7 +10,7 @@ use Rattle.reader_spec.specs.World.{World}
 use Rattle.branch_copies.specs.Read.{HaveBranches}
 use Rattle.branch_copies.specs.Stands.{StandsAt}
 use Rattle.branch_copies.specs.Through.{excluded_by, through}
-use Rattle.branch_copies.specs.declared.node.Source.{Source}
+use Rattle.branch_copies.specs.declared.node.Originals.{Originals}
 use Rattle.branch_copies.specs.declared.work.Copies.{Copies}
 use Rattle.branch_copies.specs.declared.work.Walk.{Walk}
 use Rattle.branch_copies.specs.declared.work.Work.{Work}
@@ -32,7 +32,7 @@ abbrev pub around : List Branch → List (List ℕ) → ℕ → List Branch
 around defined chains at = chosen defined (chain_in chains at)
 
 -- a walk makes the copies of the nodes that it is over, within the branches around it
-pub record WalkMakes (world : World) (source : Source) (defined : List Branch) (chains : List (List ℕ)) (walk : Walk)
+pub record WalkMakes (world : World) (source : Originals) (defined : List Branch) (chains : List (List ℕ)) (walk : Walk)
     (tree : MapTree) : Type 0 where
   pub above : ℕ
   pub original : MapTree
@@ -51,7 +51,7 @@ abbrev pub copies_of : World → Head → MapTree → List Branch → MapTree
 copies_of world head below branches =
     all_beside (map (copy_of world (with_scope_names world head below) (copied world below)) branches)
 
-pub record CopiesMake (world : World) (source : Source) (defined : List Branch) (chains : List (List ℕ))
+pub record CopiesMake (world : World) (source : Originals) (defined : List Branch) (chains : List (List ℕ))
     (copies : Copies) (tree : MapTree) : Type 0 where
   pub above : ℕ
   pub head : Head
@@ -65,7 +65,7 @@ pub record CopiesMake (world : World) (source : Source) (defined : List Branch) 
   pub is : tree ≡ through world (around defined chains copies.chain)
       (copies_of world head below (take copies.count (drop copies.branch defined)))
 
-abbrev pub WorkMakes : World → Source → List Branch → List (List ℕ) → Work → MapTree → Type 0
+abbrev pub WorkMakes : World → Originals → List Branch → List (List ℕ) → Work → MapTree → Type 0
 WorkMakes world source defined chains (works.Walk walk) tree = WalkMakes world source defined chains walk tree
 WorkMakes world source defined chains (works.Copies copies) tree = CopiesMake world source defined chains copies tree
 
@@ -74,7 +74,7 @@ parent_of (works.Walk walk) = walk.parent
 parent_of (works.Copies copies) = copies.parent
 
 -- with what these works make behind what was made, there is all
-abbrev pub Leaves : World → Source → List Branch → List (List ℕ) → List Work → List PlanNode → List PlanNode → Type 0
+abbrev pub Leaves : World → Originals → List Branch → List (List ℕ) → List Work → List PlanNode → List PlanNode → Type 0
 Leaves world source defined chains [] made all = made ≡ all
 Leaves world source defined chains (work ∷ works) made all = (between : List PlanNode) × (tree : MapTree)
     × Leaves world source defined chains works made between × WorkMakes world source defined chains work tree

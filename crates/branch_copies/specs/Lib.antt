@@ -12,6 +12,6 @@ pub mod Placed
 pub mod Read
 pub mod Reading
 pub mod Seen
-pub mod Source
+pub mod Originals
 pub mod Stands
 pub mod Through

@@ -15,8 +15,8 @@ placed world (MapNode head below more) =
     else branches_of world head below ∷ (placed world below ++ placed world more)
 
 -- one list behind the other
-abbrev pub joined : List (List Branch) → List Branch
-joined lists = flat_map (λ (own : List Branch). own) lists
+abbrev pub branches_joined : List (List Branch) → List Branch
+branches_joined lists = flat_map (λ (own : List Branch). own) lists
 
 -- the faults of branches
 abbrev pub faults_in : List Branch → List Fault

@@ -9,7 +9,7 @@ use Rattle.map_spec.specs.MapTree.{Head, MapTree, count}
 use Rattle.reader_spec.specs.World.{World}
 use Rattle.plan_nodes.specs.HomeDocs.{Known}
 use Rattle.branch_copies.specs.Ditavals.{AreKnown}
-use Rattle.branch_copies.specs.Placed.{faults_in, joined, placed, spans_of}
+use Rattle.branch_copies.specs.Placed.{faults_in, branches_joined, placed, spans_of}
 use Rattle.branch_copies.specs.Read.{AreRead}
 use Rattle.branch_copies.specs.Stands.{StandsAt}
 use Rattle.branch_copies.specs.declared.branches.Branches.{Branches}
@@ -46,9 +46,9 @@ pub record AreLeft (world : World) (nodes : List PlanNode) (at next : ℕ) (left
 pub record AreDone (world : World) (nodes : List PlanNode) (read : List RulesRead) (entries : List Known)
     (made : Branches) (done : List (List branches.Branch)) : Type 0 where
   pub known : AreKnown world read entries
-  pub are : AreRead read nodes made.branches.items (joined done)
+  pub are : AreRead read nodes made.branches.items (branches_joined done)
   pub spans : made.spans.items ≡ spans_of 0 done
-  pub faults : made.faults ≡ faults_in (joined done)
+  pub faults : made.faults ≡ faults_in (branches_joined done)
 
 pub record IsReading (world : World) (nodes : List PlanNode) (tree : MapTree) (read : List RulesRead)
     (entries : List Known) (made : Branches) (at next : ℕ) : Type 0 where

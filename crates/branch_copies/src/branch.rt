@@ -37,7 +37,7 @@ pub(crate) struct Branch {
 
 /// What the ditavalref at this place does, of which this is the element, written in the document of
 /// this name. Faults are appended.
-#[tactic(auto, using(node_filter::proofs::Growing::telling))]
+#[tactic(auto, using(readers::proofs::Rules::walking))]
 pub(crate) fn read_branch<R: Reader>(
     alloc: Global,
     reader: &mut R,
@@ -104,7 +104,7 @@ fn metadata_text(alloc: Global, inside: Siblings<'_>, token: &str) -> Result<Tex
 }
 
 // What a ditavalref filters by, if it filters. Faults are appended.
-#[tactic(auto, using(node_filter::proofs::Growing::telling))]
+#[tactic(auto, using(readers::proofs::Rules::walking))]
 fn read_filter<R: Reader>(
     alloc: Global,
     reader: &mut R,
@@ -144,7 +144,7 @@ fn read_filter<R: Reader>(
 }
 
 // The filter by the DITAVAL of this name, if there is one. Faults are appended.
-#[tactic(auto, using(node_filter::proofs::Growing::telling))]
+#[tactic(auto, using(readers::proofs::Rules::walking))]
 fn filter_under<R: Reader>(
     alloc: Global,
     reader: &mut R,

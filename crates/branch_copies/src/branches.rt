@@ -18,7 +18,7 @@ ghost use Rattle.readers.specs.Told.{Agrees};
 use crate::branch::{Branch, read_branch};
 use crate::ditavals::Ditavals;
 use dita_doc::{Fault, List, NoMemory, PlanKind, PlanNode};
-use plan_nodes::Homes;
+use plan_nodes::NodeElements;
 use readers::Reader;
 use std::alloc::Global;
 
@@ -59,7 +59,7 @@ impl Branches {
         reader: &mut R,
         ditavals: &mut Ditavals,
         nodes: &[PlanNode],
-        homes: &Homes,
+        homes: &NodeElements,
         at: usize,
     ) -> Result<(), NoMemory>
         requires given { ditavalrefs_spec.AreGiven (R.told reader.old) nodes.now homes.now }
@@ -94,7 +94,7 @@ impl Branches {
         reader: &mut R,
         ditavals: &mut Ditavals,
         nodes: &[PlanNode],
-        homes: &Homes,
+        homes: &NodeElements,
         child: usize,
     ) -> Result<(), NoMemory>
         requires given { ditavalrefs_spec.AreGiven (R.told reader.old) nodes.now homes.now }
@@ -127,7 +127,7 @@ impl Branches {
         reader: &mut R,
         ditavals: &mut Ditavals,
         nodes: &[PlanNode],
-        homes: &Homes,
+        homes: &NodeElements,
         at: usize,
         next: usize,
     ) -> Result<usize, NoMemory>
@@ -173,7 +173,7 @@ impl Branches {
         reader: &mut R,
         ditavals: &mut Ditavals,
         nodes: &[PlanNode],
-        homes: &Homes,
+        homes: &NodeElements,
         place: usize,
     ) -> Result<(), NoMemory>
         requires given { ditavalrefs_spec.AreGiven (R.told reader.old) nodes.now homes.now }
@@ -215,7 +215,7 @@ pub(crate) fn read_branches<R: Reader>(
     reader: &mut R,
     ditavals: &mut Ditavals,
     nodes: &[PlanNode],
-    homes: &Homes,
+    homes: &NodeElements,
 ) -> Result<Branches, NoMemory>
     requires given { ditavalrefs_spec.AreGiven (R.told reader.old) nodes.now homes.now }
     ensures known { (world : World) (tree : MapTree) → Agrees world (R.told reader.new)

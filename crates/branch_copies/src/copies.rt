@@ -24,10 +24,10 @@ use crate::branches::{Branches, read_branches};
 use crate::copying::Copying;
 use crate::ditavals::Ditavals;
 use crate::names::scope_names;
-use crate::node::Source;
+use crate::node::Originals;
 use dita_doc::{Expanded, List, PlanNode, PlanStop, Stop, Text};
 use node_filter::{DeclaredNames, Elements};
-use plan_nodes::Homes;
+use plan_nodes::NodeElements;
 use readers::Reader;
 use std::alloc::Global;
 
@@ -80,7 +80,7 @@ fn copy_read(
         → read_spec.AllRead world ditavals.now.read.items nodes.now
         (map_tree_spec.MapNode head below map_tree_spec.NoNodes) read
         → Gives result (result_map_both included_spec.expanded (λ stop. stop)
-        (branches_spec.branched included_spec.node_limit world
+        (branches_spec.branched included_spec.map_node_limit world
         (map_tree_spec.MapNode head below map_tree_spec.NoNodes))) }
     ensures stop { IfErr result copied_spec.IsTooMany }
 {
@@ -102,7 +102,7 @@ fn copy_read(
 fn copy_all<'a>(
     alloc: Global,
     nodes: &'a [PlanNode],
-    homes: &'a Homes,
+    homes: &'a NodeElements,
     declared: &'a DeclaredNames,
     ditavals: &'a Ditavals,
     names: &'a [List<Text>],
@@ -121,11 +121,11 @@ fn copy_all<'a>(
         → read_spec.HaveBranches world read.now.spans.items defined 0
         (map_tree_spec.MapNode head below map_tree_spec.NoNodes)
         → Gives result (result_map_both (λ (grown : Grown). map_tree_spec.plan_nodes grown.tree)
-        (λ stop. stop) (branches_spec.branched included_spec.node_limit world
+        (λ stop. stop) (branches_spec.branched included_spec.map_node_limit world
         (map_tree_spec.MapNode head below map_tree_spec.NoNodes))) }
     ensures stop { IfErr result copied_spec.IsTooMany }
 {
-    let source = Source {
+    let source = Originals {
         nodes,
         homes,
         declared: declared.each(alloc, nodes)?.into_vec(),

@@ -8,7 +8,7 @@ ghost use Rattle.branch_copies.specs.Going as spec;
 ghost use Rattle.branch_copies.specs.Leaves as leaves_spec;
 ghost use Rattle.branch_copies.specs.Left as left_spec;
 ghost use Rattle.branch_copies.specs.Marks as marks_spec;
-ghost use Rattle.branch_copies.specs.Source as source_spec;
+ghost use Rattle.branch_copies.specs.Originals as source_spec;
 ghost use Rattle.branch_copies.specs.declared.work.Work.TheVariants as works;
 ghost use Rattle.dita_doc.specs.declared.plan.PlanNode as plan_node;
 ghost use Rattle.map_spec.specs.Branches as branches_spec;
@@ -18,7 +18,7 @@ ghost use Rattle.plan_nodes.specs.Preorder as preorder_spec;
 ghost use Rattle.reader_spec.specs.World.{World};
 
 use crate::chains::Chains;
-use crate::node::{Original, Seen, Source};
+use crate::node::{Original, Originals, Seen};
 use crate::work::{Copies, Walk, Work};
 use dita_doc::{List, NoMemory, PlanKind, PlanNode, PlanStop, Stop};
 use plan_nodes::{place_of, set_ends};
@@ -66,7 +66,7 @@ impl Copying {
     /// # Errors
     ///
     /// `TooManyNodes` if there are more than 65,536 nodes, or out of memory.
-    pub fn run(&mut self, alloc: Global, source: &Source<'_>) -> Result<(), Stop<PlanStop>>
+    pub fn run(&mut self, alloc: Global, source: &Originals<'_>) -> Result<(), Stop<PlanStop>>
         ensures left { OnOk result (self.new.left.items ≡ []) }
         ensures goes { (world : World) (defined : List branches_spec.Branch)
             (all : List plan_node.PlanNode) → source_spec.IsSource world source.now defined
@@ -87,7 +87,7 @@ impl Copying {
     fn go_on(
         &mut self,
         alloc: Global,
-        source: &Source<'_>,
+        source: &Originals<'_>,
         work: Work,
     ) -> Result<(), Stop<PlanStop>>
         ensures less { OnOk result (left_spec.left self.new.made.items self.new.left.items
@@ -108,7 +108,12 @@ impl Copying {
 
     // Goes over the first node of a walk, and leaves what stands in it and behind it.
     #[tactic(auto, using(crate::proofs::LeftLaws::steps_left_push))]
-    fn step(&mut self, alloc: Global, source: &Source<'_>, walk: Walk) -> Result<(), Stop<PlanStop>>
+    fn step(
+        &mut self,
+        alloc: Global,
+        source: &Originals<'_>,
+        walk: Walk,
+    ) -> Result<(), Stop<PlanStop>>
         ensures less { OnOk result (left_spec.left self.new.made.items self.new.left.items
             < left_spec.left self.old.made.items self.old.left.items + left_spec.steps_of walk) }
         ensures goes { (world : World) (defined : List branches_spec.Branch) (tree : MapTree)
@@ -136,7 +141,7 @@ impl Copying {
     }
 
     // Whether a branch around a walk excludes its first node.
-    fn is_excluded(&self, source: &Source<'_>, walk: Walk) -> bool
+    fn is_excluded(&self, source: &Originals<'_>, walk: Walk) -> bool
         ensures { result ≡ list_any (source_spec.excludes_at source.now walk.at)
             (chained_spec.chain_at self.now.chains.chains.items walk.chain) }
     {
@@ -148,7 +153,7 @@ impl Copying {
     fn copy_first(
         &mut self,
         alloc: Global,
-        source: &Source<'_>,
+        source: &Originals<'_>,
         walk: Walk,
         seen: Seen<'_>,
     ) -> Result<(), Stop<PlanStop>>
@@ -180,7 +185,7 @@ impl Copying {
     fn copy_whole(
         &mut self,
         alloc: Global,
-        source: &Source<'_>,
+        source: &Originals<'_>,
         walk: Walk,
         seen: Seen<'_>,
     ) -> Result<(), Stop<PlanStop>>
@@ -215,7 +220,7 @@ impl Copying {
     fn copy_map(
         &mut self,
         alloc: Global,
-        source: &Source<'_>,
+        source: &Originals<'_>,
         walk: Walk,
         seen: Seen<'_>,
     ) -> Result<(), Stop<PlanStop>>
@@ -265,12 +270,12 @@ impl Copying {
     fn copy(
         &mut self,
         alloc: Global,
-        source: &Source<'_>,
+        source: &Originals<'_>,
         walk: Walk,
         original: Original<'_>,
     ) -> Result<u32, Stop<PlanStop>>
         ensures room { OnOk result (length self.old.made.items < 65536) }
-        ensures full { IfErr result (λ stop. spec.IsFull stop (length self.old.made.items)) }
+        ensures full { IfErr result (λ stop. spec.HasNoRoom stop (length self.old.made.items)) }
         ensures place { IfOk result (λ place. place ≡ length self.old.made.items) }
         ensures count { OnOk result
             (length self.new.made.items ≡ length self.old.made.items + 1) }
@@ -293,7 +298,7 @@ impl Copying {
     fn copy_for_one(
         &mut self,
         alloc: Global,
-        source: &Source<'_>,
+        source: &Originals<'_>,
         copies: Copies,
     ) -> Result<(), Stop<PlanStop>>
         ensures less { OnOk result (left_spec.left self.new.made.items self.new.left.items
@@ -325,7 +330,7 @@ impl Copying {
     fn copy_top(
         &mut self,
         alloc: Global,
-        source: &Source<'_>,
+        source: &Originals<'_>,
         copies: Copies,
     ) -> Result<(), Stop<PlanStop>>
         ensures less { OnOk result (left_spec.left self.new.made.items self.new.left.items
@@ -400,7 +405,7 @@ fn is_map(original: Original<'_>) -> bool
 // Appends a node, and gives its place.
 fn put(made: &mut Vec<PlanNode>, node: PlanNode) -> Result<u32, Stop<PlanStop>>
     ensures room { OnOk result (length made.old.items < 65536) }
-    ensures full { IfErr result (λ stop. spec.IsFull stop (length made.old.items)) }
+    ensures full { IfErr result (λ stop. spec.HasNoRoom stop (length made.old.items)) }
     ensures place { IfOk result (λ place. place ≡ length made.old.items) }
     ensures count { OnOk result (length made.new.items ≡ length made.old.items + 1) }
     ensures made { OnOk result (made.new.items ≡ made.old.items ++ node ∷ []) }

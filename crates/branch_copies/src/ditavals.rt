@@ -36,7 +36,7 @@ impl Ditavals {
     }
 
     /// The DITAVAL of a name, if there is one. No document is asked for or read twice.
-    #[tactic(auto, using(node_filter::proofs::Growing::telling))]
+    #[tactic(auto, using(readers::proofs::Rules::walking))]
     pub fn find<R: Reader>(
         &mut self,
         alloc: Global,
@@ -105,7 +105,7 @@ impl Ditavals {
 }
 
 // What is read of the DITAVAL that stands under a name.
-#[tactic(auto, using(node_filter::proofs::Growing::telling))]
+#[tactic(auto, using(readers::proofs::Rules::walking))]
 fn read_under<R: Reader>(
     alloc: Global,
     reader: &mut R,

@@ -12,7 +12,7 @@ ghost use Rattle.reader_spec.specs.World.{World};
 
 use crate::branches::{end_of, is_map_at, next_sibling};
 use dita_doc::{Affix, List, NoMemory, PlanKind, PlanNode, Text};
-use plan_nodes::{Homes, words_of};
+use plan_nodes::{NodeElements, words_of};
 use std::alloc::{AllocError, Global};
 use std::collections::BTreeSet;
 
@@ -20,7 +20,7 @@ use std::collections::BTreeSet;
 pub(crate) fn scope_names(
     alloc: Global,
     nodes: &[PlanNode],
-    homes: &Homes,
+    homes: &NodeElements,
 ) -> Result<Vec<List<Text>>, NoMemory>
     ensures { (world : World) (parent at : ℕ) (head : Head) (below more : MapTree)
         → homes.now ≡ map (cascade_spec.whole_at world) nodes.now
@@ -39,7 +39,7 @@ pub(crate) fn scope_names(
 fn names_at(
     alloc: Global,
     nodes: &[PlanNode],
-    homes: &Homes,
+    homes: &NodeElements,
     at: usize,
     kind: PlanKind,
 ) -> Result<List<Text>, NoMemory>
@@ -58,7 +58,7 @@ fn names_at(
 }
 
 // The value of the map that a node includes.
-fn included_keyscope<'a>(nodes: &[PlanNode], homes: &'a Homes, at: usize) -> Option<&'a str>
+fn included_keyscope<'a>(nodes: &[PlanNode], homes: &'a NodeElements, at: usize) -> Option<&'a str>
     ensures { (world : World) (parent : ℕ) (head : Head) (below more : MapTree)
         → homes.now ≡ map (cascade_spec.whole_at world) nodes.now
         → stands_spec.StandsAt nodes.now parent at (map_tree_spec.MapNode head below more)

@@ -6,7 +6,7 @@ ghost use Rattle.std.specs.Option.{option_copied, option_to_list};
 ghost use Rattle.branch_copies.specs.declared.branch.Branch.{Branch};
 ghost use Rattle.branch_copies.specs.Marks as marks_spec;
 ghost use Rattle.branch_copies.specs.Read as read_spec;
-ghost use Rattle.branch_copies.specs.Source as source_spec;
+ghost use Rattle.branch_copies.specs.Originals as source_spec;
 ghost use Rattle.branch_copies.specs.Stands as stands_spec;
 ghost use Rattle.dita_doc.specs.declared.plan.PlanNode.{PlanNode};
 ghost use Rattle.map_spec.specs.Branches as branches_spec;
@@ -20,15 +20,15 @@ use crate::names::{is_no_affix, names_in_copy};
 use crate::work::Walk;
 use dita_doc::{Affix, List, Name, NoMemory, Node, PlanKind, PlanNode, Text};
 use ditaval_rules::RuleTable;
-use plan_nodes::{Homes, copy_affixes, copy_attributes, copy_names, copy_texts};
+use plan_nodes::{NodeElements, copy_affixes, copy_attributes, copy_names, copy_texts};
 use std::alloc::Global;
 
 /// The nodes that are copied, with their elements, the names that are declared for these, the names
 /// of their scopes, and their branches with the rules of these.
 #[derive(Drop)]
-pub(crate) struct Source<'a> {
+pub(crate) struct Originals<'a> {
     pub nodes: &'a [PlanNode],
-    pub homes: &'a Homes,
+    pub homes: &'a NodeElements,
     // The names declared for each element.
     pub declared: Vec<&'a List<Text>>,
     pub names: &'a [List<Text>],
@@ -61,7 +61,7 @@ struct Changed {
     scope_names: List<Text>,
 }
 
-impl<'a> Source<'a> {
+impl<'a> Originals<'a> {
     /// The first of the nodes that are left, if there is one. It has no more branches than nodes
     /// below it.
     pub fn see(&self, walk: Walk) -> Option<Seen<'a>>

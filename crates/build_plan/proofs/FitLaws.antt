@@ -9,11 +9,11 @@ use Rattle.dita_doc.specs.Name.{is_name}
 use Rattle.dita_doc.specs.declared.plan.Plan.{Plan}
 use Rattle.dita_doc.specs.declared.plan.PagePlan.{PagePlan}
 use Rattle.dita_doc.specs.declared.plan.PlanNode.{PlanNode}
+use Rattle.dita_doc.proofs.Lists.{is_in}
 use Rattle.reader_spec.specs.World.{World}
 use Rattle.map_spec.specs.PlanOf.{limits, plan_of}
 use Rattle.map_spec.specs.Pages.{Use, base_of, contents_name, free_from, free_name, good_base, html, is_page_name, longest_name, named_from, page_of_use, pages_of, uses_of, with_number}
 use Rattle.build_plan.specs.PageNames.{FitsFolders, IsPageName}
-use Rattle.build_plan.proofs.FreeLaws.{is_taken}
 use Rattle.build_plan.proofs.NameLaws.{length_named}
 use Rattle.build_plan.proofs.PlanPagesLaws.{plan_pages}
 use Rattle.build_plan.proofs.WordLaws.{IsWord, decimal_is_word, name_under, name_with_end, word_is_name, words_joined}
@@ -88,7 +88,7 @@ free_from_holds : (P : List ℕ → Type 0) (others number : ℕ) (taken : List 
 free_from_holds P zero number taken base each = each number (omega arith)
 free_from_holds P (suc others) number taken base each =
     let name = with_number base number in
-    cond_both (is_taken taken name) (free_from others (number + 1) taken base) name P
+    cond_both (is_in taken name) (free_from others (number + 1) taken base) name P
     (λ e. free_from_holds P others (number + 1) taken base (λ n low. each n (omega arith)))
     (λ e. each number (omega arith))
 
@@ -96,7 +96,7 @@ free_from_holds P (suc others) number taken base each =
 free_short : (taken : List (List ℕ)) (base : List ℕ) → is_page_name (html base) ≡ true → length taken ≤ 9000
     → IsPageName (free_name taken base)
 free_short taken base good few =
-    cond_both (is_taken taken (html base)) (free_from (length taken) 2 taken base) (html base) IsPageName
+    cond_both (is_in taken (html base)) (free_from (length taken) 2 taken base) (html base) IsPageName
     (λ e. free_from_holds IsPageName (length taken) 2 taken base (λ n low. number_short base n good (omega arith)))
     (λ e. base_short base good)
 

@@ -7,7 +7,7 @@ use Rattle.dita_doc.specs.declared.plan.PlanKind.{PlanKind}
 use Rattle.dita_doc.specs.declared.plan.PlanKind.TheVariants as kinds
 use Rattle.reader_spec.specs.World.{World}
 use Rattle.map_spec.specs.Elements.{attribute, class_faults, is_transparent}
-use Rattle.map_spec.specs.Included.{Around, around_below, fault_alone, includes_map, kind_of, map_in, map_included, new_head, node_made, nodes_among, nodes_by, nodes_of_element, root_place, submap_found, submap_named, submap_of}
+use Rattle.map_spec.specs.Included.{MapAround, around_below, fault_alone, includes_map, kind_of, map_in, map_included, new_head, map_node_made, nodes_among, nodes_by, nodes_of_element, root_place, submap_found, submap_named, submap_of}
 use Rattle.map_spec.specs.MapTree.{Grown, Head, beneath, beside, with_faults}
 use Rattle.map_spec.specs.Target.{Named, Document, Elsewhere, Unreadable, named_of}
 use Rattle.map_spec.specs.Written.{Element, Whole, Written, End, Chars, Node, size}
@@ -25,29 +25,29 @@ IsNew grown = AllHeads HasNoFilters grown.tree
 
 module _ (submap : Element → Grown) (new : (element : Element) → IsNew (submap element)) where
   -- the node of an element
-  node_new : (kind : PlanKind) (around : Around) (place : ℕ) (element : Element) (below : Grown) → IsNew below
-      → IsNew (node_made submap kind around place element below)
+  node_new : (kind : PlanKind) (around : MapAround) (place : ℕ) (element : Element) (below : Grown) → IsNew below
+      → IsNew (map_node_made submap kind around place element below)
   node_new kind around place element below inside = heads_by_test HasNoFilters (includes_map kind around element)
       (beneath (new_head kinds.Included element around.level place) (beside (submap element) below))
       (beneath (new_head kind element around.level place) below)
       (refl, heads_beside HasNoFilters (submap element).tree below.tree (new element) inside, tt) (refl, inside, tt)
 
   -- what an element of some kind makes
-  by_kind : (kind : Option PlanKind) (around : Around) (place : ℕ) (element : Element) (below : Around → Grown)
-      → ((inner : Around) → IsNew (below inner)) → IsNew (nodes_by submap kind around place element below)
+  by_kind : (kind : Option PlanKind) (around : MapAround) (place : ℕ) (element : Element) (below : MapAround → Grown)
+      → ((inner : MapAround) → IsNew (below inner)) → IsNew (nodes_by submap kind around place element below)
   by_kind None around place element below inside = tt
   by_kind (Some kind) around place element below inside =
       node_new kind around place element (below (around_below kind around)) (inside (around_below kind around))
 
   -- what an element makes
-  element_new : (around : Around) (place : ℕ) (element : Element) (below : Around → Grown)
-      → ((inner : Around) → IsNew (below inner)) → IsNew (nodes_of_element submap around place element below)
+  element_new : (around : MapAround) (place : ℕ) (element : Element) (below : MapAround → Grown)
+      → ((inner : MapAround) → IsNew (below inner)) → IsNew (nodes_of_element submap around place element below)
   element_new around place element below inside = heads_by_test HasNoFilters (is_transparent element)
       (with_faults (class_faults element) (below around)) (nodes_by submap (kind_of element) around place element below)
       (inside around) (by_kind (kind_of element) around place element below inside)
 
   -- what siblings make
-  among_new : (around : Around) (place : ℕ) (nodes : Written) → IsNew (nodes_among submap around place nodes)
+  among_new : (around : MapAround) (place : ℕ) (nodes : Written) → IsNew (nodes_among submap around place nodes)
   among_new around place End = tt
   among_new around place (Chars text doc rest) = among_new around (place + 1) rest
   among_new around place (Node element inside rest) = heads_beside HasNoFilters

@@ -7,11 +7,12 @@ use Rattle.std.proofs.lemmas.Slice.Eq.{bytes_eq-Decides}
 use Rattle.dita_doc.specs.declared.plan.Plan.{Plan}
 use Rattle.dita_doc.specs.declared.plan.PagePlan.{PagePlan}
 use Rattle.dita_doc.specs.declared.plan.PlanNode.{PlanNode}
+use Rattle.dita_doc.proofs.Lists.{is_in}
 use Rattle.reader_spec.specs.World.{World}
 use Rattle.map_spec.specs.PlanOf.{Limits, plan_of}
 use Rattle.map_spec.specs.Pages.{Use, base_of, contents_name, free_name, good_base, named_from, page_of_use, pages_of, uses_of}
 use Rattle.build_plan.specs.PageNames.{HasDistinctNames}
-use Rattle.build_plan.proofs.FreeLaws.{is_taken, free_name_free}
+use Rattle.build_plan.proofs.FreeLaws.{free_name_free}
 use Rattle.build_plan.proofs.PlanPagesLaws.{plan_pages}
 
 -- there are as many pages as uses
@@ -22,25 +23,25 @@ length_named index taken (first ∷ uses) =
     ap suc (length_named (index + 1) (free_name taken (good_base index (base_of first.id)) ∷ taken) uses)
 
 -- what is not taken is no name that is taken
-not_taken : (name other : List ℕ) (taken : List (List ℕ)) → is_taken (other ∷ taken) name ≡ false → name ≢ other
+not_taken : (name other : List ℕ) (taken : List (List ℕ)) → is_in (other ∷ taken) name ≡ false → name ≢ other
 not_taken name other taken free same =
-    both_ways (bytes_eq name other) (or_parts (bytes_eq name other) (is_taken taken name) free).0
+    both_ways (bytes_eq name other) (or_parts (bytes_eq name other) (is_in taken name) free).0
     ((bytes_eq-Decides name other).1 same)
 
 -- the name of a page is none of those that were taken before
 named_free : (index : ℕ) (taken : List (List ℕ)) (uses : List Use) (at : ℕ) (page : PagePlan)
     → 2 + (length taken + length uses) < 2 ^ 64 → slice_get (named_from index taken uses) at ≡ Some page
-    → is_taken taken page.name ≡ false
+    → is_in taken page.name ≡ false
 named_free index taken [] at page small is = absurd (cc)
 named_free index taken (first ∷ uses) zero page small is =
     let name = free_name taken (good_base index (base_of first.id)) in
     let same = same_Some (page_of_use first name) page is in
-    subst (λ (made : PagePlan). is_taken taken made.name ≡ false) same
+    subst (λ (made : PagePlan). is_in taken made.name ≡ false) same
     (free_name_free taken (good_base index (base_of first.id)) (omega arith))
 named_free index taken (first ∷ uses) (suc at) page small is =
     let name = free_name taken (good_base index (base_of first.id)) in
     let free = named_free (index + 1) (name ∷ taken) uses at page (omega arith) is in
-    (or_parts (bytes_eq page.name name) (is_taken taken page.name) free).1
+    (or_parts (bytes_eq page.name name) (is_in taken page.name) free).1
 
 -- nor that of an earlier page
 named_apart : (index : ℕ) (taken : List (List ℕ)) (uses : List Use) (at other : ℕ) (page another : PagePlan)

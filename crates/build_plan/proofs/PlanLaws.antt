@@ -15,10 +15,10 @@ use Rattle.dita_doc.specs.declared.stop.Stop.TheVariants as stop
 use Rattle.ditaval_rules.specs.declared.rules.RulesRead.{RulesRead}
 use Rattle.map_spec.specs.Branches.{branched}
 use Rattle.map_spec.specs.Cascade.{cascaded}
-use Rattle.map_spec.specs.Included.{included, included_from, is_map, node_limit, root_in}
+use Rattle.map_spec.specs.Included.{included, included_from, is_map, map_node_limit, root_in}
 use Rattle.map_spec.specs.Judged.{filtered}
 use Rattle.map_spec.specs.MapTree.{Grown, plan_nodes, with_faults}
-use Rattle.map_spec.specs.Pages.{documents_of, page_faults, pages_of, targets_of}
+use Rattle.map_spec.specs.Pages.{documents_of, page_faults, pages_of, node_targets}
 use Rattle.map_spec.specs.PlanOf.{build_rules, few_pages, grown_from, limits, plan_of, plan_of_map, plan_of_root, plan_of_tree, plan_with, then_plan}
 use Rattle.map_spec.specs.Scopes.{name_faults, scoped, scopes}
 use Rattle.map_spec.specs.Written.{Whole}
@@ -53,14 +53,14 @@ module _ (world : World) (name : List ℕ) (val : Option (List ℕ)) where
   steps_same : (read : RulesRead) (x : Result Grown PlanStop) → then_plan x (plan_of_map limits world read)
       ≡ then_plan (then_plan x (λ grown. branched_map world (judged_map world read.rules grown))) (planned_from read)
   steps_same read (Ok grown) = by_branches read grown (filtered world read.rules grown.tree)
-      (branched node_limit world (filtered world read.rules grown.tree).tree)
+      (branched map_node_limit world (filtered world read.rules grown.tree).tree)
   steps_same read (Err stop) = refl
 
   -- the map is there
 
   root_there : (found : Option Whole) → None ≡ map_stop found → plan_of_root limits world name val found
       ≡ then_plan (build_rules world val)
-      (λ read. then_plan (included_from node_limit world name found) (plan_of_map limits world read))
+      (λ read. then_plan (included_from map_node_limit world name found) (plan_of_map limits world read))
   root_there None is = cc
   root_there (Some root) is = by_test (is_map root) is
     where
@@ -68,7 +68,7 @@ module _ (world : World) (name : List ℕ) (val : Option (List ℕ)) where
           → (if test then then_plan (build_rules world val)
           (λ read. then_plan (grown_from limits world name root) (plan_of_map limits world read)) else Err stops.NotMap)
           ≡ then_plan (build_rules world val)
-          (λ read. then_plan (included_from node_limit world name (Some root)) (plan_of_map limits world read))
+          (λ read. then_plan (included_from map_node_limit world name (Some root)) (plan_of_map limits world read))
       by_test true same = refl
       by_test false same = cc
 
@@ -78,9 +78,9 @@ module _ (world : World) (name : List ℕ) (val : Option (List ℕ)) where
   unfolding plan_of
   map_there none = root_there (root_in world name) none
       ∙ then_same (build_rules world val)
-      (λ read. then_plan (included node_limit world name) (plan_of_map limits world read))
+      (λ read. then_plan (included map_node_limit world name) (plan_of_map limits world read))
       (λ read. then_plan (copied_map world read.rules name) (planned_from read))
-      (λ read. steps_same read (included node_limit world name))
+      (λ read. steps_same read (included map_node_limit world name))
 
   root_missing : (found : Option Whole) (stop : PlanStop) → Some stop ≡ map_stop found
       → plan_of_root limits world name val found ≡ Err stop
@@ -136,7 +136,7 @@ module _ (world : World) (before : List Fault) (given nodes : List PlanNode) (ar
     nodes = nodes;
     scopes = list;
     pages = pages_of world nodes;
-    targets = targets_of world nodes;
+    targets = node_targets world nodes;
     documents = documents_of world nodes;
     faults = before ++ found ++ page_faults world nodes;
   }

@@ -24,14 +24,14 @@ pub record HasPagesOf (most : Limits) (world : World) (plan : Plan) : Type 0 whe
   pub few : length plan.pages ≤ most.pages
 
 -- a step that gave a plan had something to go on from
-record StepsFrom {X : Type 0} (before : Result X PlanStop) (next : X → Result Plan PlanStop) (plan : Plan)
+pub record StepsFrom {X : Type 0} (before : Result X PlanStop) (next : X → Result Plan PlanStop) (plan : Plan)
     : Type 0 where
   pub from : X
   pub was : before ≡ Ok from
   pub gave : next from ≡ Ok plan
 
 -- a step before was taken
-steps_from : {X : Type 0} (before : Result X PlanStop) (next : X → Result Plan PlanStop) (plan : Plan)
+pub steps_from : {X : Type 0} (before : Result X PlanStop) (next : X → Result Plan PlanStop) (plan : Plan)
     → then_plan before next ≡ Ok plan → StepsFrom before next plan
 steps_from (Ok x) next plan is = record { from = x; was = refl; gave = is }
 steps_from (Err stop) next plan is = absurd (cc)
@@ -77,3 +77,9 @@ pub plan_pages : (most : Limits) (world : World) (map : List ℕ) (val : Option 
     → plan_of most world map val ≡ Ok plan → HasPagesOf most world plan
 unfolding plan_of
 plan_pages most world map val plan is = of_root most world map val (root_in world map) plan is
+
+-- a step that is made only if a test holds
+pub if_done : {X : Type 0} (b : Bool) (step : Result X PlanStop) (stop : PlanStop) (x : X)
+    → (if b then step else Err stop) ≡ Ok x → step ≡ Ok x
+if_done true step stop x e = e
+if_done false step stop x e = absurd cc

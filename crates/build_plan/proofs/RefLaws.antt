@@ -8,7 +8,7 @@ use Rattle.dita_doc.specs.declared.content.Rule.{Rule}
 use Rattle.dita_doc.specs.declared.plan.Expanded.{Expanded}
 use Rattle.dita_doc.specs.declared.plan.PlanNode.{PlanNode}
 use Rattle.map_spec.specs.Cascade.{whole_at}
-use Rattle.map_spec.specs.Included.{expanded, included, node_limit}
+use Rattle.map_spec.specs.Included.{expanded, included, map_node_limit}
 use Rattle.map_spec.specs.Judged.{filtered, has_element}
 use Rattle.map_spec.specs.MapTree.{Grown, plan_nodes}
 use Rattle.map_spec.specs.Written.{Whole, element_in}
@@ -38,16 +38,16 @@ element_of world nodes at node whole here is =
 
 pub are_ditavalrefs : (world : World) (rules : List Rule) (name : List ℕ) (made : Expanded)
     → result_map_both (λ (grown : Grown). expanded (judged_map world rules grown)) (λ e. e)
-    (included node_limit world name) ≡ Ok made
+    (included map_node_limit world name) ≡ Ok made
     → AreDitavalrefs (map (whole_at world) made.nodes) made.nodes
 are_ditavalrefs world rules name made given =
-    let before = some_of (λ (grown : Grown). expanded (judged_map world rules grown)) (included node_limit world name) made
+    let before = some_of (λ (grown : Grown). expanded (judged_map world rules grown)) (included map_node_limit world name) made
     given in
     let nodes : made.nodes ≡ plan_nodes (filtered world rules before.value.tree).tree =
     ap (λ (m : Expanded). m.nodes) (sym before.gives) in
     record {
       each = λ at node whole here kind is. a_ditavalref world node.kind node.doc node.place whole
-          (node_filtered node_limit world rules name before.value before.is at node
+          (node_filtered map_node_limit world rules name before.value before.is at node
           (subst (λ all. slice_get all at ≡ Some node) nodes here))
           kind (element_of world made.nodes at node whole here is);
     }

@@ -12,7 +12,7 @@ use Rattle.dita_doc.specs.declared.stop.Stop.{Stop}
 use Rattle.dita_doc.specs.declared.stop.Stop.TheVariants as stop
 use Rattle.map_spec.specs.Branches.{branched, copied}
 use Rattle.map_spec.specs.Cascade.{cascaded, whole_at}
-use Rattle.map_spec.specs.Included.{expanded, included, node_limit}
+use Rattle.map_spec.specs.Included.{expanded, included, map_node_limit}
 use Rattle.map_spec.specs.Judged.{filtered}
 use Rattle.map_spec.specs.MapTree.{Grown, MapNode, NoNodes, plan_nodes, with_faults}
 use Rattle.map_spec.specs.PlanOf.{then_plan}
@@ -47,14 +47,14 @@ module _ (world : World) (rules : List Rule) (name : List ℕ) where
 
   -- filtered
   pub filtered_gives : (made filter : Expanded) (faults : List Fault)
-      → result_map_both expanded (λ e. e) (included node_limit world name) ≡ Ok made
+      → result_map_both expanded (λ e. e) (included map_node_limit world name) ≡ Ok made
       → IsFiltered world rules made.nodes filter → faults ≡ made.faults ++ filter.faults
-      → result_map_both Judged (λ e. e) (included node_limit world name)
+      → result_map_both Judged (λ e. e) (included map_node_limit world name)
       ≡ Ok (record { nodes = filter.nodes; faults = faults })
   filtered_gives made filter faults given is added =
-      let found = some_of expanded (included node_limit world name) made given in
+      let found = some_of expanded (included map_node_limit world name) made given in
       let tree = found.value.tree in
-      let root = included_tree node_limit world name found.value found.is in
+      let root = included_tree map_node_limit world name found.value found.is in
       let nodes : made.nodes ≡ plan_nodes tree = ap (λ (m : Expanded). m.nodes) (sym found.gives) in
       let same : filter ≡ expanded (filtered world rules tree) = is tree nodes (one_root tree root) in
       ap (result_map_both Judged (λ e. e)) found.is
@@ -62,12 +62,13 @@ module _ (world : World) (rules : List Rule) (name : List ℕ) where
       (ap (λ f. f ++ (filtered world rules tree).faults) (ap (λ (m : Expanded). m.faults) found.gives)
       ∙ ap (λ f. made.faults ++ f) (sym (ap (λ (m : Expanded). m.faults) same)) ∙ sym added))
 
-  module _ (made : Expanded) (given : result_map_both Judged (λ e. e) (included node_limit world name) ≡ Ok made) where
-    abbrev before : Found Judged (included node_limit world name) made
-    before = some_of Judged (included node_limit world name) made given
+  module _ (made : Expanded)
+      (given : result_map_both Judged (λ e. e) (included map_node_limit world name) ≡ Ok made) where
+    abbrev before : Found Judged (included map_node_limit world name) made
+    before = some_of Judged (included map_node_limit world name) made given
 
     root : IsMapTree (judged_map world rules before.value).tree
-    root = filtered_tree world rules before.value.tree (included_tree node_limit world name before.value before.is)
+    root = filtered_tree world rules before.value.tree (included_tree map_node_limit world name before.value before.is)
 
     step_is : copied_map world rules name ≡ branched_map world (judged_map world rules before.value)
     step_is = ap (λ x. then_plan x (λ grown. branched_map world (judged_map world rules grown))) before.is
@@ -75,9 +76,9 @@ module _ (world : World) (rules : List Rule) (name : List ℕ) where
     nodes_are : made.nodes ≡ plan_nodes (MapNode root.head root.below NoNodes)
     nodes_are = ap (λ (m : Expanded). m.nodes) (sym before.gives) ∙ ap plan_nodes root.is
 
-    branched_is : branched node_limit world (judged_map world rules before.value).tree
-        ≡ branched node_limit world (MapNode root.head root.below NoNodes)
-    branched_is = ap (branched node_limit world) root.is
+    branched_is : branched map_node_limit world (judged_map world rules before.value).tree
+        ≡ branched map_node_limit world (MapNode root.head root.below NoNodes)
+    branched_is = ap (branched map_node_limit world) root.is
 
     -- and branches copied
     pub branched_gives : (copy : Expanded) (faults : List Fault) → AreCopied world made.nodes (Ok copy)
@@ -85,7 +86,7 @@ module _ (world : World) (rules : List Rule) (name : List ℕ) where
         → result_map_both expanded (λ e. e) (copied_map world rules name)
         ≡ Ok (record { nodes = copy.nodes; faults = faults })
     branched_gives copy faults are added =
-        let found = some_of expanded (branched node_limit world (MapNode root.head root.below NoNodes)) copy
+        let found = some_of expanded (branched map_node_limit world (MapNode root.head root.below NoNodes)) copy
         (are root.head root.below root.kind nodes_are) in
         let judged = judged_map world rules before.value in
         ap (result_map_both expanded (λ e. e)) (step_is
@@ -97,7 +98,7 @@ module _ (world : World) (rules : List Rule) (name : List ℕ) where
     pub branched_stops : (end : Stop PlanStop) → AreCopied world made.nodes (Err end)
         → Gives {A = Expanded} (Err end) (result_map_both expanded (λ e. e) (copied_map world rules name))
     branched_stops (stop.Fault fault) are =
-        let none = none_of expanded (branched node_limit world (MapNode root.head root.below NoNodes)) fault
+        let none = none_of expanded (branched map_node_limit world (MapNode root.head root.below NoNodes)) fault
         (are root.head root.below root.kind nodes_are) in
         let judged = judged_map world rules before.value in
         ap (result_map_both expanded (λ e. e)) (step_is
@@ -105,11 +106,11 @@ module _ (world : World) (rules : List Rule) (name : List ℕ) where
     branched_stops stop.NoMemory are = tt
 
   pub judged_stops : (end : Stop PlanStop)
-      → Gives {A = Expanded} (Err end) (result_map_both Judged (λ e. e) (included node_limit world name))
+      → Gives {A = Expanded} (Err end) (result_map_both Judged (λ e. e) (included map_node_limit world name))
       → Gives {A = Expanded} (Err end) (result_map_both expanded (λ e. e) (copied_map world rules name))
   judged_stops (stop.Fault fault) given =
       ap (λ x. result_map_both expanded (λ e. e) (then_plan x (λ grown. branched_map world (judged_map world rules grown))))
-      (none_of Judged (included node_limit world name) fault given)
+      (none_of Judged (included map_node_limit world name) fault given)
   judged_stops stop.NoMemory given = tt
 
   -- and cascaded
@@ -140,13 +141,13 @@ module _ (world : World) (rules : List Rule) (name : List ℕ) where
 -- The trees of these nodes, and the documents in which they stand
 
 module _ (world : World) (rules : List Rule) (name : List ℕ) where
-  module _ (made filter : Expanded) (given : result_map_both expanded (λ e. e) (included node_limit world name) ≡ Ok made)
+  module _ (made filter : Expanded) (given : result_map_both expanded (λ e. e) (included map_node_limit world name) ≡ Ok made)
       (is : IsFiltered world rules made.nodes filter) where
-    abbrev expanded_before : Found expanded (included node_limit world name) made
-    expanded_before = some_of expanded (included node_limit world name) made given
+    abbrev expanded_before : Found expanded (included map_node_limit world name) made
+    expanded_before = some_of expanded (included map_node_limit world name) made given
 
     expanded_root : IsMapTree expanded_before.value.tree
-    expanded_root = included_tree node_limit world name expanded_before.value expanded_before.is
+    expanded_root = included_tree map_node_limit world name expanded_before.value expanded_before.is
 
     expanded_are : made.nodes ≡ plan_nodes expanded_before.value.tree
     expanded_are = ap (λ (m : Expanded). m.nodes) (sym expanded_before.gives)
@@ -165,10 +166,10 @@ module _ (world : World) (rules : List Rule) (name : List ℕ) where
     -- none has a filter yet
     pub filtered_new : AreNew filter.nodes
     filtered_new =
-        let whole = included_made node_limit world name expanded_before.value expanded_before.is in
+        let whole = included_made map_node_limit world name expanded_before.value expanded_before.is in
         let tree = (filtered world rules expanded_before.value.tree).tree in
         let all = heads_filtered HasNoFilters world rules expanded_before.value.tree
-        (subst IsNew whole.is (included_new (node_limit + 1) world (name ∷ []) 0 whole.root)) in
+        (subst IsNew whole.is (included_new (map_node_limit + 1) world (name ∷ []) 0 whole.root)) in
         record {
           each = λ at node there. node_at HasNoFilters (λ (own : PlanNode). own.filters ≡ []) (λ head parent end is. is)
               0 0 tree at node all (subst (λ nodes. slice_get nodes at ≡ Some node) filter_are there);
@@ -185,13 +186,13 @@ module _ (world : World) (nodes : List PlanNode) (of : AreMapNodes nodes) (copy 
   alone_are : nodes ≡ plan_nodes (MapNode of.map.head of.map.below NoNodes)
   alone_are = of.are ∙ ap plan_nodes of.map.is
 
-  abbrev copied_found : Found expanded (branched node_limit world (MapNode of.map.head of.map.below NoNodes)) copy
-  copied_found = some_of expanded (branched node_limit world (MapNode of.map.head of.map.below NoNodes)) copy
+  abbrev copied_found : Found expanded (branched map_node_limit world (MapNode of.map.head of.map.below NoNodes)) copy
+  copied_found = some_of expanded (branched map_node_limit world (MapNode of.map.head of.map.below NoNodes)) copy
       (are of.map.head of.map.below of.map.kind alone_are)
 
   copy_are : copy.nodes ≡ plan_nodes (copied world (MapNode of.map.head of.map.below NoNodes))
   copy_are = ap (λ (m : Expanded). m.nodes) (sym copied_found.gives)
-      ∙ ap (λ (g : Grown). plan_nodes g.tree) (sym (within node_limit _ copied_found.value copied_found.is))
+      ∙ ap (λ (g : Grown). plan_nodes g.tree) (sym (within map_node_limit _ copied_found.value copied_found.is))
 
   pub copied_nodes_are : AreMapNodes copy.nodes
   copied_nodes_are = record {

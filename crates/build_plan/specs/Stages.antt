@@ -9,7 +9,7 @@ use Rattle.dita_doc.specs.declared.plan.PlanStop.{PlanStop}
 use Rattle.dita_doc.specs.declared.plan.PlanStop.TheVariants as stops
 use Rattle.map_spec.specs.Branches.{branched}
 use Rattle.map_spec.specs.Cascade.{cascaded}
-use Rattle.map_spec.specs.Included.{included, is_map, node_limit}
+use Rattle.map_spec.specs.Included.{included, is_map, map_node_limit}
 use Rattle.map_spec.specs.Judged.{filtered}
 use Rattle.map_spec.specs.MapTree.{Grown, Head, MapTree, MapNode, NoNodes, plan_nodes, with_faults}
 use Rattle.map_spec.specs.PlanOf.{then_plan}
@@ -27,11 +27,11 @@ judged_map world rules grown = with_faults grown.faults (filtered world rules gr
 
 -- and with its branches copied
 abbrev pub branched_map : World → Grown → Result Grown PlanStop
-branched_map world judged = result_map_both (with_faults judged.faults) (λ stop. stop) (branched node_limit world judged.tree)
+branched_map world judged = result_map_both (with_faults judged.faults) (λ stop. stop) (branched map_node_limit world judged.tree)
 
 abbrev pub copied_map : World → List Rule → List ℕ → Result Grown PlanStop
 copied_map world rules map =
-    then_plan (included node_limit world map) (λ grown. branched_map world (judged_map world rules grown))
+    then_plan (included map_node_limit world map) (λ grown. branched_map world (judged_map world rules grown))
 
 -- and cascaded
 abbrev pub cascaded_map : World → Grown → Expanded

@@ -18,8 +18,8 @@ use dita_doc::{List, PlanNode, PlanStop, Stop};
 use key_layer::{KeyLayer, KeyMemo};
 use key_scopes::ScopeTable;
 use page_names::{PagesMade, pages};
-use plan_nodes::Homes;
-use readers::{Questions, Since, Titles};
+use plan_nodes::NodeElements;
+use readers::{LogStart, Questions, Titles};
 use std::alloc::Global;
 use std::marker::{Brand, PhantomData};
 
@@ -28,7 +28,7 @@ pub(crate) fn keyed_pages<T: Titles>(
     alloc: Global,
     asker: &mut T,
     nodes: &List<PlanNode>,
-    homes: &Homes,
+    homes: &NodeElements,
     table: &ScopeTable,
 ) -> Result<PagesMade, Stop<PlanStop>>
     requires ready { AreReady (T.told asker.old) nodes.now homes.now }
@@ -48,12 +48,12 @@ pub(crate) fn keyed_pages<T: Titles>(
 }
 
 // The same since a start, with answers that are known then.
-fn pages_since<T: Titles, S: Since>(
+fn pages_since<T: Titles, S: LogStart>(
     alloc: Global,
     asker: &mut T,
     memo: &mut KeyMemo,
     nodes: &List<PlanNode>,
-    homes: &Homes,
+    homes: &NodeElements,
     table: &ScopeTable,
 ) -> Result<PagesMade, Stop<PlanStop>>
     requires stand { T.stand asker.old ≡ S.stand }
@@ -84,7 +84,7 @@ fn pages_since<T: Titles, S: Since>(
 }
 
 // What the layer's questions say of the reader below.
-fn pages_under<'r, 'q, 'm, 'n, T: Titles, S: Since>(
+fn pages_under<'r, 'q, 'm, 'n, T: Titles, S: LogStart>(
     alloc: Global,
     layer: &mut KeyLayer<'r, 'q, 'm, 'n, T, S>,
 ) -> Result<PagesMade, Stop<PlanStop>>

@@ -106,7 +106,7 @@ fn filtered_nodes<R: Reader>(
     ensures known { (world : World) → Agrees world (R.told reader.new) → Gives result
         (result_map_both (λ grown. included_spec.expanded
         (stages_spec.judged_map world rules.now grown)) (λ stop. stop)
-        (included_spec.included included_spec.node_limit world map.now)) }
+        (included_spec.included included_spec.map_node_limit world map.now)) }
     ensures nodes { IfOk result (λ made. stages_spec.AreMapNodes made.nodes) }
     ensures new { IfOk result (λ made. stages_spec.AreNew made.nodes) }
     ensures asked { IfOk result (λ made. AreAsked (R.told reader.new)

@@ -19,7 +19,7 @@ use crate::keyed::keyed_pages;
 use dita_doc::{Fault, List, NoMemory, Plan, PlanNode, PlanStop, Scope, Stop};
 use doc_elements::append_faults;
 use key_scopes::{ScopeTable, ScopesMade, into_scopes};
-use plan_nodes::{Homes, copy_texts};
+use plan_nodes::{NodeElements, copy_texts};
 use readers::{Reader, Titles};
 use std::alloc::{AllocError, Global};
 
@@ -27,7 +27,7 @@ use std::alloc::{AllocError, Global};
 #[derive(Drop)]
 pub struct Planned {
     pub plan: Plan,
-    pub homes: Homes,
+    pub homes: NodeElements,
     pub table: ScopeTable,
 }
 
@@ -35,7 +35,7 @@ pub struct Planned {
 #[derive(Drop)]
 struct Scoped {
     made: ScopesMade,
-    homes: Homes,
+    homes: NodeElements,
 }
 
 /// The plan of nodes that carry their values, behind the faults that were found before.
@@ -105,7 +105,7 @@ fn with_scopes<R: Reader>(
     ensures grows { Grows (R.told reader.old) (R.told reader.new) }
 {
     let made = into_scopes(alloc, reader, nodes)?;
-    let homes = Homes::of(alloc, reader, made.nodes.as_slice())?;
+    let homes = NodeElements::of(alloc, reader, made.nodes.as_slice())?;
     Ok(Scoped { made, homes })
 }
 

@@ -12,7 +12,7 @@ ghost use Rattle.readers.specs.Told.{Agrees, Knows};
 
 use crate::steps::planned;
 use dita_doc::{Name, Plan, PlanStop, Stop};
-use readers::{Questions, Reader, Since, TitleTable};
+use readers::{LogStart, Questions, Reader, TitleTable};
 use std::alloc::Global;
 use std::marker::{Brand, PhantomData};
 use title_layer::TitleLayer;
@@ -60,7 +60,7 @@ fn plan_over<R: Reader>(
 }
 
 // The same since a start, with titles that are known then.
-fn plan_since<R: Reader, S: Since>(
+fn plan_since<R: Reader, S: LogStart>(
     alloc: Global,
     reader: &mut R,
     table: &mut TitleTable,
@@ -88,7 +88,7 @@ fn plan_since<R: Reader, S: Since>(
 }
 
 // What the layer's questions say of the reader below.
-fn plan_under<'r, 'q, 't, R: Reader, S: Since>(
+fn plan_under<'r, 'q, 't, R: Reader, S: LogStart>(
     alloc: Global,
     layer: &mut TitleLayer<'r, 'q, 't, R, S>,
     map: &Name,

@@ -7,12 +7,12 @@ use Rattle.dita_doc.specs.declared.plan.PlanStop.{PlanStop}
 abbrev pub Page : Type 0
 Page = List ℕ × List ℕ
 
-pub data Built : Type 0 where
-  Done : (pages : List Page) (faults : List Fault) → Built
-  Stopped : PlanStop → Built
-  TooLarge : (total : ℕ) → Built
+pub data BuildOutcome : Type 0 where
+  Done : (pages : List Page) (faults : List Fault) → BuildOutcome
+  Stopped : PlanStop → BuildOutcome
+  TooLarge : (total : ℕ) → BuildOutcome
 
-abbrev pub pages_of : Built → List Page
-pages_of (Done pages faults) = pages
-pages_of (Stopped stop) = []
-pages_of (TooLarge total) = []
+abbrev pub built_pages : BuildOutcome → List Page
+built_pages (Done pages faults) = pages
+built_pages (Stopped stop) = []
+built_pages (TooLarge total) = []

@@ -85,7 +85,7 @@ fn put_and_remove(alloc: Global, name: &Name) -> Result<Request, AllocError>
 // What a reply tells: its number or its fault, whether its bytes are the text that was stored, and
 // how many names it has.
 #[derive(Clone, Copy, PartialEq, Eq)]
-enum Told {
+enum ReplyTold {
     Stored(u64),
     Removed(u64),
     Conflict(u64),
@@ -99,23 +99,23 @@ enum Told {
     Other,
 }
 
-fn told_by(reply: &Reply) -> Told {
+fn told_by(reply: &Reply) -> ReplyTold {
     match reply {
-        Reply::Stored(version) => Told::Stored(*version),
-        Reply::Removed(version) => Told::Removed(*version),
-        Reply::Conflict(version) => Told::Conflict(*version),
-        Reply::Refused(fault) => Told::Refused(*fault),
-        Reply::Absent => Told::Absent,
-        Reply::Bytes(bytes) => Told::Text(bytes.as_slice() == TEXT),
-        Reply::NameList(names) => Told::Names(names.len()),
-        Reply::Begun => Told::Begun,
-        Reply::Grouped(edits) => Told::Grouped(*edits),
-        Reply::Stopped(number, fault) => Told::Stopped(*number, *fault),
-        _ => Told::Other,
+        Reply::Stored(version) => ReplyTold::Stored(*version),
+        Reply::Removed(version) => ReplyTold::Removed(*version),
+        Reply::Conflict(version) => ReplyTold::Conflict(*version),
+        Reply::Refused(fault) => ReplyTold::Refused(*fault),
+        Reply::Absent => ReplyTold::Absent,
+        Reply::Bytes(bytes) => ReplyTold::Text(bytes.as_slice() == TEXT),
+        Reply::NameList(names) => ReplyTold::Names(names.len()),
+        Reply::Begun => ReplyTold::Begun,
+        Reply::Grouped(edits) => ReplyTold::Grouped(*edits),
+        Reply::Stopped(number, fault) => ReplyTold::Stopped(*number, *fault),
+        _ => ReplyTold::Other,
     }
 }
 
-fn ask(store: &mut Store, alloc: Global, request: Request) -> Result<Told, AllocError>
+fn ask(store: &mut Store, alloc: Global, request: Request) -> Result<ReplyTold, AllocError>
     requires origin { seen_spec.HasOwnOrigin request }
     requires edits { request_spec.HasFewEdits (seen_spec.request_seen request) }
 {
@@ -129,7 +129,7 @@ fn ask(store: &mut Store, alloc: Global, request: Request) -> Result<Told, Alloc
 fn stored(alloc: Global, name: &Name) -> Result<Store, AllocError> {
     let mut store = Store::new(alloc).map_err(|_| AllocError)?;
     match ask(&mut store, alloc, put(alloc, name)?)? {
-        Told::Stored(1) => Ok(store),
+        ReplyTold::Stored(1) => Ok(store),
         _ => Err(AllocError),
     }
 }
@@ -141,13 +141,13 @@ fn a_put_under_a_version_is_judged(rt: HostRuntime) -> Result<(), Fail> {
     let mut store = stored(alloc, &a)?;
     // A text that is no document is refused before its version is looked at.
     let request = Request::PutIf(9, a.clone()?, nothing(alloc, &a)?);
-    assert!(rt; ask(&mut store, alloc, request)? == Told::Refused(NO_ROOT));
+    assert!(rt; ask(&mut store, alloc, request)? == ReplyTold::Refused(NO_ROOT));
     let request = put_if(alloc, 9, &a)?;
-    assert!(rt; ask(&mut store, alloc, request)? == Told::Conflict(1));
+    assert!(rt; ask(&mut store, alloc, request)? == ReplyTold::Conflict(1));
     let request = put_if(alloc, 1, &a)?;
-    assert!(rt; ask(&mut store, alloc, request)? == Told::Stored(4));
+    assert!(rt; ask(&mut store, alloc, request)? == ReplyTold::Stored(4));
     assert!(rt; store.entries() == 4);
-    assert!(rt; told_by(&store.entry(2).reply) == Told::Conflict(1));
+    assert!(rt; told_by(&store.entry(2).reply) == ReplyTold::Conflict(1));
     Ok(())
 }
 
@@ -156,9 +156,9 @@ fn what_is_stored_is_given(rt: HostRuntime) -> Result<(), Fail> {
     let alloc = rt.alloc();
     let a = name(alloc, "a")?;
     let mut store = stored(alloc, &a)?;
-    assert!(rt; ask(&mut store, alloc, Request::Get(a.clone()?))? == Told::Text(true));
-    assert!(rt; ask(&mut store, alloc, Request::Names)? == Told::Names(1));
-    assert!(rt; ask(&mut store, alloc, Request::Build(a, None))? == Told::Begun);
+    assert!(rt; ask(&mut store, alloc, Request::Get(a.clone()?))? == ReplyTold::Text(true));
+    assert!(rt; ask(&mut store, alloc, Request::Names)? == ReplyTold::Names(1));
+    assert!(rt; ask(&mut store, alloc, Request::Build(a, None))? == ReplyTold::Begun);
     Ok(())
 }
 
@@ -167,8 +167,8 @@ fn what_is_removed_is_gone(rt: HostRuntime) -> Result<(), Fail> {
     let alloc = rt.alloc();
     let a = name(alloc, "a")?;
     let mut store = stored(alloc, &a)?;
-    assert!(rt; ask(&mut store, alloc, Request::Remove(a.clone()?))? == Told::Removed(1));
-    assert!(rt; ask(&mut store, alloc, Request::Get(a))? == Told::Absent);
+    assert!(rt; ask(&mut store, alloc, Request::Remove(a.clone()?))? == ReplyTold::Removed(1));
+    assert!(rt; ask(&mut store, alloc, Request::Get(a))? == ReplyTold::Absent);
     Ok(())
 }
 
@@ -180,11 +180,11 @@ fn a_group_that_is_refused_leaves_everything(rt: HostRuntime) -> Result<(), Fail
     let mut store = stored(alloc, &a)?;
     let request = remove_and_put_if(alloc, &a, 1, &b)?;
     let conflict = EditFault::Conflict(0);
-    assert!(rt; ask(&mut store, alloc, request)? == Told::Stopped(2, conflict));
+    assert!(rt; ask(&mut store, alloc, request)? == ReplyTold::Stopped(2, conflict));
     assert!(rt; version_of(store.sources(), &a) == Some(1));
     assert!(rt; version_of(store.sources(), &b) == None);
     let request = remove_and_put_if(alloc, &b, 0, &a)?;
-    assert!(rt; ask(&mut store, alloc, request)? == Told::Stopped(1, EditFault::Absent));
+    assert!(rt; ask(&mut store, alloc, request)? == ReplyTold::Stopped(1, EditFault::Absent));
     Ok(())
 }
 
@@ -195,10 +195,10 @@ fn the_edits_of_a_group_have_its_version(rt: HostRuntime) -> Result<(), Fail> {
     let b = name(alloc, "b")?;
     let mut store = stored(alloc, &a)?;
     let request = remove_and_put_if(alloc, &a, 0, &b)?;
-    assert!(rt; ask(&mut store, alloc, request)? == Told::Grouped(2));
+    assert!(rt; ask(&mut store, alloc, request)? == ReplyTold::Grouped(2));
     assert!(rt; version_of(store.sources(), &a) == None);
     assert!(rt; version_of(store.sources(), &b) == Some(2));
-    assert!(rt; ask(&mut store, alloc, Request::Names)? == Told::Names(1));
+    assert!(rt; ask(&mut store, alloc, Request::Names)? == ReplyTold::Names(1));
     Ok(())
 }
 
@@ -209,9 +209,9 @@ fn an_edit_of_a_group_sees_those_before_it(rt: HostRuntime) -> Result<(), Fail> 
     let b = name(alloc, "b")?;
     let mut store = stored(alloc, &a)?;
     let request = Request::Group(List::new(alloc));
-    assert!(rt; ask(&mut store, alloc, request)? == Told::Grouped(0));
+    assert!(rt; ask(&mut store, alloc, request)? == ReplyTold::Grouped(0));
     let request = put_and_remove(alloc, &b)?;
-    assert!(rt; ask(&mut store, alloc, request)? == Told::Grouped(2));
+    assert!(rt; ask(&mut store, alloc, request)? == ReplyTold::Grouped(2));
     assert!(rt; version_of(store.sources(), &a) == Some(1));
     assert!(rt; version_of(store.sources(), &b) == None);
     Ok(())

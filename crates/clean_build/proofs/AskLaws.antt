@@ -12,7 +12,7 @@ use Rattle.readers.proofs.DocumentLaws.{asks_after, asks_among, asks_none, asks_
 use Rattle.readers.proofs.FoundedLaws.{among_first}
 use Rattle.clean_build.specs.Names.{names_of_content}
 use Rattle.clean_build.specs.Single.{documents_of_alone}
-use Rattle.clean_build.specs.declared.ground.Ground.{Ground}
+use Rattle.clean_build.specs.declared.build_input.BuildInput.{BuildInput}
 
 -- what is asked next asks for no document
 pub asks_behind : (names : List (List ℕ)) (a b c : List Told) → Grows a b → AsksOnly of_content names a b
@@ -38,7 +38,7 @@ asks_widely names old new =
 
 -- A page that stands alone
 
-module _ (ground : Ground) (index : ℕ) where
+module _ (ground : BuildInput) (index : ℕ) where
   abbrev front : List (List ℕ)
   front = homes ground.plan.now.nodes
 

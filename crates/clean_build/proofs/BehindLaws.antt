@@ -15,7 +15,7 @@ use Rattle.map_spec.specs.Written.{Whole}
 use Rattle.html_spec.specs.Anchors.{anchor_faults, anchors, element_links}
 use Rattle.html_spec.specs.Blocks.{body_html}
 use Rattle.html_spec.specs.PageHtml.{page_text, page_within, too_large}
-use Rattle.part_spec.specs.Parts.{content_of_root, here_of, links_of, marks_in, no_html, page_rules, rooms}
+use Rattle.part_spec.specs.Parts.{content_of_root, here_of, all_page_links, marks_in, no_html, page_rules, rooms}
 use Rattle.reader_spec.specs.World.{World}
 use Rattle.clean_build.specs.Made.{page_behind, page_of_root}
 use Rattle.clean_build.proofs.GatheredLaws.{among_first, among_parts, among_second}
@@ -80,7 +80,7 @@ module _ (world : World) (plan : Plan) (val : Option (List ℕ)) (index : ℕ) (
       let faults = made.faults ++ anchor_faults here made.nodes ++ body.faults in
       within_with rooms.bytes root.0.doc root.0.line (title_in world page.id.doc [])
       (record { bytes = body.bytes; faults = faults ++ [] }) (record { bytes = body.bytes; faults = faults ++ behind })
-      behind (links_of world plan index (element_links here made.nodes))
+      behind (all_page_links world plan index (element_links here made.nodes))
       (record { bytes = refl; faults = with_none faults behind })
 
   -- a page of a document with a root

@@ -18,8 +18,6 @@ use Rattle.dita_doc.specs.declared.fault.Fault.{Fault}
 use Rattle.dita_doc.specs.declared.plan.Context.{Context}
 use Rattle.doc_maker.specs.Made.{resolved_tree, written_from}
 use Rattle.flag_marks.specs.Marks.{attributes_at, marks_from}
-use Rattle.html_blocks.specs.Body.{AreNodesOf, with_own_hrefs}
-use Rattle.index_page.specs.Body as terms
 use Rattle.map_spec.specs.Written.{Element, Written, End, Chars, Node}
 use Rattle.html_spec.specs.Anchors.{Here, anchor_faults, anchors, element_links}
 use Rattle.html_spec.specs.Blocks.{body_html}
@@ -27,7 +25,7 @@ use Rattle.conref_spec.specs.Content.{Made}
 use Rattle.part_spec.specs.Parts.{marks_in}
 use Rattle.reader_spec.specs.World.{World}
 use Rattle.readers.specs.Founded.{AreAllowed, Grows, StaysFounded, homes, is_allowed, is_among}
-use Rattle.readers.specs.Named.{linked_in, named}
+use Rattle.readers.specs.Named.{AreNodesOf, linked_in, under_names, with_own_hrefs}
 use Rattle.readers.specs.Setting.{Stand}
 use Rattle.readers.specs.Told.{Told}
 use Rattle.readers.proofs.AmongLaws.{among_back, among_either, among_front}
@@ -60,7 +58,7 @@ same_written body = same_at body 0 (tree_of body.doc.nodes)
 
 -- and it is that of the document
 own_at : (body : Resolved) (place : ℕ) (content : Content)
-    → with_own_hrefs (written_at body place content) ≡ named body.doc.origins content
+    → with_own_hrefs (written_at body place content) ≡ under_names body.doc.origins content
 own_at body place tree.End = refl
 own_at body place (tree.Chars text origin line rest) = chars_same _ _ _ _ (own_at body (place + 1) rest)
 own_at body place (tree.Element name attributes origin line inside rest) =
@@ -68,15 +66,6 @@ own_at body place (tree.Element name attributes origin line inside rest) =
 
 pub own_nodes : (body : Resolved) → AreNodesOf body (written_of body)
 own_nodes body = own_at body 0 (tree_of body.doc.nodes)
-
--- also where its terms are looked for
-own_terms : (nodes : Written) → terms.with_own_hrefs nodes ≡ with_own_hrefs nodes
-own_terms End = refl
-own_terms (Chars text doc rest) = chars_same _ _ _ _ (own_terms rest)
-own_terms (Node element inside rest) = node_same _ _ _ _ _ (own_terms inside) (own_terms rest)
-
-pub own_entries : (body : Resolved) → terms.AreNodesOf body (written_of body)
-own_entries body = own_terms (written_of body) ∙ own_nodes body
 
 -- The faults, one after another
 pub all_faults : (html : Html) (before next behind one two three : List Fault) → one ≡ before ++ next

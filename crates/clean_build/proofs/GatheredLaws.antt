@@ -1,21 +1,21 @@
 -- Pages and faults of a build, and one more of them.
-use Rattle.std.specs.Prelude.{◌≡◌, ◌+◌, ◌<◌, ◌⊎◌, ℕ, true, false, List, [], ◌∷◌, ◌++◌, length, map, nat_le}
+use Rattle.std.specs.Prelude.{◌≡◌, ◌+◌, ◌⊎◌, ℕ, true, false, List, [], ◌∷◌, ◌++◌, length, map, nat_le}
 use Rattle.std.specs.Arc.{arc_value}
 use Rattle.std.specs.List.{AllByRecursion}
 use Rattle.std.proofs.Common.{refl, sym, ap, subst, ◌∙◌, arith, inl, inr}
 use Rattle.std.proofs.Math.Logic.{⊎_elim}
-use Rattle.std.proofs.lemmas.Bool.{le-leb, leb-true, lt-leb}
+use Rattle.std.proofs.lemmas.Bool.{le-leb, leb-true}
 use Rattle.std.proofs.lemmas.List.{length-append, map-append}
 use Rattle.std.proofs.lemmas.List.Sums.{sum_by_push}
 use Rattle.build_spec.specs.Built.{Page, Done, TooLarge}
-use Rattle.clean_build.specs.Clean.{HasPageName, Made, page_seen}
+use Rattle.clean_build.specs.Clean.{HasPageName, MadePage, page_seen}
 use Rattle.build_plan.specs.PageNames.{IsPageName}
 use Rattle.dita_doc.specs.declared.fact.Html.{Html}
 use Rattle.dita_doc.specs.declared.fault.Fault.{Fault}
 use Rattle.dita_doc.specs.declared.plan.Plan.{Plan}
 use Rattle.fault_report.specs.Report.{IsAmong, IsReport, report_of}
 use Rattle.fault_report.proofs.ReportLaws.{report_is}
-use Rattle.part_spec.specs.Parts.{build_of, faults_of, names_of, pages_with, total_limit, total_of}
+use Rattle.part_spec.specs.Parts.{build_of, faults_of, names_of_pages, pages_with, total_limit, total_of}
 use Rattle.clean_build.specs.Gathering.{AreAsGood, HasPages}
 use Rattle.clean_build.specs.declared.gathered.Gathered.{Gathered}
 
@@ -109,11 +109,8 @@ pages_put names name parts part old new bytes has same more kept =
           ∙ sym (pages_more names name parts part has.even);
     }
 
-pub too_many : (n limit : ℕ) → limit < n → nat_le n limit ≡ false
-too_many n limit more = lt-leb n limit more
-
 -- what is seen of one page more
-pub seen_more : (old new : List Made) (page : Made) (name : List ℕ) (html : Html) → new ≡ old ++ page ∷ []
+pub seen_more : (old new : List MadePage) (page : MadePage) (name : List ℕ) (html : Html) → new ≡ old ++ page ∷ []
     → page.0 ≡ name → arc_value page.1 ≡ html
     → map page_seen new ≡ map page_seen old ++ (name, html.bytes) ∷ []
 seen_more old new page name html is same value =
@@ -130,7 +127,7 @@ same_pages names parts old new has pages total = record {
 }
 
 -- pages have the names that are seen of them
-pub names_seen : (names : List (List ℕ)) (parts : List Html) (pages : List Made)
+pub names_seen : (names : List (List ℕ)) (parts : List Html) (pages : List MadePage)
     → map page_seen pages ≡ pages_with names parts → AllByRecursion IsPageName names
     → AllByRecursion HasPageName pages
 names_seen names parts [] is all = tt
@@ -149,6 +146,6 @@ pub built_large : (plan : Plan) (parts : List Html) (total : ℕ) → nat_le (to
 built_large plan parts total many same = rw many (ap (λ n. TooLarge n) same)
 
 pub built_done : (plan : Plan) (parts : List Html) (pages : List Page) (report : List Fault)
-    → nat_le (total_of parts) total_limit ≡ true → pages ≡ pages_with (names_of plan) parts
+    → nat_le (total_of parts) total_limit ≡ true → pages ≡ pages_with (names_of_pages plan) parts
     → report ≡ report_of (faults_of plan parts) → Done pages report ≡ build_of total_limit plan parts
 built_done plan parts pages report few same is = rw few (λ i. Done (same i) (is i))

@@ -13,8 +13,8 @@ use Rattle.dita_doc.specs.declared.plan.Target.TheVariants as targets
 use Rattle.map_spec.specs.Branches.{each_once}
 use Rattle.map_spec.specs.Cascade.{attribute_at, cascaded_value, is_in_table, walk, whole_at}
 use Rattle.map_spec.specs.Included.{is_reference}
-use Rattle.map_spec.specs.Keys.{chain, href_target, key_answer, key_of, last_of, target_at, target_of_chain}
-use Rattle.map_spec.specs.Pages.{Use, aim_at, aim_by_href, aim_by_key, aim_of, aim_read, aim_with, base_of, contents_name, documents_of, first_uses, free_name, good_base, is_normal, is_page_kind, is_same_page, local_name, named_from, page_used_at, pages_of, targets_of, use_at, use_of, used_at, uses_of}
+use Rattle.map_spec.specs.Keys.{chain, href_target, key_answer, key_of, last_of, target_of_definition, target_of_chain}
+use Rattle.map_spec.specs.Pages.{Use, aim_at, aim_by_href, aim_by_key, aim_of, aim_read, aim_with, base_of, contents_name, documents_of, first_uses, free_name, good_base, is_normal, is_page_kind, is_same_page, local_name, named_from, page_used_at, pages_of, node_targets, use_at, use_of, used_at, uses_of}
 use Rattle.map_spec.specs.Scopes.{places, scope_at}
 use Rattle.map_spec.specs.Target.{target_by}
 use Rattle.map_spec.specs.Titles.{kind_in}
@@ -94,7 +94,7 @@ module _ (told : List Told) (roots : List (List ℕ)) where
 
   module _ (world : World) (nodes : List PlanNode) (were : AreTold told (map (whole_at world) nodes)) where
     module _ (around : List PlanNode) (at : ℕ) (node : PlanNode) (there : slice_get nodes at ≡ Some node) where
-      may_found : (target : Target) → target_at world nodes node around ≡ Some target → May target
+      may_found : (target : Target) → target_of_definition world node around ≡ Some target → May target
       may_found (targets.Local own reference) is name named =
           let same : own ≡ name = cc in
           subst Allowed same (may_target_at told world nodes around at node own reference were there is roots)
@@ -102,7 +102,7 @@ module _ (told : List Told) (roots : List (List ℕ)) where
       may_found (targets.Other value) is name named = cc
       may_found targets.Nothing is name named = cc
 
-      may_read : (href : List ℕ) (found : Option Target) → target_at world nodes node around ≡ found
+      may_read : (href : List ℕ) (found : Option Target) → target_of_definition world node around ≡ found
           → May (aim_read node href found).target
       may_read href None is = may_nothing
       may_read href (Some target) is = may_found target is
@@ -124,7 +124,7 @@ module _ (told : List Told) (roots : List (List ℕ)) where
     may_or (Some target) may = may target refl
 
     may_defined : (at : ℕ) (found : Option PlanNode) → slice_get nodes at ≡ found → (target : Target)
-        → option_and_then (λ node. target_at world nodes node (walk nodes at)) found ≡ Some target → May target
+        → option_and_then (λ node. target_of_definition world node (walk nodes at)) found ≡ Some target → May target
     may_defined at None is target leads = cc
     may_defined at (Some node) is target leads = may_found (walk nodes at) at node is target leads
 
@@ -175,7 +175,7 @@ module _ (told : List Told) (roots : List (List ℕ)) where
         by_node None e = rw e may_nothing
         by_node (Some node) e = rw e (may_of at node e)
 
-    pub targets_allowed : AreAllowed roots told (filter_map local_name (targets_of world nodes))
+    pub targets_allowed : AreAllowed roots told (filter_map local_name (node_targets world nodes))
     targets_allowed = record { each = led_to (λ at. (aim_at world nodes at).target) may_at (places nodes) }
 
     -- the documents that are used

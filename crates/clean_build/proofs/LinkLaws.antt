@@ -15,13 +15,15 @@ use Rattle.dita_doc.specs.declared.content.LinkKind.TheVariants as kinds
 use Rattle.dita_doc.specs.declared.content.PageLink.{PageLink}
 use Rattle.dita_doc.specs.declared.plan.PagePlan.{PagePlan}
 use Rattle.dita_doc.specs.declared.plan.Plan.{Plan}
+use Rattle.dita_doc.proofs.Lists.{filter_both}
+use Rattle.dita_doc.proofs.Tests.{and_swap}
 use Rattle.href_text.specs.Joined.{relative_path}
 use Rattle.map_spec.specs.Titles.{title_in}
 use Rattle.node_links.specs.NodeTable.{links_by_nodes, node_links}
 use Rattle.link_spec.specs.Links.{LinkTo, family_links, links_of_kind, page_link, page_links, row_links, to_each_once}
-use Rattle.part_spec.specs.Parts.{hrefs_once, links_of}
+use Rattle.part_spec.specs.Parts.{hrefs_once, all_page_links}
 use Rattle.reader_spec.specs.World.{World}
-use Rattle.clean_build.proofs.OnceLaws.{both_swap, filter_both, has_other, other_passes}
+use Rattle.clean_build.proofs.OnceLaws.{has_other, other_passes}
 
 -- A test of hrefs
 
@@ -31,7 +33,7 @@ by_href test link = test link.href
 -- links are tested before or after each is kept once
 filter_swap : {X : Type 0} (p q : X → Bool) (xs : List X) → filter p (filter q xs) ≡ filter q (filter p xs)
 filter_swap p q xs = filter_both p q (λ x. q x && p x) (λ x. refl) xs
-    ∙ sym (filter_both q p (λ x. q x && p x) (λ x. both_swap (p x) (q x)) xs)
+    ∙ sym (filter_both q p (λ x. q x && p x) (λ x. and_swap (p x) (q x)) xs)
 
 pub once_filtered : (test : List ℕ → Bool) (links : List PageLink)
     → filter (λ (link : PageLink). test link.href) (hrefs_once links)
@@ -192,7 +194,7 @@ nodes_are : (world : World) (plan : Plan) (index : ℕ) → links_by_nodes world
 nodes_are world plan index = refl
 
 pub links_once : (world : World) (plan : Plan) (index : ℕ) (own : List PageLink)
-    → hrefs_once (node_links world plan index ++ own) ≡ links_of world plan index own
+    → hrefs_once (node_links world plan index ++ own) ≡ all_page_links world plan index own
 links_once world plan index own =
     let start : hrefs_once (node_links world plan index ++ own)
     ≡ hrefs_once (page_links world plan index (links_by_nodes world plan index) ++ own) = refl in

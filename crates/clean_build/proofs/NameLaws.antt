@@ -15,8 +15,8 @@ use Rattle.readers.proofs.AmongLaws.{among_back, among_either, among_front}
 use Rattle.readers.proofs.FoundedLaws.{among_first, stays_after, stays_among, stays_one}
 use Rattle.readers.proofs.GrowthLaws.{grows_trans}
 use Rattle.toc_page.specs.Made.{contents_names}
-use Rattle.clean_build.specs.Names.{names_of, names_of_content, names_of_page, names_of_plan}
-use Rattle.clean_build.specs.declared.ground.Ground.{Ground}
+use Rattle.clean_build.specs.Names.{names_of_build, names_of_content, names_of_page, names_of_plan}
+use Rattle.clean_build.specs.declared.build_input.BuildInput.{BuildInput}
 
 -- Pages
 
@@ -88,7 +88,7 @@ stays_with after before about old new same stays =
 -- Calls, each about some of the names of a work, beside those of the nodes that its reader was made for
 
 module _ (front : List (List ℕ)) (old new : List Told) where
-  module _ (ground : Ground) where
+  module _ (ground : BuildInput) where
     abbrev plan : Plan
     plan = ground.plan.now
 
@@ -96,34 +96,36 @@ module _ (front : List (List ℕ)) (old new : List Told) where
     val = option_to_list (option_copied ground.val)
 
     among_plan : (m : List ℕ) → IsTrue (is_among (names_of_plan plan) m)
-        → IsTrue (is_among (front ++ names_of ground) m)
-    among_plan m among = among_back front (names_of ground) m (among_back val (names_of_plan plan) m among)
+        → IsTrue (is_among (front ++ names_of_build ground) m)
+    among_plan m among = among_back front (names_of_build ground) m (among_back val (names_of_plan plan) m among)
 
-    pub stays_links : StaysFounded (names_of_links plan) old new → StaysFounded (front ++ names_of ground) old new
-    stays_links = stays_among _ (front ++ names_of ground) old new (λ m among. among_plan m (of_links plan m among))
+    pub stays_links : StaysFounded (names_of_links plan) old new → StaysFounded (front ++ names_of_build ground) old new
+    stays_links = stays_among _ (front ++ names_of_build ground) old new
+        (λ m among. among_plan m (of_links plan m among))
 
-    pub stays_contents : StaysFounded (contents_names plan) old new → StaysFounded (front ++ names_of ground) old new
-    stays_contents = stays_among _ (front ++ names_of ground) old new
+    pub stays_contents : StaysFounded (contents_names plan) old new
+        → StaysFounded (front ++ names_of_build ground) old new
+    stays_contents = stays_among _ (front ++ names_of_build ground) old new
         (λ m among. among_plan m (of_contents plan m among))
 
     -- also of a page of the plan
     pub stays_page : (page : PagePlan) (at : ℕ) → slice_get plan.pages at ≡ Some page
-        → StaysFounded (front ++ (names_of_page page ++ names_of ground)) old new
-        → StaysFounded (front ++ names_of ground) old new
-    stays_page page at there = stays_among (front ++ (names_of_page page ++ names_of ground))
-        (front ++ names_of ground) old new
-        (λ m. among_after front (names_of_page page ++ names_of ground) (names_of ground) m
-        (among_either (names_of_page page) (names_of ground) m (IsTrue (is_among (names_of ground) m))
+        → StaysFounded (front ++ (names_of_page page ++ names_of_build ground)) old new
+        → StaysFounded (front ++ names_of_build ground) old new
+    stays_page page at there = stays_among (front ++ (names_of_page page ++ names_of_build ground))
+        (front ++ names_of_build ground) old new
+        (λ m. among_after front (names_of_page page ++ names_of_build ground) (names_of_build ground) m
+        (among_either (names_of_page page) (names_of_build ground) m (IsTrue (is_among (names_of_build ground) m))
         (λ here. among_back val (names_of_plan plan) m (of_page plan m at page there here)) (λ more. more)))
 
     -- and of the titles of its pages
     pub stays_titles : StaysFounded (map (λ (page : PagePlan). page.id.doc) plan.pages) old new
-        → StaysFounded (front ++ names_of ground) old new
-    stays_titles = stays_among _ (front ++ names_of ground) old new (λ m among. among_plan m
+        → StaysFounded (front ++ names_of_build ground) old new
+    stays_titles = stays_among _ (front ++ names_of_build ground) old new (λ m among. among_plan m
         (among_back (homes plan.nodes) (led plan m ++ used plan m) m (among_back (led plan m) (used plan m) m
         (among_back plan.documents (flat_map names_of_page plan.pages) m (docs_among plan.pages m among)))))
 
-  module _ (ground : Ground) (page : PagePlan) where
+  module _ (ground : BuildInput) (page : PagePlan) where
     abbrev own : List (List ℕ)
     own = names_of_page page
 
@@ -131,24 +133,24 @@ module _ (front : List (List ℕ)) (old new : List Told) where
     build = option_to_list (option_copied ground.val)
 
     abbrev all : List (List ℕ)
-    all = own ++ names_of ground
+    all = own ++ names_of_build ground
 
     pub stays_doc : StaysFounded (page.id.doc ∷ []) old new → StaysFounded (front ++ all) old new
     stays_doc = stays_one page.id.doc (front ++ all) old new (among_back front all page.id.doc
-        (among_front own (names_of ground) page.id.doc (among_first page.id.doc page.id.filters)))
+        (among_front own (names_of_build ground) page.id.doc (among_first page.id.doc page.id.filters)))
 
     pub stays_shown : StaysFounded (names_of_links ground.plan.now) old new → StaysFounded (front ++ all) old new
     stays_shown = stays_among _ (front ++ all) old new (λ m among. among_back front all m
-        (among_back own (names_of ground) m (among_back build (names_of_plan ground.plan.now) m
+        (among_back own (names_of_build ground) m (among_back build (names_of_plan ground.plan.now) m
         (of_links ground.plan.now m among))))
 
     content_among : (m : List ℕ) → IsTrue (is_among (names_of_content ground page) m) → IsTrue (is_among all m)
     content_among m among = ⊎_elim
         (λ here. or_left (bytes_eq page.id.doc m) _ here)
         (λ behind. among_either build page.id.filters m (IsTrue (is_among all m))
-        (λ given. among_back own (names_of ground) m (among_front build (names_of_plan ground.plan.now) m given))
+        (λ given. among_back own (names_of_build ground) m (among_front build (names_of_plan ground.plan.now) m given))
         (λ filters. or_right (bytes_eq page.id.doc m) _
-        (among_front page.id.filters (names_of ground) m filters)) behind)
+        (among_front page.id.filters (names_of_build ground) m filters)) behind)
         (or_cases (bytes_eq page.id.doc m) _ among)
 
     pub stays_content : StaysFounded (front ++ names_of_content ground page) old new
@@ -158,14 +160,14 @@ module _ (front : List (List ℕ)) (old new : List Told) where
 
 -- What is asked about for a page: its content, then its links by nodes, then its title
 
-module _ (front : List (List ℕ)) (ground : Ground) (page : PagePlan) (a b c : List Told) (grows : Grows a b)
+module _ (front : List (List ℕ)) (ground : BuildInput) (page : PagePlan) (a b c : List Told) (grows : Grows a b)
     (content : StaysFounded (front ++ names_of_content ground page) a b)
     (links : StaysFounded (names_of_links ground.plan.now) b c) where
-  pub stays_linked : StaysFounded (front ++ (names_of_page page ++ names_of ground)) a c
-  stays_linked = stays_after (front ++ (names_of_page page ++ names_of ground)) a b c grows
+  pub stays_linked : StaysFounded (front ++ (names_of_page page ++ names_of_build ground)) a c
+  stays_linked = stays_after (front ++ (names_of_page page ++ names_of_build ground)) a b c grows
       (stays_content front a b ground page content) (stays_shown front b c ground page links)
 
   pub stays_titled : (d : List Told) → Grows b c → StaysFounded (page.id.doc ∷ []) c d
-      → StaysFounded (front ++ (names_of_page page ++ names_of ground)) a d
-  stays_titled d further title = stays_after (front ++ (names_of_page page ++ names_of ground)) a c d
+      → StaysFounded (front ++ (names_of_page page ++ names_of_build ground)) a d
+  stays_titled d further title = stays_after (front ++ (names_of_page page ++ names_of_build ground)) a c d
       (grows_trans a b c grows further) stays_linked (stays_doc front c d ground page title)

@@ -1,34 +1,16 @@
 -- Links of which each href is kept once.
-use Rattle.std.specs.Prelude.{◌≡◌, ◌&&◌, ◌||◌, ℕ, Bool, true, false, not, List, [], ◌∷◌, ◌++◌, bytes_eq, filter, if◌then◌else◌}
+use Rattle.std.specs.Prelude.{◌≡◌, ◌&&◌, ℕ, Bool, true, false, not, List, [], ◌∷◌, ◌++◌, bytes_eq, filter, if◌then◌else◌}
 use Rattle.std.specs.List.{list_any}
 use Rattle.std.proofs.Common.{refl, sym, ap, ◌∙◌, append_assoc, arith, length}
 use Rattle.std.proofs.lemmas.Bool.{true≢false}
 use Rattle.std.proofs.lemmas.List.Folds.{list_any-append}
 use Rattle.std.proofs.lemmas.Slice.Eq.{bytes_eq-Decides}
 use Rattle.dita_doc.specs.declared.content.PageLink.{PageLink}
+use Rattle.dita_doc.proofs.Lists.{filter_both, filter_every}
+use Rattle.dita_doc.proofs.Tests.{and_swap, not_either}
 use Rattle.part_spec.specs.Parts.{hrefs_once}
 
 -- Tests
-
--- what two tests leave, by one that is both
-pub filter_both : {X : Type 0} (p q r : X → Bool) → ((x : X) → (q x && p x) ≡ r x) → (xs : List X)
-    → filter p (filter q xs) ≡ filter r xs
-filter_both p q r same [] = refl
-filter_both p q r same (x ∷ xs) = by_test (filter_both p q r same xs) (q x) (p x) refl refl
-  where
-    by_test : filter p (filter q xs) ≡ filter r xs → (a b : Bool) → q x ≡ a → p x ≡ b
-        → filter p (filter q (x ∷ xs)) ≡ filter r (x ∷ xs)
-    by_test behind true true e f =
-        let is : r x ≡ true = sym (same x) ∙ rw (e, f) refl in simp (e, f, is, behind) refl
-    by_test behind true false e f =
-        let is : r x ≡ false = sym (same x) ∙ rw (e, f) refl in simp (e, f, is, behind) refl
-    by_test behind false b e f =
-        let is : r x ≡ false = sym (same x) ∙ rw e refl in simp (e, is, behind) refl
-
--- a test that all pass
-pub filter_all : {X : Type 0} (p : X → Bool) → ((x : X) → p x ≡ true) → (xs : List X) → filter p xs ≡ xs
-filter_all p all [] = refl
-filter_all p all (x ∷ xs) = simp (all x, filter_all p all xs) refl
 
 -- The links that are first
 
@@ -51,18 +33,6 @@ other_passes test link fails other = by_test (test other.href) (bytes_eq other.h
     by_test true false e f = simp (e, f) refl
     by_test false b e f = simp e refl
 
-pub both_swap : (a b : Bool) → (a && b) ≡ (b && a)
-both_swap true true = refl
-both_swap true false = refl
-both_swap false true = refl
-both_swap false false = refl
-
-not_either : (a b : Bool) → (not b && not a) ≡ not (a || (b || false))
-not_either true true = refl
-not_either true false = refl
-not_either false true = refl
-not_either false false = refl
-
 new_behind : (before : List (List ℕ)) (link other : PageLink)
     → (has_other link other && is_new before other) ≡ is_new (before ++ link.href ∷ []) other
 new_behind before link other =
@@ -74,7 +44,7 @@ abbrev pub left_once : List (List ℕ) → List PageLink → List PageLink
 left_once before links = filter (is_new before) (hrefs_once links)
 
 pub left_all : (links : List PageLink) → left_once [] links ≡ hrefs_once links
-left_all links = filter_all (is_new []) (λ link. refl) (hrefs_once links)
+left_all links = filter_every (is_new []) (λ link. refl) (hrefs_once links)
 
 turned : (a b : Bool) → not a ≡ b → not b ≡ a
 turned true true e = absurd (true≢false (sym e))
@@ -107,7 +77,7 @@ module _ (before : List (List ℕ)) (link : PageLink) (links once whole : List P
   old_link is =
       let gone : is_new before link ≡ false = is_added ∙ is in
       ap (λ more. once ++ more) (sym (filter_both (is_new before) (has_other link) (is_new before)
-      (λ other. both_swap (has_other link other) (is_new before other)
+      (λ other. and_swap (has_other link other) (is_new before other)
       ∙ other_passes (λ href. not (list_any (bytes_eq href) before)) link gone other) (hrefs_once links))
       ∙ sym (first_left false gone)) ∙ so_far
 

@@ -6,7 +6,7 @@ use Rattle.std.proofs.Common.{refl, sym, ap, subst, ◌∙◌}
 use Rattle.conref_pull.specs.Resolved.{page_made, root_faults}
 use Rattle.conref_targets.specs.Rules as kept
 use Rattle.conref_targets.specs.Rules.{ditavals}
-use Rattle.conref_targets.specs.Setting as pulled
+use Rattle.conref_targets.specs.ResolveInput as pulled
 use Rattle.dita_doc.specs.declared.content.PageLink.{PageLink}
 use Rattle.dita_doc.specs.declared.content.Rule.{Rule}
 use Rattle.dita_doc.specs.declared.content.TermEntry.{TermEntry}

@@ -23,7 +23,7 @@ use Rattle.map_spec.specs.Pages.{contents_name}
 use Rattle.map_spec.specs.PlanOf.{limits, plan_of}
 use Rattle.map_spec.specs.Scopes.{places_from}
 use Rattle.link_spec.specs.Links.{row_faults}
-use Rattle.part_spec.specs.Parts.{build_by, clean_build, contents_part, faults_of, names_of, page_part, page_parts, parts_of, rooms, total_limit}
+use Rattle.part_spec.specs.Parts.{build_by, clean_build, contents_part, faults_of, names_of_pages, page_part, page_parts, parts_of, rooms, total_limit}
 use Rattle.reader_spec.specs.World.{World}
 use Rattle.clean_build.specs.Gathering.{AreAsGood, HasGathered, HasPages, HasPagesOf, HasPartsOf, IsBuilt, faults_before, faults_of_each}
 use Rattle.clean_build.specs.Made.{page_behind}
@@ -209,7 +209,7 @@ pages_named world name val plan is (page ∷ pages) before there = (
 )
 
 pub plan_named : (world : World) (name : List ℕ) (val : Option (List ℕ)) (plan : Plan)
-    → plan_of limits world name val ≡ Ok plan → AllByRecursion IsPageName (names_of plan)
+    → plan_of limits world name val ≡ Ok plan → AllByRecursion IsPageName (names_of_pages plan)
 plan_named world name val plan is = pages_named world name val plan is plan.pages 0 (λ at page found.
     let same : 0 + at ≡ at = omega arith in ap (slice_get plan.pages) same ∙ found)
 

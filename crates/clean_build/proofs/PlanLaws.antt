@@ -1,18 +1,17 @@
 -- What is known of the plan of a map, whatever its map: its nodes are those of a tree and carry their values, each page
 -- is the first for its own context and that of a document of topics, and no document stands in it twice.
-use Rattle.std.specs.Prelude.{◌≡◌, ◌++◌, ℕ, Bool, true, false, List, Option, Some, None, Result, Ok, Err, if◌then◌else◌}
+use Rattle.std.specs.Prelude.{◌≡◌, ◌++◌, ℕ, List, Option, Some, None, Ok}
 use Rattle.std.specs.List.{filter_map}
 use Rattle.std.proofs.Common.{refl, ap, subst, ◌∙◌}
 use Rattle.dita_doc.specs.declared.fault.Fault.{Fault}
 use Rattle.dita_doc.specs.declared.plan.Plan.{Plan}
-use Rattle.dita_doc.specs.declared.plan.PlanStop.{PlanStop}
 use Rattle.ditaval_rules.specs.declared.rules.RulesRead.{RulesRead}
 use Rattle.map_spec.specs.Branches.{branched}
 use Rattle.map_spec.specs.Cascade.{cascaded}
 use Rattle.map_spec.specs.Included.{included_from, is_map, root_in}
 use Rattle.map_spec.specs.Judged.{filtered}
 use Rattle.map_spec.specs.MapTree.{Grown, plan_nodes}
-use Rattle.map_spec.specs.Pages.{documents_of, pages_of, targets_of, used_at}
+use Rattle.map_spec.specs.Pages.{documents_of, pages_of, node_targets, used_at}
 use Rattle.map_spec.specs.PlanOf.{build_rules, grown_from, limits, plan_of, plan_of_map, plan_of_root, plan_of_tree, plan_with, then_plan}
 use Rattle.map_spec.specs.Scopes.{places}
 use Rattle.map_spec.specs.Written.{Whole}
@@ -22,6 +21,7 @@ use Rattle.plan_nodes.specs.Carried.{CarryValues}
 use Rattle.plan_nodes.specs.Preorder.{IsTree}
 use Rattle.reader_spec.specs.World.{World}
 use Rattle.build_plan.specs.Stages.{IsMapTree}
+use Rattle.build_plan.proofs.PlanPagesLaws.{if_done, steps_from}
 use Rattle.build_plan.proofs.TreeLaws.{copied_tree, filtered_tree, included_tree, one_root}
 use Rattle.toc_page.specs.Made.{AreOnce}
 use Rattle.build_plan.specs.PageNames.{IsItsOwn}
@@ -30,7 +30,7 @@ use Rattle.clean_build.proofs.TopicLaws.{AreOfTopics, pages_of_topics}
 
 -- what a plan names is what is defined of its own nodes
 pub record IsOfNodes (world : World) (plan : Plan) : Type 0 where
-  pub targets : plan.targets ≡ targets_of world plan.nodes
+  pub targets : plan.targets ≡ node_targets world plan.nodes
   pub documents : plan.documents ≡ documents_of world plan.nodes
   pub pages : plan.pages ≡ pages_of world plan.nodes
 
@@ -42,31 +42,13 @@ pub record IsPlanIn (world : World) (plan : Plan) : Type 0 where
   pub once : AreOnce plan.documents
   pub names : IsOfNodes world plan
 
--- a step that gave a plan had something to go on from
-record StepsFrom {X : Type 0} (before : Result X PlanStop) (next : X → Result Plan PlanStop) (plan : Plan)
-    : Type 0 where
-  pub from : X
-  pub was : before ≡ Ok from
-  pub gave : next from ≡ Ok plan
-
-steps_from : {X : Type 0} (before : Result X PlanStop) (next : X → Result Plan PlanStop) (plan : Plan)
-    → then_plan before next ≡ Ok plan → StepsFrom before next plan
-steps_from (Ok x) next plan is = record { from = x; was = refl; gave = is }
-steps_from (Err stop) next plan is = absurd (cc)
-
--- a plan that is given on a condition meets it
-given_if : {X : Type 0} (test : Bool) (made : Result X PlanStop) (stop : PlanStop) (x : X)
-    → (if test then made else Err stop) ≡ Ok x → made ≡ Ok x
-given_if true made stop x is = is
-given_if false made stop x is = absurd (cc)
-
 of_tree : (world : World) (before : List Fault) (grown : Grown) (plan : Plan) → IsMapTree grown.tree
     → plan_of_tree limits world before grown ≡ Ok plan → IsPlanIn world plan
 of_tree world before grown plan tree is =
     let nodes = cascaded world (plan_nodes grown.tree) in
     let made = plan_with world (before ++ grown.faults) nodes in
     let held = plan_made world (before ++ grown.faults) nodes in
-    let given = given_if _ (Ok made) _ plan is in
+    let given = if_done _ (Ok made) _ plan is in
     let same : made ≡ plan = cc in
     subst (IsPlanIn world) same (record {
       tree = record {
@@ -99,7 +81,7 @@ of_root : (world : World) (name : List ℕ) (val : Option (List ℕ)) (root : Op
     → root_in world name ≡ root → plan_of_root limits world name val root ≡ Ok plan → IsPlanIn world plan
 of_root world name val None plan there is = absurd (cc)
 of_root world name val (Some root) plan there is =
-    let given = given_if (is_map root) _ _ plan is in
+    let given = if_done (is_map root) _ _ plan is in
     let read = steps_from (build_rules world val)
     (λ read. then_plan (grown_from limits world name root) (plan_of_map limits world read)) plan given in
     let grown = steps_from (grown_from limits world name root) (plan_of_map limits world read.from) plan read.gave in

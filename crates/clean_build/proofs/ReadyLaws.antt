@@ -11,8 +11,8 @@ use Rattle.readers.specs.Setting.{Setting}
 use Rattle.reltable_links.specs.RowTable.{CanLink}
 use Rattle.toc_page.specs.Made as toc
 use Rattle.xref_links.specs.Here.{IsPageOf}
-use Rattle.clean_build.specs.Ground.{IsReady, context_for}
-use Rattle.clean_build.specs.declared.ground.Ground.{Ground}
+use Rattle.clean_build.specs.BuildInput.{IsReady, context_for}
+use Rattle.clean_build.specs.declared.build_input.BuildInput.{BuildInput}
 use Rattle.clean_build.proofs.PlanLaws.{IsPlanIn, plan_facts}
 
 -- a premise of what was made
@@ -21,7 +21,7 @@ pub ok_under : {X E R : Type 0} (result : Result X E) (Q : X → Type 0) → (R 
 ok_under (Ok x) Q holds = holds
 ok_under (Err e) Q holds = tt
 
-module _ (world : World) (ground : Ground) (setting : Setting) (ready : IsReady world ground setting) where
+module _ (world : World) (ground : BuildInput) (setting : Setting) (ready : IsReady world ground setting) where
   facts : IsPlanIn world ground.plan.now
   facts = plan_facts world ground.map.now (option_copied ground.val) ground.plan.now ready.is
 

@@ -5,14 +5,15 @@ use Rattle.std.proofs.Common.{refl, sym, ap, subst, ◌∙◌, append-nil, arith
 use Rattle.std.proofs.Math.Logic.{⊎_elim}
 use Rattle.std.proofs.lemmas.Bool.{and_from, and_parts, true≢false}
 use Rattle.std.proofs.lemmas.Bool.Decides.{nat_tests}
+use Rattle.std.proofs.lemmas.Map.Keys.{any_passes_from_place}
 use Rattle.dita_doc.specs.declared.fault.Fault.{Fault}
 use Rattle.dita_doc.specs.declared.plan.PagePlan.{PagePlan}
 use Rattle.dita_doc.specs.declared.plan.Plan.{Plan}
 use Rattle.fault_report.specs.Report.{IsAmong}
 use Rattle.map_spec.specs.Pages.{local_name}
 use Rattle.map_spec.specs.Scopes.{places}
-use Rattle.link_spec.specs.Links.{cell_of, has_page, lost_in, row_faults, rows, target_of}
-use Rattle.reltable_links.proofs.ListLaws.{any_here, any_where}
+use Rattle.link_spec.specs.Links.{cell_of, has_page, lost_in, row_faults, rows, plan_target}
+use Rattle.reltable_links.proofs.ListLaws.{any_where}
 use Rattle.reltable_links.specs.CellTable.{is_below, is_lost, is_lost_below}
 use Rattle.reltable_links.specs.RowTable.{cell_faults, lost_fault}
 use Rattle.clean_build.specs.Gathering.{AreAsGood, faults_before, faults_of_each}
@@ -95,11 +96,11 @@ stays test (first ∷ numbers) (suc at) number is holds =
 
 module _ (plan : Plan) (fault : Fault) where
   -- a fault of a node has a document that it leads to
-  named : (at : ℕ) → IsAmong fault (lost_fault plan at) → is_some (local_name (target_of plan at)) ≡ true
-  named at among = by_name (local_name (target_of plan at)) refl among
+  named : (at : ℕ) → IsAmong fault (lost_fault plan at) → is_some (local_name (plan_target plan at)) ≡ true
+  named at among = by_name (local_name (plan_target plan at)) refl among
     where
-      by_name : (name : Option (List ℕ)) → local_name (target_of plan at) ≡ name
-          → IsAmong fault (lost_fault plan at) → is_some (local_name (target_of plan at)) ≡ true
+      by_name : (name : Option (List ℕ)) → local_name (plan_target plan at) ≡ name
+          → IsAmong fault (lost_fault plan at) → is_some (local_name (plan_target plan at)) ≡ true
       by_name None e is = let none : lost_fault plan at ≡ [] = rw e refl in
           absurd (subst (IsAmong fault) none is)
       by_name (Some name) e is = ap is_some e
@@ -117,7 +118,7 @@ module _ (plan : Plan) (fault : Fault) where
       by_test true e is =
           let parts = and_parts (is_some (cell_of plan row at)) (not (has_page plan at)) e in record {
             below = parts.0;
-            lost = and_from (is_some (local_name (target_of plan at))) (not (has_page plan at)) (named at is) parts.1;
+            lost = and_from (is_some (local_name (plan_target plan at))) (not (has_page plan at)) (named at is) parts.1;
             among = is;
           }
       by_test false e is = absurd is
@@ -125,7 +126,7 @@ module _ (plan : Plan) (fault : Fault) where
   lost_again : (row at : ℕ) → is_some (cell_of plan row at) ≡ true → is_lost plan at ≡ true
       → IsAmong fault (lost_fault plan at) → IsAmong fault (lost_in plan row at)
   lost_again row at below lost among =
-      let parts = and_parts (is_some (local_name (target_of plan at))) (not (has_page plan at)) lost in
+      let parts = and_parts (is_some (local_name (plan_target plan at))) (not (has_page plan at)) lost in
       let both = and_from (is_some (cell_of plan row at)) (not (has_page plan at)) below parts.1 in
       subst (λ b. IsAmong fault (if b then lost_fault plan at else [])) (sym both) among
 
@@ -134,7 +135,7 @@ module _ (plan : Plan) (fault : Fault) where
       let in_row = given_by (λ row. flat_map (lost_in plan row) (places plan.nodes)) (rows plan) fault among in
       let node = given_by (lost_in plan in_row.number) (places plan.nodes) fault in_row.among in
       let lost = lost_from in_row.number node.number node.among in
-      let below = any_here (λ row. is_some (cell_of plan row node.number)) (rows plan) in_row.at in_row.number in_row.is
+      let below = any_passes_from_place (λ row. is_some (cell_of plan row node.number)) (rows plan) in_row.at in_row.number in_row.is
       lost.below in
       let kept = stays (is_lost_below plan) (places plan.nodes) node.at node.number node.is
       (and_from (is_below plan node.number) (is_lost plan node.number) below lost.lost) in

@@ -13,11 +13,11 @@ use Rattle.dita_doc.specs.declared.plan.Plan.{Plan}
 use Rattle.map_spec.specs.PlanOf.{limits, plan_of}
 use Rattle.part_spec.specs.Parts.{page_content, rooms}
 use Rattle.reader_spec.specs.World.{World}
-use Rattle.clean_build.specs.Ground.{IsReady}
+use Rattle.clean_build.specs.BuildInput.{IsReady}
 use Rattle.clean_build.specs.Made.{MakesContent}
 use Rattle.clean_build.specs.Single.{MakesPart, part_html}
 use Rattle.clean_build.specs.Tables.{made_for}
-use Rattle.clean_build.specs.declared.ground.Ground.{Ground}
+use Rattle.clean_build.specs.declared.build_input.BuildInput.{BuildInput}
 use Rattle.clean_build.specs.declared.resolved.ContentWork.{ContentWork}
 use Rattle.clean_build.specs.declared.single_parts.PartWork.{PartWork}
 
@@ -41,7 +41,7 @@ pub ok_same : {X E : Type 0} (one other : X) → ◌≡◌ {A = Result X E} (Ok 
 ok_same one other is = cc
 
 -- what is ready for the plan that was found is ready for this one
-ready_for : (world : World) (ground : Ground) (plan : Plan)
+ready_for : (world : World) (ground : BuildInput) (plan : Plan)
     → plan_of limits world ground.map.now (option_copied ground.val) ≡ Ok plan → ground.plan.now ≡ plan
     → IsReady world ground (made_for ground.plan.now)
 ready_for world ground plan is same = record { is = is ∙ ap (λ (p : Plan). Ok p) (sym same); made = refl }

@@ -4,25 +4,25 @@ use Rattle.std.specs.Arc.{arc_value}
 use Rattle.std.specs.List.{All}
 use Rattle.std.specs.declared.alloc.Global.{Global}
 use Rattle.std.specs.declared.sync.Arc.{Arc}
-use Rattle.build_spec.specs.Built.{Built, Page, Done, Stopped, TooLarge}
+use Rattle.build_spec.specs.Built.{BuildOutcome, Page, Done, Stopped, TooLarge}
 use Rattle.build_plan.specs.PageNames.{IsPageName}
 use Rattle.clean_build.specs.declared.built.Clean.{Clean}
 use Rattle.clean_build.specs.declared.built.Clean.TheVariants as given
 use Rattle.dita_doc.specs.declared.fact.Html.{Html}
 
 -- a page as it was made
-abbrev pub Made : Type 0
-Made = List ℕ × Arc Html Global
+abbrev pub MadePage : Type 0
+MadePage = List ℕ × Arc Html Global
 
-abbrev pub page_seen : Made → Page
+abbrev pub page_seen : MadePage → Page
 page_seen page = (page.0, (arc_value page.1).bytes)
 
-abbrev pub clean_seen : Clean → Built
+abbrev pub clean_seen : Clean → BuildOutcome
 clean_seen (given.Done pages faults) = Done (map page_seen pages) faults
 clean_seen (given.Stopped stop) = Stopped stop
 clean_seen (given.TooLarge total) = TooLarge total
 
-abbrev pub HasPageName : Made → Type 0
+abbrev pub HasPageName : MadePage → Type 0
 HasPageName page = IsPageName page.0
 
 -- each page that is given has the name of a page

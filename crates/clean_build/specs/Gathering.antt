@@ -11,7 +11,7 @@ use Rattle.dita_doc.specs.declared.plan.PagePlan.{PagePlan}
 use Rattle.dita_doc.specs.declared.plan.Plan.{Plan}
 use Rattle.fault_report.specs.Report.{IsAmong}
 use Rattle.link_spec.specs.Links.{row_faults}
-use Rattle.part_spec.specs.Parts.{build_of, names_of, page_parts, pages_with, parts_of, rooms, total_limit, total_of}
+use Rattle.part_spec.specs.Parts.{build_of, names_of_pages, page_parts, pages_with, parts_of, rooms, total_limit, total_of}
 use Rattle.reader_spec.specs.World.{World}
 use Rattle.clean_build.specs.declared.gathered.Gathered.{Gathered}
 
@@ -55,11 +55,11 @@ HasPagesOf world plan val count gathered = HasParts plan
 
 -- all of them were put, and the contents page behind them
 abbrev pub HasPartsOf : World → Plan → Option (List ℕ) → Gathered → Type 0
-HasPartsOf world plan val gathered = HasParts plan (names_of plan) (parts_of rooms world plan val) gathered
+HasPartsOf world plan val gathered = HasParts plan (names_of_pages plan) (parts_of rooms world plan val) gathered
 
 -- The build
 
 -- the build of a plan of these parts; where the plan's names are names of pages, so are those that it gives
 pub record IsBuilt (plan : Plan) (parts : List Html) (clean : Clean) : Type 0 where
   pub built : clean_seen clean ≡ build_of total_limit plan parts
-  pub names : AllByRecursion IsPageName (names_of plan) → HasPageNames clean
+  pub names : AllByRecursion IsPageName (names_of_pages plan) → HasPageNames clean

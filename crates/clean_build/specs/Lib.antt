@@ -1,7 +1,7 @@
 pub mod Bodies
 pub mod Clean
 pub mod Gathering
-pub mod Ground
+pub mod BuildInput
 pub mod Made
 pub mod Names
 pub mod Single

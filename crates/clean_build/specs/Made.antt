@@ -17,11 +17,11 @@ use Rattle.node_links.specs.declared.table.NodeLinks.{NodeLinks}
 use Rattle.html_spec.specs.Anchors.{element_links}
 use Rattle.conref_spec.specs.Content.{Made}
 use Rattle.html_spec.specs.PageHtml.{page_within}
-use Rattle.part_spec.specs.Parts.{Rooms, content_of_page, content_of_root, contents_part, here_of, links_of, no_html, page_content, page_rules, rooms}
+use Rattle.part_spec.specs.Parts.{Rooms, content_of_page, content_of_root, contents_part, here_of, all_page_links, no_html, page_content, page_rules, rooms}
 use Rattle.reader_spec.specs.World.{World}
 use Rattle.readers.specs.Setting.{Setting}
 use Rattle.clean_build.specs.Bodies.{AreKnown, body_of, content_of, rules_for, terms_wanted}
-use Rattle.clean_build.specs.Ground.{IsReady, context_for}
+use Rattle.clean_build.specs.BuildInput.{IsReady, context_for}
 use Rattle.clean_build.specs.declared.resolved.ContentWork.{ContentWork}
 use Rattle.clean_build.specs.declared.works.ContentsWork.{ContentsWork}
 use Rattle.clean_build.specs.declared.works.LinksWork.{LinksWork}
@@ -69,7 +69,7 @@ abbrev pub page_at : Rooms → World → Plan → ℕ → PagePlan → List Faul
 page_at room world plan index page behind name line rules made =
     let here = here_of world plan page index in
     page_within room.bytes name line (title_in world page.id.doc []) (body_of here rules behind made)
-    (links_of world plan index (element_links here made.nodes))
+    (all_page_links world plan index (element_links here made.nodes))
 
 abbrev pub page_of_root : Rooms → World → Plan → Option (List ℕ) → ℕ → PagePlan → List Fault → Whole → Html
 page_of_root room world plan val index page behind root =

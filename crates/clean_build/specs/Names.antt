@@ -7,7 +7,7 @@ use Rattle.dita_doc.specs.declared.plan.PagePlan.{PagePlan}
 use Rattle.dita_doc.specs.declared.plan.Plan.{Plan}
 use Rattle.map_spec.specs.Pages.{local_name}
 use Rattle.readers.specs.Founded.{homes}
-use Rattle.clean_build.specs.declared.ground.Ground.{Ground}
+use Rattle.clean_build.specs.declared.build_input.BuildInput.{BuildInput}
 use Rattle.clean_build.specs.declared.resolved.ContentWork.{ContentWork}
 use Rattle.clean_build.specs.declared.works.ContentsWork.{ContentsWork}
 use Rattle.clean_build.specs.declared.works.LinksWork.{LinksWork}
@@ -23,26 +23,26 @@ names_of_plan plan = homes plan.nodes ++ (filter_map local_name plan.targets
     ++ (plan.documents ++ flat_map names_of_page plan.pages))
 
 -- and the DITAVAL of the build
-abbrev pub names_of : Ground → List (List ℕ)
-names_of given = option_to_list (option_copied given.val) ++ names_of_plan given.plan.now
+abbrev pub names_of_build : BuildInput → List (List ℕ)
+names_of_build given = option_to_list (option_copied given.val) ++ names_of_plan given.plan.now
 
 -- the document of a page and the DITAVALs by which its content is filtered
-abbrev pub names_of_content : Ground → PagePlan → List (List ℕ)
+abbrev pub names_of_content : BuildInput → PagePlan → List (List ℕ)
 names_of_content given page = page.id.doc ∷ ditavals (option_copied given.val) page.id.filters
 
 -- What each work is about
 
 abbrev pub about_links : LinksWork → List (List ℕ)
-about_links work = names_of work.ground
+about_links work = names_of_build work.ground
 
 abbrev pub about_contents : ContentsWork → List (List ℕ)
-about_contents work = names_of work.ground
+about_contents work = names_of_build work.ground
 
 abbrev pub about_content : ContentWork → List (List ℕ)
-about_content work = names_of work.ground
+about_content work = names_of_build work.ground
 
 abbrev pub about_page : PageWork → List (List ℕ)
-about_page work = names_of_page work.page.now ++ names_of work.ground
+about_page work = names_of_page work.page.now ++ names_of_build work.ground
 
 -- What each work asks for as a whole
 
@@ -56,7 +56,7 @@ abbrev pub documents_of_page : PageWork → List (List ℕ)
 documents_of_page work = names_of_content work.ground work.page.now
 
 -- the content of the page at an index, if there is one
-abbrev pub names_at : Ground → ℕ → List (List ℕ)
+abbrev pub names_at : BuildInput → ℕ → List (List ℕ)
 names_at given index = option_map_or (names_of_content given) (slice_get given.plan.now.pages index) []
 
 abbrev pub documents_of_content : ContentWork → List (List ℕ)

@@ -12,7 +12,7 @@ use Rattle.reader_spec.specs.World.{World, world_of}
 use Rattle.readers.specs.Setting.{Setting}
 use Rattle.readers.specs.Told.{Told, Knows}
 use Rattle.clean_build.specs.declared.build_tables.BuildTables.{BuildTables}
-use Rattle.clean_build.specs.declared.over_sources.Lasting.{Lasting}
+use Rattle.clean_build.specs.declared.over_sources.BuildCache.{BuildCache}
 
 -- what the readers of a plan's parts are made for
 abbrev pub made_for : Plan → Setting
@@ -27,6 +27,6 @@ pub record AreTables (told : List Told) (plan : Plan) (tables : BuildTables) : T
   pub given : WereAllowed told plan.documents
 
 -- the sources are those of this world, and each document that was made with the pushes of these documents is so in it
-pub record GoesOn (world : World) (documents : List (List ℕ)) (lasting : Lasting) : Type 0 where
+pub record GoesOn (world : World) (documents : List (List ℕ)) (lasting : BuildCache) : Type 0 where
   pub sources : world_of lasting.known.sources.now ≡ world
   pub kept : AreKept world documents lasting.docs

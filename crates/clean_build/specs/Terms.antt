@@ -14,7 +14,7 @@ use Rattle.reader_spec.specs.World.{World}
 use Rattle.readers.specs.Setting.{Setting}
 use Rattle.clean_build.specs.Bodies.{terms_wanted}
 use Rattle.clean_build.specs.Made.{number_wanted}
-use Rattle.clean_build.specs.Names.{names_of}
+use Rattle.clean_build.specs.Names.{names_of_build}
 use Rattle.clean_build.specs.declared.terms.TermsWork.{TermsWork}
 
 -- Terms, if they are wanted
@@ -56,4 +56,4 @@ MakesTerms work world setting made =
     made ≡ terms_html work.terms.now work.ground.plan.now (page_titles world work.ground.plan.now)
 
 abbrev pub about_terms : TermsWork → List (List ℕ)
-about_terms work = names_of work.ground
+about_terms work = names_of_build work.ground

@@ -11,14 +11,14 @@ use conref_push::PushTable;
 use dita_doc::{NoMemory, Plan};
 use key_scopes::ScopeTable;
 use page_table::PageTable;
-use plan_nodes::Homes;
+use plan_nodes::NodeElements;
 use readers::Reader;
 use std::alloc::Global;
 
 /// The elements and the scopes of a plan's nodes, the pushes of its documents, and its pages.
 #[derive(Drop)]
 pub(crate) struct BuildTables {
-    pub homes: Homes,
+    pub homes: NodeElements,
     pub scopes: ScopeTable,
     pub pushes: PushTable,
     pub pages: PageTable,
@@ -30,7 +30,7 @@ impl BuildTables {
         alloc: Global,
         reader: &mut R,
         plan: &Plan,
-        homes: Homes,
+        homes: NodeElements,
         scopes: ScopeTable,
     ) -> Result<BuildTables, NoMemory>
         requires ready { AreReady (R.told reader.old) plan.now.nodes homes }

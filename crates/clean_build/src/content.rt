@@ -8,7 +8,7 @@ ghost use Rattle.clean_build.specs.Tables.{made_for};
 ghost use Rattle.conref_targets.specs.Asking as asking_spec;
 ghost use Rattle.conref_pull.specs.Resolved.{IsResolved};
 ghost use Rattle.conref_targets.specs.Rules.{AreRules, HasAll, ditavals};
-ghost use Rattle.conref_targets.specs.Setting.{documents_in};
+ghost use Rattle.conref_targets.specs.ResolveInput.{documents_in};
 ghost use Rattle.conref_targets.specs.Tables.{AreTables};
 ghost use Rattle.dita_doc.specs.declared.plan.Plan.{Plan};
 ghost use Rattle.doc_maker.specs.Made as resolved_spec;

@@ -18,7 +18,7 @@ use std::alloc::Global;
 
 /// The plan of a map, and the tables of its parts.
 #[derive(Drop)]
-pub(crate) struct Found {
+pub(crate) struct PlanWithTables {
     pub plan: Plan,
     pub tables: BuildTables,
 }
@@ -29,7 +29,7 @@ pub(crate) fn find_plan<T: Titles>(
     asker: &mut T,
     map: &Name,
     val: Option<&Name>,
-) -> Result<Option<Found>, NoMemory>
+) -> Result<Option<PlanWithTables>, NoMemory>
     ensures known { (world : World) (plan : plan_declared.Plan) → Agrees world (T.told asker.new)
         → plan_spec.plan_of plan_spec.limits world map.now (option_copied val.entry) ≡ Ok plan
         → IfOk result (single_spec.IsPlanFound plan) }
@@ -48,5 +48,5 @@ pub(crate) fn find_plan<T: Titles>(
         Err(Stop::NoMemory) => return Err(NoMemory),
     };
     let tables = BuildTables::of(alloc, asker, &plan, homes, table)?;
-    Ok(Some(Found { plan, tables }))
+    Ok(Some(PlanWithTables { plan, tables }))
 }

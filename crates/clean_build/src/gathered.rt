@@ -106,7 +106,7 @@ impl Gathered {
     pub fn finish(self, alloc: Global) -> Result<Clean, NoMemory>
         ensures { (plan : plan_declared.Plan) (parts : List html_declared.Html)
             (faults : List fault_declared.Fault)
-            → HasGathered (parts_spec.names_of plan) parts faults self
+            → HasGathered (parts_spec.names_of_pages plan) parts faults self
             → AreAsGood faults (parts_spec.faults_of plan parts)
             → IfOk result (gathering_spec.IsBuilt plan parts) }
     {

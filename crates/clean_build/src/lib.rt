@@ -7,12 +7,12 @@
 #![tactic(auto, using(crate::proofs::Putting::putting))]
 
 mod body;
+mod build_input;
 mod build_tables;
 mod built;
 mod content;
 mod found;
 mod gathered;
-mod ground;
 mod hrefs;
 mod over_plan;
 mod over_sources;

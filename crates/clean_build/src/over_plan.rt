@@ -15,12 +15,12 @@ use crate::build_tables::BuildTables;
 use dita_doc::{NoMemory, Plan};
 use plan_layer::PlanLayer;
 use pushed_docs::{PushedDocs, PushedMemo};
-use readers::{Asker, Keys, Questions, Since};
+use readers::{Asker, Keys, LogStart, Questions};
 use std::alloc::Global;
 use std::marker::{Brand, PhantomData};
 
 /// What is made over a reader that knows a plan. It leaves the reader where it stood.
-pub(crate) trait PlanWork {
+pub(crate) trait PlanTask {
     type Made;
 
     /// What is made in a world by a reader that was made for this.
@@ -49,7 +49,7 @@ pub(crate) trait PlanWork {
 
 /// Does a work over a plan, which is laid over a reader that knows the keys of its nodes. The work
 /// has a list of questions of its own.
-pub(crate) fn over_plan<K: Keys, W: PlanWork>(
+pub(crate) fn over_plan<K: Keys, W: PlanTask>(
     alloc: Global,
     keys: &mut K,
     plan: &Plan,
@@ -73,7 +73,7 @@ pub(crate) fn over_plan<K: Keys, W: PlanWork>(
 }
 
 // The same since a start.
-fn plan_since<K: Keys, S: Since, W: PlanWork>(
+fn plan_since<K: Keys, S: LogStart, W: PlanTask>(
     alloc: Global,
     keys: &mut K,
     plan: &Plan,
@@ -111,7 +111,7 @@ fn plan_since<K: Keys, S: Since, W: PlanWork>(
 }
 
 // What the layer keeps of the reader below and of the documents.
-fn plan_under<'r, 'q, 'm, 'd, 'n, K: Keys, S: Since, W: PlanWork>(
+fn plan_under<'r, 'q, 'm, 'd, 'n, K: Keys, S: LogStart, W: PlanTask>(
     alloc: Global,
     layer: &mut PlanLayer<'r, 'q, 'm, 'd, 'n, K, S>,
     work: W,

@@ -7,12 +7,12 @@ ghost use Rattle.reader_spec.specs.World.{World};
 ghost use Rattle.readers.specs.Told.{Agrees};
 
 use crate::build_tables::BuildTables;
-use crate::over_plan::PlanWork;
+use crate::over_plan::PlanTask;
 use crate::over_titles::over_titles;
 use dita_doc::{NoMemory, Plan};
 use later_reader::LaterReader;
 use pushed_docs::PushedDocs;
-use readers::{Since, Titles};
+use readers::{LogStart, Titles};
 use source_reader::{KnownTitles, SourceReader};
 use std::alloc::Global;
 use std::marker::PhantomData;
@@ -20,27 +20,27 @@ use std::marker::PhantomData;
 /// What goes on from one part of a build to the next: the sources with the titles that are known,
 /// and the documents that were made with the pushes into them. No question is among them.
 #[derive(Drop)]
-pub(crate) struct Lasting<'a> {
+pub(crate) struct BuildCache<'a> {
     pub known: KnownTitles<'a>,
     pub docs: PushedDocs,
 }
 
 /// Does a work over a plan by a reader of its own, whose questions are let go with it. The tables
 /// are known by what was told before: the sources give each of these answers.
-pub(crate) fn over_sources<'a, S: Since, W: PlanWork>(
+pub(crate) fn over_sources<'a, S: LogStart, W: PlanTask>(
     alloc: Global,
-    lasting: Lasting<'a>,
+    lasting: BuildCache<'a>,
     plan: &Plan,
     tables: &BuildTables,
     work: W,
-) -> Result<(W::Made, Lasting<'a>), NoMemory>
+) -> Result<(W::Made, BuildCache<'a>), NoMemory>
     requires agreed { Agrees S.stand.world S.told }
     requires tables { AreTables S.told plan.now tables.now }
     requires goes_on { GoesOn S.stand.world plan.now.documents lasting }
     ensures made { IfOk result (λ done. W.makes work S.stand.world (made_for plan.now) done.0) }
     ensures goes_on { IfOk result (λ done. GoesOn S.stand.world plan.now.documents done.1) }
 {
-    let Lasting { known, mut docs } = lasting;
+    let BuildCache { known, mut docs } = lasting;
     let mut reader = SourceReader::new(alloc, known);
     let made = over_later::<SourceReader<'_>, S, W>(
         alloc,
@@ -51,11 +51,11 @@ pub(crate) fn over_sources<'a, S: Since, W: PlanWork>(
         work,
     )?;
     let (_, known) = reader.into_asked();
-    Ok((made, Lasting { known, docs }))
+    Ok((made, BuildCache { known, docs }))
 }
 
 // The same over a reader that was told nothing.
-fn over_later<T: Titles, S: Since, W: PlanWork>(
+fn over_later<T: Titles, S: LogStart, W: PlanTask>(
     alloc: Global,
     reader: &mut T,
     plan: &Plan,
@@ -79,7 +79,7 @@ fn over_later<T: Titles, S: Since, W: PlanWork>(
 }
 
 // What the later reader keeps of the reader below.
-fn later_under<'r, T: Titles, S: Since, W: PlanWork>(
+fn later_under<'r, T: Titles, S: LogStart, W: PlanTask>(
     alloc: Global,
     later: &mut LaterReader<'r, T, S>,
     plan: &Plan,

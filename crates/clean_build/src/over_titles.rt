@@ -9,17 +9,17 @@ ghost use Rattle.readers.specs.Founded.{Grows, StaysFounded};
 ghost use Rattle.readers.specs.Told.{Agrees};
 
 use crate::build_tables::BuildTables;
-use crate::over_plan::{PlanWork, over_plan};
+use crate::over_plan::{PlanTask, over_plan};
 use dita_doc::{NoMemory, Plan};
 use key_layer::{KeyLayer, KeyMemo};
 use pushed_docs::PushedDocs;
-use readers::{Questions, Since, Titles};
+use readers::{LogStart, Questions, Titles};
 use std::alloc::Global;
 use std::marker::{Brand, PhantomData};
 
 /// Does a work over a plan, which is laid over a reader with the keys of its nodes. Keys and plan
 /// have lists of questions of their own, and answers to keys are kept for this work alone.
-pub(crate) fn over_titles<T: Titles, W: PlanWork>(
+pub(crate) fn over_titles<T: Titles, W: PlanTask>(
     alloc: Global,
     titles: &mut T,
     plan: &Plan,
@@ -41,7 +41,7 @@ pub(crate) fn over_titles<T: Titles, W: PlanWork>(
 }
 
 // The same since a start.
-fn keys_since<T: Titles, S: Since, W: PlanWork>(
+fn keys_since<T: Titles, S: LogStart, W: PlanTask>(
     alloc: Global,
     titles: &mut T,
     plan: &Plan,
@@ -76,7 +76,7 @@ fn keys_since<T: Titles, S: Since, W: PlanWork>(
 }
 
 // What the layer keeps of the reader below.
-fn keys_under<'r, 'q, 'm, 'n, T: Titles, S: Since, W: PlanWork>(
+fn keys_under<'r, 'q, 'm, 'n, T: Titles, S: LogStart, W: PlanTask>(
     alloc: Global,
     layer: &mut KeyLayer<'r, 'q, 'm, 'n, T, S>,
     plan: &Plan,

@@ -4,7 +4,7 @@ ghost use Rattle.std.specs.Prelude.{◌≡◌, ◌++◌, Ok, IfOk};
 ghost use Rattle.std.specs.Option.{option_copied};
 ghost use Rattle.build_plan.specs.Documents as documents_spec;
 ghost use Rattle.clean_build.specs.Bodies.{content_of};
-ghost use Rattle.clean_build.specs.Ground.{IsReady, context_for};
+ghost use Rattle.clean_build.specs.BuildInput.{IsReady, context_for};
 ghost use Rattle.clean_build.specs.Made as made_spec;
 ghost use Rattle.clean_build.specs.Names as names_spec;
 ghost use Rattle.conref_targets.specs.Asking as asking_spec;
@@ -18,10 +18,10 @@ ghost use Rattle.readers.specs.Founded as founded_spec;
 ghost use Rattle.readers.specs.Founded.{Grows, StaysFounded};
 ghost use Rattle.readers.specs.Told.{Agrees};
 
+use crate::build_input::BuildInput;
 use crate::content::resolved_for;
-use crate::found::{Found, find_plan};
-use crate::ground::Ground;
-use crate::over_plan::PlanWork;
+use crate::found::{PlanWithTables, find_plan};
+use crate::over_plan::PlanTask;
 use crate::over_titles::over_titles;
 use crate::root::root_line;
 use conref_pull::Tables;
@@ -75,11 +75,11 @@ fn resolved_of_plan<T: Titles>(
     ensures stand { T.stand asker.new ≡ T.stand asker.old }
     ensures grows { Grows (T.told asker.old) (T.told asker.new) }
 {
-    let Some(Found { plan, tables }) = find_plan(alloc, asker, map, val)? else {
+    let Some(PlanWithTables { plan, tables }) = find_plan(alloc, asker, map, val)? else {
         return Ok(no_content(alloc));
     };
     let mut docs = PushedDocs::new(alloc);
-    let ground = Ground {
+    let ground = BuildInput {
         map,
         val,
         plan: &plan,
@@ -91,11 +91,11 @@ fn resolved_of_plan<T: Titles>(
 // The content of the page at an index. It is empty if its document is not stored.
 #[derive(Clone, Copy)]
 struct ContentWork<'p> {
-    ground: Ground<'p>,
+    ground: BuildInput<'p>,
     index: u32,
 }
 
-impl<'p> PlanWork for ContentWork<'p> {
+impl<'p> PlanTask for ContentWork<'p> {
     ghost use Rattle.clean_build.specs.Made as made_spec;
     ghost use Rattle.clean_build.specs.Names as names_spec;
     ghost use Rattle.conref_targets.specs.Asking as asking_spec;
@@ -122,7 +122,7 @@ impl<'p> PlanWork for ContentWork<'p> {
 fn content_of_page<A: Asker>(
     alloc: Global,
     asker: &mut A,
-    ground: Ground<'_>,
+    ground: BuildInput<'_>,
     page: &PagePlan,
 ) -> Result<Resolved, NoMemory>
     ensures known { (world : World) → Agrees world (A.told asker.new)
@@ -130,7 +130,7 @@ fn content_of_page<A: Asker>(
         → IfOk result (λ resolved. IsResolved resolved (made_spec.page_content_of world
         ground.entry.plan.now (option_copied ground.entry.val) page.now)) }
     ensures founded { StaysFounded (founded_spec.homes (A.stand asker.old).setting.nodes
-        ++ (names_spec.names_of_page page.now ++ names_spec.names_of ground.entry))
+        ++ (names_spec.names_of_page page.now ++ names_spec.names_of_build ground.entry))
         (A.told asker.old) (A.told asker.new) }
     ensures asks { AsksOnly asking_spec.of_content
         (names_spec.names_of_content ground.entry page.now) (A.told asker.old) (A.told asker.new) }
@@ -147,7 +147,7 @@ fn content_of_page<A: Asker>(
 fn content_on_ground<A: Asker>(
     alloc: Global,
     asker: &mut A,
-    ground: Ground<'_>,
+    ground: BuildInput<'_>,
     page: &PagePlan,
 ) -> Result<Resolved, NoMemory>
     ensures known { (world : World) → Agrees world (A.told asker.new)

@@ -2,7 +2,7 @@
 
 ghost use Rattle.std.specs.Prelude.{◌≡◌, ◌++◌, Ok, IfOk};
 ghost use Rattle.std.specs.Option.{option_copied};
-ghost use Rattle.clean_build.specs.Ground.{IsReady};
+ghost use Rattle.clean_build.specs.BuildInput.{IsReady};
 ghost use Rattle.clean_build.specs.Names as names_spec;
 ghost use Rattle.clean_build.specs.Single as single_spec;
 ghost use Rattle.build_plan.specs.Documents as documents_spec;
@@ -18,9 +18,9 @@ ghost use Rattle.readers.specs.Founded.{Grows, StaysFounded};
 ghost use Rattle.readers.specs.Told.{Agrees};
 
 use crate::body::no_html;
-use crate::found::{Found, find_plan};
-use crate::ground::Ground;
-use crate::over_plan::PlanWork;
+use crate::build_input::BuildInput;
+use crate::found::{PlanWithTables, find_plan};
+use crate::over_plan::PlanTask;
 use crate::over_titles::over_titles;
 use crate::works::{PageMade, PageWork};
 use conref_pull::Tables;
@@ -79,7 +79,7 @@ fn page_of_plan<T: Titles>(
     if plan.pages.as_slice().get(index as usize).is_none() {
         return Ok(no_html(alloc));
     }
-    single(alloc, asker, map, val, Part::Page(index))
+    single(alloc, asker, map, val, SinglePart::Page(index))
 }
 
 /// The contents page of a plan, with the faults of all pushes. The plan is that of the map and the
@@ -122,12 +122,12 @@ fn contents_of_plan<T: Titles>(
     ensures stand { T.stand asker.new ≡ T.stand asker.old }
     ensures grows { Grows (T.told asker.old) (T.told asker.new) }
 {
-    single(alloc, asker, map, val, Part::Contents)
+    single(alloc, asker, map, val, SinglePart::Contents)
 }
 
 // A part of a build that stands alone.
 #[derive(Clone, Copy)]
-enum Part {
+enum SinglePart {
     Page(u32),
     Contents,
 }
@@ -138,7 +138,7 @@ fn single<T: Titles>(
     asker: &mut T,
     map: &Name,
     val: Option<&Name>,
-    part: Part,
+    part: SinglePart,
 ) -> Result<Html, NoMemory>
     ensures known { (world : World) (plan : plan_declared.Plan) → Agrees world (T.told asker.new)
         → plan_spec.plan_of plan_spec.limits world map.now (option_copied val.entry) ≡ Ok plan
@@ -149,11 +149,11 @@ fn single<T: Titles>(
     ensures stand { T.stand asker.new ≡ T.stand asker.old }
     ensures grows { Grows (T.told asker.old) (T.told asker.new) }
 {
-    let Some(Found { plan, tables }) = find_plan(alloc, asker, map, val)? else {
+    let Some(PlanWithTables { plan, tables }) = find_plan(alloc, asker, map, val)? else {
         return Ok(no_html(alloc));
     };
     let mut docs = PushedDocs::new(alloc);
-    let ground = Ground {
+    let ground = BuildInput {
         map,
         val,
         plan: &plan,
@@ -165,11 +165,11 @@ fn single<T: Titles>(
 // What a part that stands alone needs of its plan is found for it.
 #[derive(Clone, Copy)]
 struct PartWork<'p> {
-    ground: Ground<'p>,
-    part: Part,
+    ground: BuildInput<'p>,
+    part: SinglePart,
 }
 
-impl<'p> PlanWork for PartWork<'p> {
+impl<'p> PlanTask for PartWork<'p> {
     ghost use Rattle.clean_build.specs.Single as single_spec;
     ghost use Rattle.conref_targets.specs.Asking as asking_spec;
 
@@ -185,8 +185,8 @@ impl<'p> PlanWork for PartWork<'p> {
 
     fn run<A: Asker>(self, alloc: Global, asker: &mut A) -> Result<Html, NoMemory> {
         match self.part {
-            Part::Page(index) => page_alone(alloc, asker, self.ground, index),
-            Part::Contents => contents(alloc, asker, self.ground.plan),
+            SinglePart::Page(index) => page_alone(alloc, asker, self.ground, index),
+            SinglePart::Contents => contents(alloc, asker, self.ground.plan),
         }
     }
 }
@@ -195,7 +195,7 @@ impl<'p> PlanWork for PartWork<'p> {
 fn page_alone<A: Asker>(
     alloc: Global,
     asker: &mut A,
-    ground: Ground<'_>,
+    ground: BuildInput<'_>,
     index: u32,
 ) -> Result<Html, NoMemory>
     ensures known { (world : World) → Agrees world (A.told asker.new)
@@ -203,7 +203,7 @@ fn page_alone<A: Asker>(
         → IfOk result (λ html. html ≡ parts_spec.page_part parts_spec.rooms world
         ground.entry.plan.now (option_copied ground.entry.val) index) }
     ensures founded { StaysFounded (founded_spec.homes (A.stand asker.old).setting.nodes
-        ++ names_spec.names_of ground.entry) (A.told asker.old) (A.told asker.new) }
+        ++ names_spec.names_of_build ground.entry) (A.told asker.old) (A.told asker.new) }
     ensures asks { AsksOnly asking_spec.of_content
         (single_spec.documents_of_alone ground.entry index) (A.told asker.old)
         (A.told asker.new) }

@@ -11,22 +11,22 @@ ghost use Rattle.readers.specs.Documents.{AsksOnly};
 ghost use Rattle.readers.specs.Founded.{Grows, StaysFounded};
 ghost use Rattle.readers.specs.Told.{Agrees};
 
+use crate::build_input::BuildInput;
 use crate::build_tables::BuildTables;
 use crate::gathered::Gathered;
-use crate::ground::Ground;
-use crate::over_plan::PlanWork;
-use crate::over_sources::{Lasting, over_sources};
+use crate::over_plan::PlanTask;
+use crate::over_sources::{BuildCache, over_sources};
 use dita_doc::{Html, List, NoMemory, PagePlan, TermEntry, Text};
 use index_page::terms_html;
-use readers::{Asker, Since, Titles};
+use readers::{Asker, LogStart, Titles};
 use std::alloc::Global;
 
 /// The page of terms of a build whose pages were all gathered, with these terms, if it is wanted.
 /// Pages that are too large together have none.
-pub(crate) fn terms_page<S: Since>(
+pub(crate) fn terms_page<S: LogStart>(
     alloc: Global,
-    lasting: Lasting<'_>,
-    ground: Ground<'_>,
+    lasting: BuildCache<'_>,
+    ground: BuildInput<'_>,
     tables: &BuildTables,
     gathered: &Gathered,
     terms: &List<TermEntry>,
@@ -62,11 +62,11 @@ pub(crate) fn terms_page<S: Since>(
 /// The page that lists these terms, under the titles of the plan's pages.
 #[derive(Clone, Copy)]
 pub(crate) struct TermsWork<'p, 't> {
-    ground: Ground<'p>,
+    ground: BuildInput<'p>,
     terms: &'t List<TermEntry>,
 }
 
-impl<'p, 't> PlanWork for TermsWork<'p, 't> {
+impl<'p, 't> PlanTask for TermsWork<'p, 't> {
     ghost use Rattle.std.specs.Prelude.{[]};
     ghost use Rattle.clean_build.specs.Terms as terms_spec;
     ghost use Rattle.readers.specs.Documents as documents_spec;

@@ -16,11 +16,11 @@ ghost use Rattle.reader_spec.specs.World.{World, world_of};
 ghost use Rattle.readers.specs.Told.{Agrees, Knows};
 ghost use Rattle.source_reader.specs.Stored.{told_alone};
 
+use crate::build_input::BuildInput;
 use crate::build_tables::BuildTables;
 use crate::built::Clean;
 use crate::gathered::Gathered;
-use crate::ground::Ground;
-use crate::over_sources::{Lasting, over_sources};
+use crate::over_sources::{BuildCache, over_sources};
 use crate::terms::{append_terms, terms_page};
 use crate::works::{ContentsWork, LinksWork, PageMade, PageWork};
 use build_plan::{Planned, planned};
@@ -29,7 +29,7 @@ use dita_doc::{Html, List, Name, NoMemory, Plan, Sources, Stop, TermEntry, Text,
 use node_links::NodeLinks;
 use plan_nodes::place_of;
 use pushed_docs::PushedDocs;
-use readers::{Questions, Since};
+use readers::{LogStart, Questions};
 use source_reader::{KnownTitles, SourceReader};
 use std::alloc::{AllocError, Global};
 use std::marker::Brand;
@@ -114,7 +114,7 @@ fn build_of_plan(
     let mut reader = reader;
     let Planned { plan, homes, table } = found;
     let tables = BuildTables::of(alloc, &mut reader, &plan, homes, table)?;
-    let ground = Ground {
+    let ground = BuildInput {
         map,
         val,
         plan: &plan,
@@ -125,11 +125,11 @@ fn build_of_plan(
 
 // All parts, by tables that are known by what was told before. Which answers these were is said by
 // the questions, which no code reads here.
-fn parts_since<S: Since>(
+fn parts_since<S: LogStart>(
     alloc: Global,
     asked: &Questions,
     known: KnownTitles<'_>,
-    ground: Ground<'_>,
+    ground: BuildInput<'_>,
     tables: &BuildTables,
     with_terms: bool,
 ) -> Result<(Clean, Option<Html>), NoMemory>
@@ -146,7 +146,7 @@ fn parts_since<S: Since>(
 {
     let plan = ground.plan;
     let docs = PushedDocs::new(alloc);
-    let lasting = Lasting { known, docs };
+    let lasting = BuildCache { known, docs };
     let work = LinksWork { ground };
     let (links, lasting) = over_sources::<S, LinksWork<'_>>(alloc, lasting, plan, tables, work)?;
     let mut gathered = first_faults(alloc, plan, &links)?;
@@ -184,15 +184,15 @@ fn first_faults(alloc: Global, plan: &Plan, links: &NodeLinks) -> Result<Gathere
 // The parts of a build were put: what goes on, and the terms of the pages, if they are wanted.
 #[derive(Drop)]
 struct Put<'a> {
-    lasting: Lasting<'a>,
+    lasting: BuildCache<'a>,
     terms: List<TermEntry>,
 }
 
 // Puts each page, and the contents page last.
-fn put_parts<'a, S: Since>(
+fn put_parts<'a, S: LogStart>(
     alloc: Global,
-    lasting: Lasting<'a>,
-    ground: Ground<'_>,
+    lasting: BuildCache<'a>,
+    ground: BuildInput<'_>,
     tables: &BuildTables,
     links: &NodeLinks,
     gathered: &mut Gathered,
@@ -243,13 +243,13 @@ fn put_parts<'a, S: Since>(
 }
 
 // Puts the contents page behind all pages.
-fn put_contents<'a, S: Since>(
+fn put_contents<'a, S: LogStart>(
     alloc: Global,
-    lasting: Lasting<'a>,
-    ground: Ground<'_>,
+    lasting: BuildCache<'a>,
+    ground: BuildInput<'_>,
     tables: &BuildTables,
     gathered: &mut Gathered,
-) -> Result<Lasting<'a>, NoMemory>
+) -> Result<BuildCache<'a>, NoMemory>
     requires agreed { Agrees S.stand.world S.told }
     requires tables { AreTables S.told ground.plan.now tables.now }
     requires goes_on { GoesOn S.stand.world ground.plan.now.documents lasting }

@@ -5,7 +5,7 @@ ghost use Rattle.std.specs.Option.{option_copied};
 ghost use Rattle.clean_build.specs.Made as made_spec;
 ghost use Rattle.clean_build.specs.Names as names_spec;
 ghost use Rattle.clean_build.specs.Bodies.{AreKnown, IsBodyMade};
-ghost use Rattle.clean_build.specs.Ground.{IsReady, context_for};
+ghost use Rattle.clean_build.specs.BuildInput.{IsReady, context_for};
 ghost use Rattle.conref_targets.specs.Asking as asking_spec;
 ghost use Rattle.conref_targets.specs.Rules.{ditavals};
 ghost use Rattle.map_spec.specs.Titles.{title_in};
@@ -20,9 +20,9 @@ ghost use Rattle.readers.specs.Founded.{Grows, StaysFounded};
 ghost use Rattle.readers.specs.Told.{Agrees};
 
 use crate::body::{BodyMade, no_html, page_body};
-use crate::ground::Ground;
+use crate::build_input::BuildInput;
 use crate::hrefs::hrefs_once;
-use crate::over_plan::PlanWork;
+use crate::over_plan::PlanTask;
 use crate::root::root_line;
 use conref_pull::Tables;
 use dita_doc::{Fault, Html, List, Name, NoMemory, PageLink, PagePlan, TermEntry, Text};
@@ -35,10 +35,10 @@ use toc_page::contents;
 /// The links of a plan's collections and relationship tables.
 #[derive(Clone, Copy)]
 pub(crate) struct LinksWork<'p> {
-    pub ground: Ground<'p>,
+    pub ground: BuildInput<'p>,
 }
 
-impl<'p> PlanWork for LinksWork<'p> {
+impl<'p> PlanTask for LinksWork<'p> {
     ghost use Rattle.clean_build.specs.Made as made_spec;
     ghost use Rattle.clean_build.specs.Names as names_spec;
     ghost use Rattle.readers.specs.Documents as documents_spec;
@@ -61,10 +61,10 @@ impl<'p> PlanWork for LinksWork<'p> {
 /// The contents page, with the faults of all pushes.
 #[derive(Clone, Copy)]
 pub(crate) struct ContentsWork<'p> {
-    pub ground: Ground<'p>,
+    pub ground: BuildInput<'p>,
 }
 
-impl<'p> PlanWork for ContentsWork<'p> {
+impl<'p> PlanTask for ContentsWork<'p> {
     ghost use Rattle.clean_build.specs.Made as made_spec;
     ghost use Rattle.clean_build.specs.Names as names_spec;
     ghost use Rattle.readers.specs.Documents as documents_spec;
@@ -88,7 +88,7 @@ impl<'p> PlanWork for ContentsWork<'p> {
 /// its content, if they are wanted. It is empty if its document is not stored.
 #[derive(Drop)]
 pub(crate) struct PageWork<'p, 'b> {
-    pub ground: Ground<'p>,
+    pub ground: BuildInput<'p>,
     pub page: &'p PagePlan,
     pub index: u32,
     pub links: &'b NodeLinks,
@@ -105,7 +105,7 @@ pub(crate) struct PageMade {
     pub content: Tables,
 }
 
-impl<'p, 'b> PlanWork for PageWork<'p, 'b> {
+impl<'p, 'b> PlanTask for PageWork<'p, 'b> {
     ghost use Rattle.clean_build.specs.Made as made_spec;
     ghost use Rattle.clean_build.specs.Names as names_spec;
     ghost use Rattle.conref_targets.specs.Asking as asking_spec;
@@ -196,7 +196,7 @@ fn number_wanted(with_terms: bool, number: u32) -> Option<u32>
 fn body_on_ground<A: Asker>(
     alloc: Global,
     asker: &mut A,
-    ground: Ground<'_>,
+    ground: BuildInput<'_>,
     page: &PagePlan,
     content: Tables,
     behind: List<Fault>,

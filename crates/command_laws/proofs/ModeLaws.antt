@@ -3,7 +3,7 @@ use Rattle.std.specs.Prelude.{◌≡◌, ◌⊎◌, ◌+◌, ◌||◌, ℕ, Bool
 use Rattle.std.specs.List.{list_all}
 use Rattle.std.specs.Option.{option_map_or}
 use Rattle.std.proofs.Common.{◌∙◌, refl, sym, ap, subst, inl, inr, true≢false}
-use Rattle.std.proofs.lemmas.Bool.{and_from, and_parts}
+use Rattle.std.proofs.lemmas.Bool.{and_from, and_parts, or_right}
 use Rattle.std.proofs.lemmas.List.Folds.{list_all-append}
 use Rattle.std.proofs.lemmas.Option.{none-some, same_Some}
 use Rattle.std.proofs.lemmas.Slice.Eq.{bytes_eq-Decides}
@@ -42,10 +42,6 @@ abbrev AreFine : List Row → Type 0
 AreFine rows = list_all is_fine rows ≡ true
 
 -- Rows that are changed
-
-either : (a b : Bool) → b ≡ true → (a || b) ≡ true
-either true b e = refl
-either false b e = e
 
 same_text : (a b : Text) → bytes_eq a b ≡ true → a ≡ b
 same_text a b = (bytes_eq-Decides a b).0
@@ -156,7 +152,7 @@ mode_stays again (text ∷ texts) rows passes all =
     (and_parts (not (has_row (codes "mode") rows) || again) (values_pass mode_rule values) second.1).1 in
     let new = new_row (codes "mode") (reading_by mode_rule) None CommandLine values in
     fine_at (codes "mode") (more_values CommandLine values) (new ∷ []) (without (codes "mode") rows)
-    (λ row same fine. alone (more_row CommandLine values row) (either (not (bytes_eq row.id (codes "mode"))) _
+    (λ row same fine. alone (more_row CommandLine values row) (or_right (not (bytes_eq row.id (codes "mode"))) _
     (modes_append row.values values (has_modes row same fine) given)))
     (alone new given) (fine_without (codes "mode") rows all)
 

@@ -15,15 +15,16 @@ use Rattle.dita_doc.specs.declared.doc.Node.{Node}
 use Rattle.dita_doc.specs.declared.fault.Fault.{Fault}
 use Rattle.dita_doc.specs.declared.fault.FaultCode.{FaultCode}
 use Rattle.dita_doc.specs.declared.fault.FaultCode.TheVariants as faults
+use Rattle.dita_doc.proofs.Lists.{any_map}
 use Rattle.map_spec.specs.Elements.{attribute, fault_at, is_special}
 use Rattle.map_spec.specs.Written as written
 use Rattle.map_spec.specs.Written.{Element, Written, End, size}
 use Rattle.conref_spec.specs.Content as content
-use Rattle.conref_spec.specs.Content.{declared_around, depth_limit, is_place, path_limit, range_by, refused_by}
+use Rattle.conref_spec.specs.Content.{declared_around_written, resolve_depth_limit, is_place, path_limit, range_by, refused_by}
 use Rattle.conref_targets.specs.Ranges.{IsRangeEnd, IsUpTo}
 use Rattle.conref_targets.specs.Found.{IsFound}
 use Rattle.conref_targets.specs.Origin.{begins_element, first_whole, whole_of, whole_shown}
-use Rattle.conref_targets.specs.Parts.{IsPart, among_first}
+use Rattle.conref_targets.specs.Parts.{AreSiblingsAt, among_first}
 use Rattle.conref_targets.specs.Tables.{AreTables, Documents}
 use Rattle.conref_targets.specs.declared.find.Found.{Found}
 use Rattle.conref_targets.specs.declared.origin.Whole.{Whole}
@@ -34,16 +35,11 @@ use Rattle.conref_pull.specs.Accepting.{is_too_deep, link_of, refusal_by}
 use Rattle.conref_pull.specs.Linked.{IsLink, IsStep}
 use Rattle.conref_pull.specs.State.{place_shown}
 use Rattle.conref_pull.specs.Step.{step_with, target_taken}
-use Rattle.conref_pull.specs.declared.chain.Link.{Link}
+use Rattle.conref_pull.specs.declared.chain.TakenTarget.{TakenTarget}
 use Rattle.conref_pull.specs.declared.place.Place as kept
 use Rattle.conref_pull.specs.declared.resolver.Resolver.{Resolver}
 
 -- Paths
-
-any_map : {X Y : Type 0} (test : Y → Bool) (f : X → Y) (xs : List X)
-    → list_any test (map f xs) ≡ list_any (λ x. test (f x)) xs
-any_map test f [] = refl
-any_map test f (x ∷ xs) = ap (λ (b : Bool). test (f x) || b) (any_map test f xs)
 
 -- a test of the first so many, seen otherwise
 pub any_within : {X Y : Type 0} (test : Y → Bool) (f : X → Y) (n : ℕ) (some whole items : List X) (found : Bool)
@@ -73,10 +69,10 @@ few_links links deepest opened few = links_few links path_limit (nat_le deepest 
 
 -- as many as the path has
 pub deep_same : (links deepest opened at : ℕ) (path : List content.Place) → length path ≡ links
-    → nat_lt depth_limit at ≡ nat_le deepest opened
-    → (nat_le path_limit (length path) || nat_lt depth_limit at) ≡ is_too_deep links deepest opened
+    → nat_lt resolve_depth_limit at ≡ nat_le deepest opened
+    → (nat_le path_limit (length path) || nat_lt resolve_depth_limit at) ≡ is_too_deep links deepest opened
 deep_same links deepest opened at path count depth =
-    ap (λ n. nat_le path_limit n || nat_lt depth_limit at) count
+    ap (λ n. nat_le path_limit n || nat_lt resolve_depth_limit at) count
     ∙ ap (λ (b : Bool). nat_le path_limit links || b) depth
 
 -- what refuses a target, by what the tests give
@@ -114,7 +110,7 @@ module _ (value : List ℕ) (at : ℕ) (path : List content.Place) (element : El
   on_path = list_any (is_place (record { doc = meant.doc; at = meant.standing.place })) path
 
   abbrev deep : Bool
-  deep = nat_le path_limit (length path) || nat_lt depth_limit at
+  deep = nat_le path_limit (length path) || nat_lt resolve_depth_limit at
 
   by_tests : (special : Bool) (found : Option Written) → is_special meant.standing.whole.0 element ≡ special
       → range ≡ found
@@ -163,24 +159,24 @@ range_missing from behind (Some some) is = absurd is
 module _ (documents : Documents) (meant : content.Found) (found : Found) (is : IsFound documents meant found) where
   -- it is the element that was found, with what it holds
   pub whole_found : (doc : Doc) (got : Option Whole) → doc ≡ arc_value found.doc
-      → ((part : Content) → IsPart (tree_of doc.nodes) found.place part → begins_element part ≡ true
+      → ((part : Content) → AreSiblingsAt (tree_of doc.nodes) found.place part → begins_element part ≡ true
       → whole_shown got ≡ first_whole doc.origins part)
       → whole_shown got ≡ Some meant.standing.whole
   whole_found doc got same whole =
       let part : Content = tree.Element is.stands.name is.stands.attributes is.stands.origin is.stands.line is.stands.inside
       is.stands.rest in
-      let there : IsPart (tree_of doc.nodes) found.place part =
-      subst (λ n. IsPart (tree_of doc.nodes) n part) (sym is.place)
-      (subst (λ (d : Doc). IsPart (tree_of d.nodes) meant.standing.place part) (sym same) is.stands.part) in
+      let there : AreSiblingsAt (tree_of doc.nodes) found.place part =
+      subst (λ n. AreSiblingsAt (tree_of doc.nodes) n part) (sym is.place)
+      (subst (λ (d : Doc). AreSiblingsAt (tree_of d.nodes) meant.standing.place part) (sym same) is.stands.part) in
       whole part there refl ∙ ap (λ (d : Doc). first_whole d.origins part) same ∙ is.stands.whole
 
   pub none_found : (doc : Doc) → doc ≡ arc_value found.doc
-      → ((part : Content) → IsPart (tree_of doc.nodes) found.place part → begins_element part ≡ true
+      → ((part : Content) → AreSiblingsAt (tree_of doc.nodes) found.place part → begins_element part ≡ true
       → whole_shown None ≡ first_whole doc.origins part) → ⊥
   none_found doc same whole = let e = whole_found doc None same whole in cc
 
   pub target_found : (doc : Doc) (got : Whole) → doc ≡ arc_value found.doc
-      → ((part : Content) → IsPart (tree_of doc.nodes) found.place part → begins_element part ≡ true
+      → ((part : Content) → AreSiblingsAt (tree_of doc.nodes) found.place part → begins_element part ≡ true
       → whole_shown (Some got) ≡ first_whole doc.origins part)
       → (whole_of got).0 ≡ meant.standing.whole.0
   target_found doc got same whole =
@@ -192,7 +188,7 @@ module _ (documents : Documents) (meant : content.Found) (found : Found) (is : I
       (path : List content.Place) (element : Element) (some : Written) (to : ℕ)
       (ends : range_by meant.standing (attribute (codes "conrefend") element) ≡ Some some)
       (up_to : IsUpTo target.end meant.standing.behind some to) (declared : List (List ℕ))
-      (names : declared ≡ declared_around [] meant.nodes meant.standing.place) where
+      (names : declared ≡ declared_around_written [] meant.nodes meant.standing.place) where
     pub link_found : IsLink (link_of found declared target.end to) (target_taken path element meant)
     link_found = record {
       name = is.stands.name;
@@ -201,7 +197,7 @@ module _ (documents : Documents) (meant : content.Found) (found : Found) (is : I
       line = is.stands.line;
       inside = is.stands.inside;
       rest = is.stands.rest;
-      part = subst (λ n. IsPart (tree_of (arc_value found.doc).nodes) n
+      part = subst (λ n. AreSiblingsAt (tree_of (arc_value found.doc).nodes) n
           (tree.Element is.stands.name is.stands.attributes is.stands.origin is.stands.line is.stands.inside
           is.stands.rest)) (sym is.place) is.stands.part;
       whole = is.stands.whole;
@@ -239,7 +235,7 @@ module _ (documents : Documents) (path : List content.Place) (element : Element)
       }
 
   -- a target that was taken
-  pub step_taken : (refused : Option Fault) (link : Link) → refused ≡ None
+  pub step_taken : (refused : Option Fault) (link : TakenTarget) → refused ≡ None
       → new ≡ record old { path = new.path } → IsLink link (target_taken path element meant)
       → map place_shown new.path.items ≡ (target_taken path element meant).path
       → IsStep documents (step_with path element meant [] refused) old new places (Some link)

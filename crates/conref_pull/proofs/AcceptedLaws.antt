@@ -13,11 +13,11 @@ use Rattle.doc_maker.specs.Made.{building}
 use Rattle.map_spec.specs.Elements.{attribute, fault_at, is_special}
 use Rattle.map_spec.specs.Written.{Element}
 use Rattle.conref_spec.specs.Content as content
-use Rattle.conref_spec.specs.Content.{declared_around, is_place, range_by, refused_by}
+use Rattle.conref_spec.specs.Content.{declared_around_written, is_place, range_by, refused_by}
 use Rattle.conref_targets.specs.Ranges.{IsRangeEnd, IsUpTo}
 use Rattle.conref_targets.specs.Found.{IsFound}
 use Rattle.conref_targets.specs.Origin.{begins_element, first_whole, whole_of, whole_shown}
-use Rattle.conref_targets.specs.Parts.{IsPart}
+use Rattle.conref_targets.specs.Parts.{AreSiblingsAt}
 use Rattle.conref_targets.specs.Tables.{AreTables, Documents}
 use Rattle.conref_targets.specs.declared.find.Found.{Found}
 use Rattle.conref_targets.specs.declared.origin.Whole.{Whole}
@@ -25,8 +25,8 @@ use Rattle.conref_targets.specs.declared.tables.PlaceTables.{PlaceTables}
 use Rattle.conref_pull.specs.Accepting.{GoesOn, is_too_deep, link_of, place_of, refusal_by}
 use Rattle.conref_pull.specs.Linked.{IsLink, IsStep}
 use Rattle.conref_pull.specs.State.{IsDepth, path_within, place_shown}
-use Rattle.conref_pull.specs.Step.{Step, step_with, target_taken}
-use Rattle.conref_pull.specs.declared.chain.Link.{Link}
+use Rattle.conref_pull.specs.Step.{FollowStep, step_with, target_taken}
+use Rattle.conref_pull.specs.declared.chain.TakenTarget.{TakenTarget}
 use Rattle.conref_pull.specs.declared.resolver.Resolver.{Resolver}
 use Rattle.conref_pull.proofs.AcceptLaws.{count_within, deep_same, link_found, range_missing, range_there, refused_code, refused_none, refused_range, refused_type, step_refused, step_taken, target_found}
 
@@ -36,12 +36,12 @@ module _ (documents : Documents) (meant : content.Found) (found : Found) (is : I
     abbrev path : List content.Place
     path = path_within old links
 
-    abbrev step : Step
+    abbrev step : FollowStep
     step = step_with path element meant [] (refused_by found.value.now at path element meant)
 
     -- the types are compared as the definition does
     pub special_is : (doc : Doc) (got : Whole) (result test : Bool) → doc ≡ arc_value found.doc
-        → ((part : Content) → IsPart (tree_of doc.nodes) found.place part → begins_element part ≡ true
+        → ((part : Content) → AreSiblingsAt (tree_of doc.nodes) found.place part → begins_element part ≡ true
         → whole_shown (Some got) ≡ first_whole doc.origins part)
         → result ≡ is_special (whole_of got).0 element → result ≡ test → is_special meant.standing.whole.0 element ≡ test
     special_is doc got result test same whole is_it gives =
@@ -96,8 +96,8 @@ module _ (documents : Documents) (meant : content.Found) (found : Found) (is : I
             (deep_same links old.deepest (depth (building old.maker)) at path count deep.is) code why) state
 
         -- it is taken
-        pub accept_taken : (target : Node) (link : Link) (declared : List (List ℕ))
-            → declared ≡ declared_around [] meant.nodes meant.standing.place
+        pub accept_taken : (target : Node) (link : TakenTarget) (declared : List (List ℕ))
+            → declared ≡ declared_around_written [] meant.nodes meant.standing.place
             → slice_get (arc_value found.doc).nodes found.place ≡ Some target → target.end ≡ from → refusal ≡ None
             → link ≡ link_of found declared from to → GoesOn old.path.items new.path.items found links
             → new ≡ record old { path = new.path } → IsStep documents step old new places (Some link)
@@ -107,12 +107,12 @@ module _ (documents : Documents) (meant : content.Found) (found : Found) (is : I
             (refused_by found.value.now at path element meant) link
             (refused_none found.value.now at path element meant special there.0 there.1 _ _ on_same
             (deep_same links old.deepest (depth (building old.maker)) at path count deep.is) none) state
-            (subst (λ (l : Link). IsLink l (target_taken path element meant)) (sym (linked_at target from_is link declared linked))
+            (subst (λ (l : TakenTarget). IsLink l (target_taken path element meant)) (sym (linked_at target from_is link declared linked))
             (link_found documents meant found is target here path element there.0 to there.1
             (subst (λ n. IsUpTo n meant.standing.behind there.0 to) (sym from_is) there.2) declared names))
             (further ∙ path_is)
           where
-            linked_at : (target : Node) → target.end ≡ from → (link : Link) (declared : List (List ℕ))
+            linked_at : (target : Node) → target.end ≡ from → (link : TakenTarget) (declared : List (List ℕ))
                 → link ≡ link_of found declared from to → link ≡ link_of found declared target.end to
             linked_at target from_is link declared linked = linked ∙ ap (λ n. link_of found declared n to) (sym from_is)
 

@@ -13,7 +13,7 @@ use Rattle.doc_maker.specs.Building as building
 use Rattle.doc_maker.proofs.BuildingLaws.{behind_end}
 use Rattle.map_spec.specs.Judged.{group_faults}
 use Rattle.map_spec.specs.Written.{Element, Written}
-use Rattle.conref_spec.specs.Content.{Around, Made, Setting, around_within, count_limit, declared_there, element_made, goes, made_with, merged_element, nothing_made, without_id}
+use Rattle.conref_spec.specs.Content.{ContentAround, Made, ResolveInput, around_within, count_limit, declared_there, element_made, goes, made_with, merged_element, nothing_made, without_id}
 use Rattle.conref_targets.specs.Judging.{with_attributes}
 use Rattle.conref_targets.specs.Rules.{some_exclude}
 use Rattle.conref_pull.specs.Count.{OneMore}
@@ -156,14 +156,14 @@ pub judged_as : (declared : List (List ℕ)) (element target : Element) (merged 
 judged_as declared element target merged is =
     ap (λ (all : List Attribute). group_faults declared (with_attributes all element)) is.attributes
 
-pub goes_as : (setting : Setting) (rules : List (List Rule)) (declared : List (List ℕ)) (element : Element)
+pub goes_as : (setting : ResolveInput) (rules : List (List Rule)) (declared : List (List ℕ)) (element : Element)
     (attributes : List Attribute) → setting.rules ≡ rules → attributes ≡ element.attributes
     → some_exclude rules declared attributes ≡ goes setting declared element
 goes_as setting rules declared element attributes same are =
     ap (λ (all : List (List Rule)). some_exclude all declared attributes) (sym same)
     ∙ ap (λ (all : List Attribute). some_exclude setting.rules declared all) are
 
-pub merged_gone : (here : Here) (is_range : Bool) (around : Around) (there : List (List ℕ)) (merged : Element)
+pub merged_gone : (here : Here) (is_range : Bool) (around : ContentAround) (there : List (List ℕ)) (merged : Element)
     (inside : Written) → goes here.setting around.declared merged ≡ true
     → made_with (group_faults around.declared merged) (record nothing_made { count = 1 })
     ≡ merged_made here is_range around there merged inside
@@ -172,7 +172,7 @@ merged_gone here is_range around there merged inside gone =
     then record nothing_made { count = 1 }
     else stays_made here is_range around.declared (declared_there there around) merged inside)) (sym gone)
 
-pub merged_left : (here : Here) (is_range : Bool) (around : Around) (there : List (List ℕ)) (merged : Element)
+pub merged_left : (here : Here) (is_range : Bool) (around : ContentAround) (there : List (List ℕ)) (merged : Element)
     (inside : Written) → goes here.setting around.declared merged ≡ false
     → made_with (group_faults around.declared merged)
     (stays_made here is_range around.declared (declared_there there around) merged inside)
@@ -217,7 +217,7 @@ opened_named is_range element name attributes href_doc named are home =
 
 -- An element that was judged again with what it takes
 
-module _ (here : Here) (links : ℕ) (is_range : Bool) (around : Around) (there : List (List ℕ))
+module _ (here : Here) (links : ℕ) (is_range : Bool) (around : ContentAround) (there : List (List ℕ))
     (element target : Element) (inside : Written) (merged : Merged) (a b c : Resolver) (places : PlaceTables) (counted : OneMore a b)
     (is : IsMerged merged (merged_element element target))
     (judged : c ≡ record b { faults = b.faults ++ group_faults around.declared (with_attributes merged.attributes element) })

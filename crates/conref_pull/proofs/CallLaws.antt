@@ -12,11 +12,11 @@ use Rattle.doc_maker.specs.Building.{Building, behind, depth, nothing, whole}
 use Rattle.doc_maker.proofs.BuildingLaws.{whole_of_behind}
 use Rattle.map_spec.specs.Written.{Written, End}
 use Rattle.conref_spec.specs.Content as content
-use Rattle.conref_spec.specs.Content.{Around, Made, Setting, count_limit, depth_limit, nothing_made, page_root, resolved_in, resolved_page, within}
+use Rattle.conref_spec.specs.Content.{ContentAround, Made, ResolveInput, count_limit, resolve_depth_limit, nothing_made, page_root, resolved_in, resolved_page, within}
 use Rattle.reader_spec.specs.World.{World}
 use Rattle.readers.specs.Setting.{Stand}
 use Rattle.conref_targets.specs.Around.{alone_at, around_at, nothing_around}
-use Rattle.conref_targets.specs.Setting.{setting_of}
+use Rattle.conref_targets.specs.ResolveInput.{setting_of}
 use Rattle.conref_targets.specs.Tables.{AreTables, Documents}
 use Rattle.conref_targets.specs.declared.tables.PlaceTables.{PlaceTables}
 use Rattle.conref_pull.specs.Putting.{built, declared_put}
@@ -71,13 +71,13 @@ done_of (Err (stops.Fault fault)) documents links made old new places begins wal
     let none = begins.count in let much = walked.much in omega (arith, none, much)
 done_of (Err stops.NoMemory) documents links made old new places begins walked = tt
 
-abbrev pub here_begins : Setting → ℕ → Here
+abbrev pub here_begins : ResolveInput → ℕ → Here
 here_begins setting depth = record { setting = setting; depth = depth; path = []; steps = 32 }
 
-pub ready_begins : (world : World) (stand : Stand) (setting : Setting) (around : ℕ) (resolver : Resolver)
+pub ready_begins : (world : World) (stand : Stand) (setting : ResolveInput) (around : ℕ) (resolver : Resolver)
     (places : PlaceTables) → Begins resolver
     → setting ≡ setting_of world stand.setting resolver.context.now.page resolver.rules
-    → resolver.deepest ≡ depth_limit - around → AreTables setting.pushed places
+    → resolver.deepest ≡ resolve_depth_limit - around → AreTables setting.pushed places
     → IsReady world stand 0 (here_begins setting (around + 1)) resolver places
 ready_begins world stand setting around resolver places begins is deepest tables =
     let none = begins.count in
@@ -94,12 +94,12 @@ ready_begins world stand setting around resolver places begins is deepest tables
     }
 
 -- the whole document of a page
-pub all_made : (setting : Setting) (around : Around) (depth : ℕ) (nodes : Written)
+pub all_made : (setting : ResolveInput) (around : ContentAround) (depth : ℕ) (nodes : Written)
     → among_made (here_begins setting depth) false around nodes ≡ resolved_in setting around depth nodes
 all_made setting around depth nodes = sym (resolved_more 32 setting false around depth [] nodes)
 
 -- without a document there is none
-pub none_made : (setting : Setting) (fault : List Fault) → setting.pushed setting.page ≡ None
+pub none_made : (setting : ResolveInput) (fault : List Fault) → setting.pushed setting.page ≡ None
     → nothing_made ≡ resolved_page count_limit fault setting
 none_made setting fault none =
     within_room fault nothing_made (omega arith)
@@ -124,7 +124,7 @@ tables_kept (Ok done) documents links made old new places memory walked = walked
 tables_kept (Err (stops.Fault fault)) documents links made old new places memory walked = walked.tables
 tables_kept (Err stops.NoMemory) documents links made old new places memory walked = absurd memory
 
-pub no_node_made : (setting : Setting) (fault : List Fault) (place : ℕ) → setting.pushed setting.page ≡ None
+pub no_node_made : (setting : ResolveInput) (fault : List Fault) (place : ℕ) → setting.pushed setting.page ≡ None
     → nothing_made ≡ within count_limit fault (resolved_in setting
     (around_at nothing_around (page_root setting) place).around
     ((around_at nothing_around (page_root setting) place).depth + 1) (alone_at (page_root setting) place))

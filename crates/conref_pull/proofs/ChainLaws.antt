@@ -11,10 +11,10 @@ use Rattle.map_spec.specs.Elements.{has_types}
 use Rattle.map_spec.specs.Judged.{group_faults}
 use Rattle.map_spec.specs.Written.{Element, Whole, Written}
 use Rattle.conref_spec.specs.Content as content
-use Rattle.conref_spec.specs.Content.{Around, Followed, Made, Place, Setting, around_for, count_limit, followed, goes, has_reference, made_beside, made_with, merged_element, nothing_made, path_limit, sought_by}
+use Rattle.conref_spec.specs.Content.{ContentAround, Followed, Made, Place, ResolveInput, around_for, count_limit, followed, goes, has_reference, made_beside, made_with, merged_element, nothing_made, path_limit, sought_by}
 use Rattle.reader_spec.specs.World.{World}
 use Rattle.readers.specs.Setting.{Stand}
-use Rattle.conref_targets.specs.Setting.{documents_in, setting_of}
+use Rattle.conref_targets.specs.ResolveInput.{documents_in, setting_of}
 use Rattle.conref_targets.specs.Sought.{if_reference, sought_found}
 use Rattle.conref_targets.specs.Tables.{AreTables, Documents}
 use Rattle.conref_targets.specs.declared.reference.Sought.{Sought}
@@ -24,7 +24,7 @@ use Rattle.conref_pull.specs.Putting.{built, declared_put}
 use Rattle.conref_pull.specs.State.{IsDepth, IsSamePage, path_within, place_shown}
 use Rattle.conref_pull.specs.Step.{Taken, declared_inside, followed_to_all, merged_onto}
 use Rattle.conref_pull.specs.Walking.{Here, IsReady, IsWalked, Walks, kept_made, merged_made, ranges_put, whole_made}
-use Rattle.conref_pull.specs.declared.chain.Link.{Link}
+use Rattle.conref_pull.specs.declared.chain.TakenTarget.{TakenTarget}
 use Rattle.conref_pull.specs.declared.resolver.Resolver.{Resolver}
 use Rattle.conref_pull.specs.declared.resolver.TooMany.{TooMany}
 use Rattle.conref_pull.proofs.ElementLaws.{none_followed, whole_gone, whole_kept, whole_took}
@@ -34,7 +34,7 @@ use Rattle.conref_pull.proofs.WalkLaws.{Tells, limit_depth, ready_with, walked_w
 
 -- what followed, in the setting in which nodes are resolved
 pub followed_here : (world : World) (stand : Stand) (links end : ℕ) (here : Here) (shown seen : List ℕ)
-    (element : Element) (inside : Written) (items : List Link) (a b : Resolver) (places after : PlaceTables)
+    (element : Element) (inside : Written) (items : List TakenTarget) (a b : Resolver) (places after : PlaceTables)
     → IsReady world stand links here a places → seen ≡ shown
     → IsFollowed (documents_in world stand.setting) element inside
     (followed (setting_of world stand.setting a.context.now.page a.rules) seen here.depth (path_within a links) element
@@ -46,12 +46,12 @@ followed_here world stand links end here shown seen element inside items a b pla
     (followed here.setting shown here.depth path element inside) [] items links end a b after) (sym ready.path)
     (subst (λ (topic : List ℕ). IsFollowed here.setting.pushed element inside
     (followed here.setting topic here.depth (path_within a links) element inside) [] items links end a b after) same
-    (subst (λ (s : Setting). IsFollowed s.pushed element inside
+    (subst (λ (s : ResolveInput). IsFollowed s.pushed element inside
     (followed s seen here.depth (path_within a links) element inside) [] items links end a b after) (sym ready.setting)
     is))
 
 pub asked_here : (world : World) (stand : Stand) (links end : ℕ) (here : Here) (shown seen : List ℕ)
-    (element : Element) (inside : Written) (items : List Link) (a b : Resolver) (places after : PlaceTables)
+    (element : Element) (inside : Written) (items : List TakenTarget) (a b : Resolver) (places after : PlaceTables)
     → IsReady world stand links here a places → seen ≡ shown
     → (AreTables (documents_in world stand.setting) places → IsDepth a here.depth → links ≤ length a.path.items
     → IsFollowed (documents_in world stand.setting) element inside
@@ -61,7 +61,7 @@ pub asked_here : (world : World) (stand : Stand) (links end : ℕ) (here : Here)
     items links end a b after
 asked_here world stand links end here shown seen element inside items a b places after ready same is =
     followed_here world stand links end here shown seen element inside items a b places after ready same
-    (is (subst (λ (s : Setting). AreTables s.pushed places) ready.setting ready.tables)
+    (is (subst (λ (s : ResolveInput). AreTables s.pushed places) ready.setting ready.tables)
     (limit_depth a here.depth ready.depth) ready.within)
 
 -- the page is as ready once an element was judged
@@ -101,14 +101,14 @@ judged_tells links faults a b is = record {
   path = ap (λ (r : Resolver). path_within r links) is;
 }
 
-first_at : (path : List Place) (end : ℕ) (one : Taken) (nearer : List Taken) (items : List Link)
+first_at : (path : List Place) (end : ℕ) (one : Taken) (nearer : List Taken) (items : List TakenTarget)
     → AreLinks path end (one ∷ nearer) items → one.path ≡ take end path
 first_at path end one nearer [] linked = absurd linked
 first_at path end one nearer (link ∷ items) linked = linked.1
 
 -- without a reference, the element is put as it is
 pub plain_walks : (result : Result (Unit {0}) (Stop TooMany)) (here : Here) (links : ℕ) (is_range : Bool)
-    (around : Around) (element : Element) (inside : Written) (sought : Option Sought) (a b c : Resolver)
+    (around : ContentAround) (element : Element) (inside : Written) (sought : Option Sought) (a b c : Resolver)
     (after : PlaceTables) → b ≡ record a {
       faults = a.faults ++ group_faults
           (declared_by around.declared element.attributes) element;
@@ -129,7 +129,8 @@ plain_walks result here links is_range around element inside sought a b c after 
     (judged_tells links (group_faults (declared_by around.declared element.attributes) element) a b judged) walked)
 
 -- it goes
-pub gone_walked : (here : Here) (links : ℕ) (is_range : Bool) (around : Around) (element : Element) (inside : Written)
+pub gone_walked : (here : Here) (links : ℕ) (is_range : Bool) (around : ContentAround) (element : Element)
+    (inside : Written)
     (a b : Resolver) (places : PlaceTables) → b ≡ record a {
       faults = a.faults ++ group_faults
           (declared_by around.declared element.attributes) element;
@@ -157,11 +158,8 @@ within_end links end taken count = omega arith
 pub shown_inside : (one other : Whole) → ◌≡◌ {A = Option Whole} (Some one) (Some other) → one.1 ≡ other.1
 shown_inside one other same = let is : one ≡ other = cc in ap (λ (w : Whole). w.1) is
 
-pub not_none : (one : Whole) → ◌≡◌ {A = Option Whole} None (Some one) → ⊥
-not_none one same = cc
-
-module _ (here : Here) (links end : ℕ) (is_range : Bool) (around : Around) (element : Element) (inside : Written)
-    (items : List Link) (a0 a b : Resolver) (places : PlaceTables)
+module _ (here : Here) (links end : ℕ) (is_range : Bool) (around : ContentAround) (element : Element) (inside : Written)
+    (items : List TakenTarget) (a0 a b : Resolver) (places : PlaceTables)
     (judged : a ≡ record a0 {
       faults = a0.faults ++ group_faults
           (declared_by around.declared element.attributes) element;
@@ -172,7 +170,7 @@ module _ (here : Here) (links end : ℕ) (is_range : Bool) (around : Around) (el
     (followed here.setting (around_for is_range element around).topic here.depth here.path element inside) [] items
     links end a b
     places) where
-  abbrev shown : Around
+  abbrev shown : ContentAround
   shown = around_for is_range element around
 
   abbrev documents : Documents
@@ -248,7 +246,7 @@ module _ (here : Here) (links end : ℕ) (is_range : Bool) (around : Around) (el
   pub took : links < end → end ≤ 32 → path_limit ≤ here.steps + links → Took
   took some limit steps =
       took_by follows.taken
-      (subst (λ (all : List Link). AreLinks (path_within b end) end follows.taken all)
+      (subst (λ (all : List TakenTarget). AreLinks (path_within b end) end follows.taken all)
       (sym follows.items) follows.linked)
       follows.count path_is some (omega arith)
 

@@ -4,28 +4,29 @@ use Rattle.std.proofs.Common.{refl, sym, ap, ◌∙◌}
 use Rattle.dita_doc.specs.declared.fault.Fault.{Fault}
 use Rattle.map_spec.specs.Judged.{group_faults}
 use Rattle.map_spec.specs.Written.{Element, Written, End, Chars, Node}
-use Rattle.conref_spec.specs.Content.{Around, Followed, Made, Place, Resolve, Setting, around_for, around_within, declared_there, element_made, followed, followed_from, found_by, goes, has_reference, made_beside, made_with, merged_element, nothing_made, resolved_among, resolved_from, sought_by, text_made}
-use Rattle.conref_pull.specs.Step.{Step, Taken, after_step, declared_inside, followed_to_all, merged_onto, step_of, step_to}
+use Rattle.conref_spec.specs.Content.{ContentAround, Followed, Made, Place, Resolve, ResolveInput, around_for, around_within, declared_there, element_made, followed, followed_from, found_by, goes, has_reference, made_beside, made_with, merged_element, nothing_made, resolved_among, resolved_from, sought_by, text_made}
+use Rattle.conref_pull.specs.Step.{FollowStep, Taken, after_step, declared_inside, followed_to_all, merged_onto, step_of, step_to}
 use Rattle.conref_pull.specs.Walking.{Here, among_made, inside_of, kept_made, merged_made, ranges_put, stays_made, whole_made}
 use Rattle.conref_pull.proofs.PutLaws.{beside_nothing}
 use Rattle.conref_pull.proofs.ResolvedLaws.{by, element_gone, element_left, nothing_taken, something_taken}
 use Rattle.conref_pull.proofs.StepLaws.{follows}
 
 -- one step more
-pub resolved_more : (steps : ℕ) (setting : Setting) (is_range : Bool) (around : Around) (depth : ℕ) (path : List Place)
+pub resolved_more : (steps : ℕ) (setting : ResolveInput) (is_range : Bool) (around : ContentAround) (depth : ℕ)
+    (path : List Place)
     (nodes : Written) → resolved_from (suc steps) setting is_range around depth path nodes
     ≡ resolved_among (resolved_from steps setting) setting is_range around depth path nodes
 unfolding resolved_from
 resolved_more steps setting is_range around depth path nodes = refl
 
-module _ (here : Here) (is_range : Bool) (around : Around) (element : Element) (inside : Written) where
+module _ (here : Here) (is_range : Bool) (around : ContentAround) (element : Element) (inside : Written) where
   abbrev resolve : Resolve
   resolve = resolved_from here.steps here.setting
 
-  abbrev shown : Around
+  abbrev shown : ContentAround
   shown = around_for is_range element around
 
-  abbrev own : Around → Made
+  abbrev own : ContentAround → Made
   own there = among_made (inside_of here) false there inside
 
   abbrev found : Followed
@@ -57,7 +58,7 @@ module _ (here : Here) (is_range : Bool) (around : Around) (element : Element) (
       ≡ stays_made (record here { path = path; steps = steps }) is_range shown.declared (declared_there there shown)
       merged held
   there_made path steps there merged held more =
-      let holds : Around = declared_there there (around_within is_range merged shown) in
+      let holds : ContentAround = declared_there there (around_within is_range merged shown) in
       ap (element_made is_range shown.declared merged)
       (ap (λ n. resolved_from n here.setting false holds (here.depth + 1) path held) more
       ∙ resolved_more steps here.setting false holds (here.depth + 1) path held)
@@ -87,17 +88,18 @@ module _ (here : Here) (is_range : Bool) (around : Around) (element : Element) (
 
 -- it has no reference
 
-step_none : (setting : Setting) (depth : ℕ) (path : List Place) (element : Element) (topic : List ℕ) (inside : Written)
+step_none : (setting : ResolveInput) (depth : ℕ) (path : List Place) (element : Element) (topic : List ℕ)
+    (inside : Written)
     (follow : List Place → Element → Written → Followed) → has_reference (sought_by element) ≡ false
     → after_step follow path element inside (step_of setting topic depth path element).faults
     (step_of setting topic depth path element).taken ≡ followed_to_all element inside path [] []
 step_none setting depth path element topic inside follow none =
-    ap (λ (test : Bool). (let step : Step = if test
+    ap (λ (test : Bool). (let step : FollowStep = if test
     then step_to setting depth path element (sought_by element) (found_by setting topic element (sought_by element))
     else record { taken = None; faults = [] } in
     after_step follow path element inside step.faults step.taken)) none
 
-pub none_followed : (setting : Setting) (topic : List ℕ) (depth : ℕ) (path : List Place) (element : Element)
+pub none_followed : (setting : ResolveInput) (topic : List ℕ) (depth : ℕ) (path : List Place) (element : Element)
     (inside : Written) → has_reference (sought_by element) ≡ false
     → followed setting topic depth path element inside ≡ followed_to_all element inside path [] []
 none_followed setting topic depth path element inside none =
@@ -105,11 +107,11 @@ none_followed setting topic depth path element inside none =
     (followed_from 32 setting topic depth) none
 
 -- one node alone
-pub alone_text : (here : Here) (is_range : Bool) (around : Around) (text doc : List ℕ) (made : Made)
+pub alone_text : (here : Here) (is_range : Bool) (around : ContentAround) (text doc : List ℕ) (made : Made)
     → made ≡ text_made text doc
     → made ≡ among_made here is_range around (Chars text doc End)
 alone_text here is_range around text doc made is = is ∙ sym (beside_nothing (text_made text doc))
 
-pub alone_element : (here : Here) (is_range : Bool) (around : Around) (element : Element) (inside : Written)
+pub alone_element : (here : Here) (is_range : Bool) (around : ContentAround) (element : Element) (inside : Written)
     → whole_made here is_range around element inside ≡ among_made here is_range around (Node element inside End)
 alone_element here is_range around element inside = sym (beside_nothing (whole_made here is_range around element inside))

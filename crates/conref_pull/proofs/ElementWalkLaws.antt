@@ -1,7 +1,7 @@
 -- An element of siblings where nodes are resolved, from where it was judged to where all of it was put.
 use Rattle.std.specs.Prelude.{◌≡◌, ◌+◌, ◌++◌, ◌<◌, ◌≤◌, ℕ, Bool, true, false, List, [], ◌∷◌, Option, Some, Result, Ok, Err, IsErrAnd, is_some, length, slice_get}
 use Rattle.std.proofs.Common.{refl, sym, ap, subst, ◌∙◌}
-use Rattle.dita_doc.specs.Siblings.{document}
+use Rattle.dita_doc.specs.Siblings.{doc_of_siblings}
 use Rattle.dita_doc.specs.declared.doc.Doc.{Doc}
 use Rattle.dita_doc.specs.declared.doc.Node.{Node}
 use Rattle.dita_doc.specs.declared.siblings.Siblings.{Siblings}
@@ -11,13 +11,13 @@ use Rattle.doc_elements.specs.Walk.{element_of}
 use Rattle.map_spec.specs.Elements.{has_types}
 use Rattle.map_spec.specs.Judged.{group_faults}
 use Rattle.map_spec.specs.Written.{Element, Written}
-use Rattle.conref_spec.specs.Content.{Around, Place, Setting, around_for, followed, goes, merged_element, sought_by, topic_for}
+use Rattle.conref_spec.specs.Content.{ContentAround, Place, ResolveInput, around_for, followed, goes, merged_element, sought_by, topic_before_merge}
 use Rattle.reader_spec.specs.World.{World}
 use Rattle.readers.specs.Setting.{Stand}
 use Rattle.conref_targets.specs.Asking.{element_around}
 use Rattle.conref_targets.specs.Origin.{named_content}
 use Rattle.conref_targets.specs.Rules.{some_exclude}
-use Rattle.conref_targets.specs.Setting.{documents_in, setting_of}
+use Rattle.conref_targets.specs.ResolveInput.{documents_in, setting_of}
 use Rattle.conref_targets.specs.Sought.{if_reference, sought_found}
 use Rattle.conref_targets.specs.Tables.{AreTables}
 use Rattle.conref_targets.specs.declared.reference.Sought.{Sought}
@@ -27,7 +27,7 @@ use Rattle.conref_pull.specs.Linked.{AreLinks, IsFollowed}
 use Rattle.conref_pull.specs.State.{IsDepth, IsSamePage, path_within}
 use Rattle.conref_pull.specs.Step.{Taken, declared_inside, merged_onto}
 use Rattle.conref_pull.specs.Walking.{Here, IsReady, IsWalked, Walks, kept_made, merged_made, ranges_put, seen_by, whole_made}
-use Rattle.conref_pull.specs.declared.chain.Link.{Link}
+use Rattle.conref_pull.specs.declared.chain.TakenTarget.{TakenTarget}
 use Rattle.conref_pull.specs.declared.resolver.Resolver.{Resolver}
 use Rattle.conref_pull.specs.declared.resolver.TooMany.{TooMany}
 use Rattle.conref_pull.proofs.AroundLaws.{goes_as}
@@ -37,8 +37,9 @@ use Rattle.conref_pull.proofs.WalkLaws.{ready_after, walked_within, walks_as, wa
 -- It was judged: it goes, or has no reference
 
 module _ {world : World} {stand : Stand} {links : ℕ} {here : Here} {doc : Doc} {a0 a : Resolver} {places : PlaceTables}
-    (is_range : Bool) (around : Around) (siblings : Siblings) (node : Node) (origin : List ℕ) (declared : List (List ℕ))
-    (of : doc ≡ document siblings) (name : Some origin ≡ slice_get doc.origins node.origin)
+    (is_range : Bool) (around : ContentAround) (siblings : Siblings) (node : Node) (origin : List ℕ)
+    (declared : List (List ℕ))
+    (of : doc ≡ doc_of_siblings siblings) (name : Some origin ≡ slice_get doc.origins node.origin)
     (declares : declared ≡ declared_by around.declared node.attributes)
     (judged : a ≡ record a0 { faults = a0.faults ++ group_faults declared (element_of origin node) })
     (ready : IsReady world stand links here a0 places) where
@@ -68,7 +69,7 @@ module _ {world : World} {stand : Stand} {links : ℕ} {here : Here} {doc : Doc}
       → goes here.setting (declared_by around.declared node.attributes) (element_of origin node) ≡ test
   goes_by test by = ap (λ (names : List (List ℕ)). goes here.setting names (element_of origin node)) (sym declares)
       ∙ sym (goes_as here.setting a0.rules declared (element_of origin node) node.attributes
-      (ap (λ (s : Setting). s.rules) ready.setting) refl) ∙ sym by
+      (ap (λ (s : ResolveInput). s.rules) ready.setting) refl) ∙ sym by
 
   pub judged_gone : true ≡ some_exclude a0.rules declared node.attributes
       → IsWalked here.setting.pushed links
@@ -81,7 +82,7 @@ module _ {world : World} {stand : Stand} {links : ℕ} {here : Here} {doc : Doc}
       (after : PlaceTables) → false ≡ some_exclude a0.rules declared node.attributes
       → sought_found sought ≡ if_reference (sought_by (element_of origin node)) → is_some sought ≡ false
       → (IsReady world stand links here a places → Walks result here.setting.pushed links
-      (kept_made here is_range (seen_by (topic_for is_range (element_of origin node) around.topic) declared)
+      (kept_made here is_range (seen_by (topic_before_merge is_range (element_of origin node) around.topic) declared)
       (element_of origin node) (named_content siblings)) a d after)
       → Walks result here.setting.pushed links
       (whole_made here is_range around (element_around siblings node) (named_content siblings)) a0 d after
@@ -89,19 +90,20 @@ module _ {world : World} {stand : Stand} {links : ℕ} {here : Here} {doc : Doc}
       (plain_walks result here links is_range around (element_of origin node)
       (named_content siblings) sought a0 a d after judged_is (goes_by false left) by none
       (subst (λ (names : List (List ℕ)). Walks result here.setting.pushed links
-      (kept_made here is_range (seen_by (topic_for is_range (element_of origin node) around.topic) names)
+      (kept_made here is_range (seen_by (topic_before_merge is_range (element_of origin node) around.topic) names)
       (element_of origin node) (named_content siblings)) a d after) declares (walked now)))
 
 -- It stays, and its reference was followed: it takes nothing, or what is merged, with the ranges behind it
 
 module _ {world : World} {stand later : Stand} {links end : ℕ} {here : Here} {seen : List ℕ} {doc : Doc}
-    {items : List Link} {a0 a b : Resolver} {places between : PlaceTables}
-    (is_range : Bool) (around : Around) (siblings : Siblings) (node : Node) (origin : List ℕ) (declared : List (List ℕ))
-    (of : doc ≡ document siblings) (name : Some origin ≡ slice_get doc.origins node.origin)
+    {items : List TakenTarget} {a0 a b : Resolver} {places between : PlaceTables}
+    (is_range : Bool) (around : ContentAround) (siblings : Siblings) (node : Node) (origin : List ℕ)
+    (declared : List (List ℕ))
+    (of : doc ≡ doc_of_siblings siblings) (name : Some origin ≡ slice_get doc.origins node.origin)
     (declares : declared ≡ declared_by around.declared node.attributes)
     (judged : a ≡ record a0 { faults = a0.faults ++ group_faults declared (element_of origin node) })
     (left : false ≡ some_exclude a0.rules declared node.attributes)
-    (sees : seen ≡ topic_for is_range (element_of origin node) around.topic) (page : IsSamePage a b) (stands : later ≡ stand)
+    (sees : seen ≡ topic_before_merge is_range (element_of origin node) around.topic) (page : IsSamePage a b) (stands : later ≡ stand)
     (ready : IsReady world stand links here a0 places)
     (known : AreTables (documents_in world stand.setting) places → IsDepth a here.depth → links ≤ length a.path.items
     → IsFollowed (documents_in world stand.setting) (element_of origin node) (named_content siblings)
@@ -113,12 +115,12 @@ module _ {world : World} {stand later : Stand} {links end : ℕ} {here : Here} {
   abbrev inside : Written
   inside = named_content siblings
 
-  abbrev shown : Around
+  abbrev shown : ContentAround
   shown = around_for is_range element around
 
   shows : seen_by seen declared ≡ shown
   shows = ap (λ (topic : List ℕ). seen_by topic declared) sees
-      ∙ ap (seen_by (topic_for is_range element around.topic)) declares
+      ∙ ap (seen_by (topic_before_merge is_range element around.topic)) declares
 
   is_judged : a ≡ record a0 {
     faults = a0.faults ++ group_faults (declared_by around.declared element.attributes) element;
@@ -147,14 +149,15 @@ module _ {world : World} {stand later : Stand} {links end : ℕ} {here : Here} {
 
   pub asked_kept : (result : Result (Unit {0}) (Stop TooMany)) (d : Resolver) (after : PlaceTables) → end ≤ links
       → (IsReady world later links here b between → Walks result here.setting.pushed links
-      (kept_made here is_range (seen_by (topic_for is_range (element_of origin node) around.topic) declared)
+      (kept_made here is_range (seen_by (topic_before_merge is_range (element_of origin node) around.topic) declared)
       (element_of origin node) (named_content siblings)) b d after)
       → Walks result here.setting.pushed links
       (whole_made here is_range around (element_around siblings node) (named_content siblings)) a0 d after
   asked_kept result d after none walked = all_is result d after
       (kept_walks here links end is_range around element inside items a0 a b between is_judged stays first.path follows
       result d after none (subst (λ (names : List (List ℕ)). Walks result here.setting.pushed links
-      (kept_made here is_range (seen_by (topic_for is_range element around.topic) names) element inside) b d after)
+      (kept_made here is_range (seen_by (topic_before_merge is_range element around.topic) names) element inside) b
+      d after)
       declares (walked next)))
 
   taken : links < end → end ≤ 32
@@ -177,7 +180,7 @@ module _ {world : World} {stand later : Stand} {links end : ℕ} {here : Here} {
       let whole = merged_element element (merged_onto t.farthest.element t.nearer) in
       walks_as result here.setting.pushed end (merged_made there is_range (seen_by seen declared) (declared_inside t.farthest) whole t.farthest.inside)
       (merged_made there is_range shown (declared_inside t.farthest) whole t.farthest.inside) b d after
-      (ap (λ (seen : Around). merged_made there is_range seen (declared_inside t.farthest) whole t.farthest.inside) shows)
+      (ap (λ (seen : ContentAround). merged_made there is_range seen (declared_inside t.farthest) whole t.farthest.inside) shows)
       (walked there t.farthest t.nearer
       (took_ready here links end is_range around element inside items a0 a b between is_judged stays first.path follows
       world stand later places t first page stands limit) t.linked t.types)

@@ -10,18 +10,18 @@ use Rattle.dita_doc.specs.declared.fault.Fault.{Fault}
 use Rattle.dita_doc.specs.declared.plan.Context.{Context}
 use Rattle.map_spec.specs.Written as written
 use Rattle.map_spec.specs.Written.{Element, Written}
-use Rattle.conref_spec.specs.Content.{Found, Place, Setting, Sought, followed_from, found_by, has_reference, sought_by, taken}
+use Rattle.conref_spec.specs.Content.{Found, Place, ResolveInput, Sought, followed_from, found_by, has_reference, sought_by, taken}
 use Rattle.reader_spec.specs.World.{World}
 use Rattle.readers.specs.Setting.{Stand}
 use Rattle.conref_targets.specs.Origin.{whole_of, whole_shown}
-use Rattle.conref_targets.specs.Setting.{setting_of}
+use Rattle.conref_targets.specs.ResolveInput.{setting_of}
 use Rattle.conref_targets.specs.Tables.{AreTables}
 use Rattle.conref_targets.specs.declared.origin.Whole.{Whole}
 use Rattle.conref_targets.specs.declared.tables.PlaceTables.{PlaceTables}
 use Rattle.conref_pull.specs.Linked.{IsFollowed, IsLink, IsLinked, IsPathAfter, IsStep}
 use Rattle.conref_pull.specs.State.{IsSamePage, path_within, place_shown}
-use Rattle.conref_pull.specs.Step.{Step, Taken, after_step, followed_to_all, step_of, step_to, step_with}
-use Rattle.conref_pull.specs.declared.chain.Link.{Link}
+use Rattle.conref_pull.specs.Step.{FollowStep, Taken, after_step, followed_to_all, step_of, step_to, step_with}
+use Rattle.conref_pull.specs.declared.chain.TakenTarget.{TakenTarget}
 use Rattle.conref_pull.specs.declared.place.Place as kept
 use Rattle.conref_pull.specs.declared.resolver.Resolver.{Resolver}
 use Rattle.conref_pull.proofs.StepLaws.{follows, links_one_more, one_more}
@@ -49,14 +49,14 @@ longer_with path element target before None =
     record { place = record { doc = target.doc; at = target.standing.place }; is = refl }
 longer_with path element target before (Some fault) = tt
 
-module _ (setting : Setting) (topic : List ℕ) (at : ℕ) (path : List Place) (element : Element) where
+module _ (setting : ResolveInput) (topic : List ℕ) (at : ℕ) (path : List Place) (element : Element) where
   longer_to : (sought : Sought) (found : Option Found) → AreLonger path (step_to setting at path element sought found).taken
   longer_to sought None = tt
   longer_to sought (Some target) = longer_with path element target _ _
 
   longer_if : (test : Bool) (sought : Sought) (found : Option Found)
       → AreLonger path (if test then step_to setting at path element sought found
-      else (let none : Step = record { taken = None; faults = [] } in none)).taken
+      else (let none : FollowStep = record { taken = None; faults = [] } in none)).taken
   longer_if true sought found = longer_to sought found
   longer_if false sought found = tt
 
@@ -65,7 +65,8 @@ module _ (setting : Setting) (topic : List ℕ) (at : ℕ) (path : List Place) (
       (found_by setting topic element (sought_by element))
 
 -- a link was taken
-pub record Went (setting : Setting) (topic : List ℕ) (at : ℕ) (path : List Place) (element : Element) (link : Link)
+pub record Went (setting : ResolveInput) (topic : List ℕ) (at : ℕ) (path : List Place) (element : Element)
+    (link : TakenTarget)
     (new : Resolver) : Type 0 where
   pub one : Taken
   pub is : (step_of setting topic at path element).taken ≡ Some one
@@ -73,9 +74,10 @@ pub record Went (setting : Setting) (topic : List ℕ) (at : ℕ) (path : List P
   pub longer : Longer path one
   pub further : map place_shown new.path.items ≡ one.path
 
-module _ (setting : Setting) (topic : List ℕ) (at : ℕ) (path : List Place) (element : Element) (old new : Resolver)
+module _ (setting : ResolveInput) (topic : List ℕ) (at : ℕ) (path : List Place) (element : Element) (old new : Resolver)
     (places : PlaceTables) where
-  pub went : (link : Link) → IsStep setting.pushed (step_of setting topic at path element) old new places (Some link)
+  pub went : (link : TakenTarget)
+      → IsStep setting.pushed (step_of setting topic at path element) old new places (Some link)
       → Went setting topic at path element link new
   went link step = by_taken (step_of setting topic at path element).taken refl step.link step.path
       (longer_of setting topic at path element)
@@ -102,17 +104,18 @@ pub count_shown : (resolver : Resolver) (links : ℕ) → links ≤ length resol
     → length (path_within resolver links) ≡ links
 count_shown resolver links room = length-take-le links (map place_shown resolver.path.items) (rw length-map room)
 
-module _ (setting : Setting) (topic : List ℕ) (at links : ℕ) (element : Element) (inside : Written)
+module _ (setting : ResolveInput) (topic : List ℕ) (at links : ℕ) (element : Element) (inside : Written)
     (old mid : Resolver) (first : PlaceTables) (room : links ≤ length old.path.items) where
   -- nothing more was taken
-  pub follow_ended : (steps : ℕ) (before : List Link) (found : Option Link) → 0 < steps → found ≡ None
+  pub follow_ended : (steps : ℕ) (before : List TakenTarget) (found : Option TakenTarget) → 0 < steps → found ≡ None
       → IsStep setting.pushed (step_of setting topic at (path_within old links) element) old mid first found
       → IsFollowed setting.pushed element inside
       (followed_from steps setting topic at (path_within old links) element inside) before before links links old mid first
   follow_ended zero before found some none step = absurd (omega arith)
   follow_ended (suc steps) before found some none step =
       let stay = stayed setting topic at (path_within old links) element old mid first
-      (subst (λ (l : Option Link). IsStep setting.pushed (step_of setting topic at (path_within old links) element)
+      (subst (λ (l : Option TakenTarget). IsStep setting.pushed
+      (step_of setting topic at (path_within old links) element)
       old mid first l) none step) in
       let faults : List Fault = (step_of setting topic at (path_within old links) element).faults in
       record {
@@ -130,7 +133,7 @@ module _ (setting : Setting) (topic : List ℕ) (at links : ℕ) (element : Elem
         tables = step.tables;
       }
 
-  module _ (link : Link)
+  module _ (link : TakenTarget)
       (step : IsStep setting.pushed (step_of setting topic at (path_within old links) element) old mid first (Some link))
     where
       abbrev gone : Went setting topic at (path_within old links) element link mid
@@ -156,7 +159,7 @@ module _ (setting : Setting) (topic : List ℕ) (at links : ℕ) (element : Elem
           ∙ take_all links (path_within old links) (omega (arith, count_shown old links room))
 
       -- more was taken behind the target
-      module _ (new : Resolver) (last : PlaceTables) (steps end : ℕ) (before after all : List Link)
+      module _ (new : Resolver) (last : PlaceTables) (steps end : ℕ) (before after all : List TakenTarget)
           (target : written.Whole) (same : target ≡ (gone.one.element, gone.one.inside))
           (rest : IsFollowed setting.pushed target.0 target.1
           (followed_from steps setting topic at (path_within mid (links + 1)) target.0 target.1) before after (links + 1)
@@ -200,7 +203,7 @@ module _ (setting : Setting) (topic : List ℕ) (at links : ℕ) (element : Elem
           taken = rest.taken ++ gone.one ∷ [];
           more = rest.more ++ link ∷ [];
           faults = step_faults ++ rest.faults;
-          items = items ∙ ap (λ (ls : List Link). ls ++ link ∷ []) rest.items
+          items = items ∙ ap (λ (ls : List TakenTarget). ls ++ link ∷ []) rest.items
               ∙ append_assoc before rest.more (link ∷ []);
           linked = links_one_more (path_within new end) end rest.taken rest.more gone.one link rest.linked gone.linked
               last_path;
@@ -214,7 +217,8 @@ module _ (setting : Setting) (topic : List ℕ) (at links : ℕ) (element : Elem
 
       module _ (target : Whole)
           (there : (one : Taken) → IsLink link one → whole_shown (Some target) ≡ Some (one.element, one.inside)) where
-        pub follow_on : (new : Resolver) (last : PlaceTables) (steps end : ℕ) (before after all : List Link) → 0 < steps
+        pub follow_on : (new : Resolver) (last : PlaceTables) (steps end : ℕ) (before after all : List TakenTarget)
+            → 0 < steps
             → ((n : ℕ) → steps ≡ suc n → IsFollowed setting.pushed (whole_of target).0 (whole_of target).1
             (followed_from n setting topic at (path_within mid (links + 1)) (whole_of target).0 (whole_of target).1)
             before after (links + 1) end mid new last)
@@ -228,7 +232,7 @@ module _ (setting : Setting) (topic : List ℕ) (at links : ℕ) (element : Elem
 
       -- a link that was taken has its target
       pub follow_lost : ((one : Taken) → IsLink link one → whole_shown None ≡ Some (one.element, one.inside))
-          → (steps : ℕ) (before : List Link) → IsFollowed setting.pushed element inside
+          → (steps : ℕ) (before : List TakenTarget) → IsFollowed setting.pushed element inside
           (followed_from steps setting topic at (path_within old links) element inside) before before links links old mid
           first
       follow_lost whole steps before = let e = whole gone.one gone.linked in cc
@@ -243,13 +247,14 @@ page_same_setting world stand other old new same page =
     ∙ ap (λ (context : Bor Context). setting_of world stand.setting context.now.page new.rules) page.context
     ∙ ap (λ (rules : List (List Rule)). setting_of world stand.setting old.context.now.page rules) page.rules
 
-pub followed_there : (setting other : Setting) (topic : List ℕ) (at steps links end : ℕ) (path : List Place)
-    (element : Element) (inside : Written) (before after : List Link) (mid new : Resolver) (first last : PlaceTables)
+pub followed_there : (setting other : ResolveInput) (topic : List ℕ) (at steps links end : ℕ) (path : List Place)
+    (element : Element) (inside : Written) (before after : List TakenTarget) (mid new : Resolver)
+    (first last : PlaceTables)
     → other ≡ setting
     → (AreTables other.pushed first → IsFollowed other.pushed element inside
     (followed_from steps other topic at path element inside) before after links end mid new last)
     → AreTables setting.pushed first → IsFollowed setting.pushed element inside
     (followed_from steps setting topic at path element inside) before after links end mid new last
 followed_there setting other topic at steps links end path element inside before after mid new first last same =
-    subst (λ (s : Setting). AreTables s.pushed first → IsFollowed s.pushed element inside
+    subst (λ (s : ResolveInput). AreTables s.pushed first → IsFollowed s.pushed element inside
     (followed_from steps s topic at path element inside) before after links end mid new last) same

@@ -8,7 +8,7 @@ use Rattle.dita_doc.specs.declared.doc.Attribute.{Attribute}
 use Rattle.doc_maker.specs.Building.{Building, Top, Within, behind, closed, filled}
 use Rattle.map_spec.specs.Written.{Element, Written, End, Chars, Node, side_by_side}
 use Rattle.readers.specs.Founded.{AreAllowed, Grows, is_allowed}
-use Rattle.readers.specs.Named.{linked_by, linked_in, name_joined}
+use Rattle.readers.specs.Named.{link_names, linked_in, name_joined}
 use Rattle.readers.specs.Told.{Told}
 use Rattle.readers.proofs.AmongLaws.{among_either}
 use Rattle.readers.proofs.GrowthLaws.{are_allowed_before}
@@ -92,7 +92,7 @@ module _ (roots : List (List ℕ)) (told : List Told) where
   linked_allowed (Chars text doc rest) named = linked_allowed rest named
   linked_allowed (Node element inside rest) named = record {
     each = λ m among.
-        among_either (linked_by element) (linked_in inside ++ linked_in rest) m (IsTrue (is_allowed roots told m))
+        among_either (link_names element) (linked_in inside ++ linked_in rest) m (IsTrue (is_allowed roots told m))
         ((first_allowed element.href_doc element.attributes named.0).each m)
         (among_either (linked_in inside) (linked_in rest) m (IsTrue (is_allowed roots told m))
         ((linked_allowed inside named.1).each m) ((linked_allowed rest named.2).each m)) among;

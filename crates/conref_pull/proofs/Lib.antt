@@ -19,7 +19,6 @@ pub mod OpenedLaws
 pub mod PutLaws
 pub mod ResolvedLaws
 pub mod RootLaws
-pub mod Rules
 pub mod SeekLaws
 pub mod SiblingLaws
 pub mod SizeLaws

@@ -16,21 +16,23 @@ use Rattle.conref_targets.specs.declared.find.Found.{Found}
 use Rattle.conref_targets.specs.declared.origin.Whole.{Whole}
 use Rattle.conref_targets.proofs.AskingLaws.{given_reused, given_some}
 use Rattle.conref_pull.specs.Linked.{AreGivenTo, IsGivenIf, IsGivenTo}
-use Rattle.conref_pull.specs.declared.chain.Link.{Link}
+use Rattle.conref_pull.specs.declared.chain.TakenTarget.{TakenTarget}
 
-pub links_later : (old new : List Told) (links : List Link) → Grows old new → AreGivenTo old links
+pub links_later : (old new : List Told) (links : List TakenTarget) → Grows old new → AreGivenTo old links
     → AreGivenTo new links
 links_later old new [] grows given = given
 links_later old new (link ∷ links) grows given =
     (given_later old new _ grows given.0, links_later old new links grows given.1)
 
-pub links_more : (told : List Told) (links : List Link) (link : Link) → AreGivenTo told links → IsGivenTo told link
+pub links_more : (told : List Told) (links : List TakenTarget) (link : TakenTarget) → AreGivenTo told links
+    → IsGivenTo told link
     → AreGivenTo told (links ++ link ∷ [])
 links_more told [] link given more = (more, tt)
 links_more told (one ∷ links) link given more = (given.0, links_more told links link given.1 more)
 
 -- the last of them, and those before it
-pub links_apart : (told : List Told) (links : List Link) (link : Link) → AreGivenTo told (links ++ link ∷ [])
+pub links_apart : (told : List Told) (links : List TakenTarget) (link : TakenTarget)
+    → AreGivenTo told (links ++ link ∷ [])
     → AreGivenTo told links × IsGivenTo told link
 links_apart told [] link given = (tt, given.0)
 links_apart told (one ∷ links) link given =
@@ -38,18 +40,19 @@ links_apart told (one ∷ links) link given =
     ((given.0, behind.0), behind.1)
 
 -- one of them
-pub link_given : (told : List Told) (links : List Link) (at : ℕ) (link : Link) → AreGivenTo told links
+pub link_given : (told : List Told) (links : List TakenTarget) (at : ℕ) (link : TakenTarget) → AreGivenTo told links
     → at < length links → link ≡ get_or links at link → IsGivenTo told link
 link_given told [] at link given within is = absurd (omega arith)
 link_given told (one ∷ links) zero link given within is = subst (IsGivenTo told) (sym is) given.0
 link_given told (one ∷ links) (suc at) link given within is =
     link_given told links at link given.1 (omega arith) is
 
-pub first_given : (told : List Told) (links : List Link) (link : Link) (more : List Link) → links ≡ link ∷ more
+pub first_given : (told : List Told) (links : List TakenTarget) (link : TakenTarget) (more : List TakenTarget)
+    → links ≡ link ∷ more
     → AreGivenTo told links → IsGivenTo told link
 first_given told links link more is given = (subst (AreGivenTo told) is given).0
 
-pub whole_given : (told : List Told) (link : Link) (found : Option Whole) → IsGivenTo told link
+pub whole_given : (told : List Told) (link : TakenTarget) (found : Option Whole) → IsGivenTo told link
     → IfSome found (λ whole. AreAmong (reused_of_whole whole) (reused_of_doc (arc_value link.doc)))
     → IfSome found (λ whole. AreGiven told (reused_of_whole whole))
 whole_given told link None given among = tt
@@ -57,7 +60,7 @@ whole_given told link (Some whole) given among =
     given_some told (reused_of_whole whole) _ among (given_reused told (arc_value link.doc) given)
 
 -- the link to a target that was found
-pub given_link : (told : List Told) (found : Found) (result : Result (Option Link) NoMemory)
+pub given_link : (told : List Told) (found : Found) (result : Result (Option TakenTarget) NoMemory)
     → IfOk result (λ link. IfSome link (λ one. one.doc ≡ found.doc)) → IsGivenIn told (Some found)
     → IfOk result (λ link. IsGivenIf told link)
 given_link told found (Err stop) same given = tt

@@ -1,5 +1,5 @@
 -- What an element takes from its targets.
-use Rattle.std.specs.Prelude.{◌≡◌, ◌&&◌, ◌-◌, ℕ, Bool, true, false, not, List, [], ◌∷◌, Option, Some, None, Result, IfOk, filter, length}
+use Rattle.std.specs.Prelude.{◌≡◌, ◌&&◌, ◌-◌, ℕ, Bool, true, false, not, List, [], ◌∷◌, Option, Some, Result, IfOk, filter, length}
 use Rattle.std.proofs.Common.{refl, sym, ap, subst, arith}
 use Rattle.dita_doc.specs.declared.doc.Attribute.{Attribute}
 use Rattle.dita_doc.specs.declared.stop.NoMemory.{NoMemory}
@@ -9,7 +9,7 @@ use Rattle.map_spec.specs.Pushes.{without_names}
 use Rattle.conref_pull.specs.Linked.{AreLinks, IsLink}
 use Rattle.conref_pull.specs.Merging.{IsMerged, is_missing, is_taken}
 use Rattle.conref_pull.specs.Step.{Taken, followed_to_all, merged_onto}
-use Rattle.conref_pull.specs.declared.chain.Link.{Link}
+use Rattle.conref_pull.specs.declared.chain.TakenTarget.{TakenTarget}
 use Rattle.conref_pull.specs.declared.merge.Merged.{Merged}
 
 -- two tests, one after the other
@@ -37,23 +37,21 @@ missing_taken own taken = sym (filter_both (λ written. is_taken written.name)
 pub pair_first : (one other : Whole) → ◌≡◌ {A = Option Whole} (Some one) (Some other) → one.0 ≡ other.0
 pair_first one other e = let same : one ≡ other = cc in ap (λ (whole : Whole). whole.0) same
 
-pub none_some : (one : Whole) → ◌≡◌ {A = Option Whole} None (Some one) → ⊥
-none_some one e = cc
-
 -- no target was taken, or the farthest of them and others
-module _ (element : Element) (inside : Written) (path : List Place) (end : ℕ) (taken : List Taken) (links : List Link)
+module _ (element : Element) (inside : Written) (path : List Place) (end : ℕ) (taken : List Taken)
+    (links : List TakenTarget)
     (result : Result Merged NoMemory) (linked : AreLinks path end taken links) where
   pub with_none : length links ≡ 0 → IfOk result (λ merged. IsMerged merged element)
       → IfOk result (λ merged. IsMerged merged (followed_to_all element inside [] [] taken).element)
   with_none none gives = by_taken taken links linked none
     where
-      by_taken : (some : List Taken) (all : List Link) → AreLinks path end some all → length all ≡ 0
+      by_taken : (some : List Taken) (all : List TakenTarget) → AreLinks path end some all → length all ≡ 0
           → IfOk result (λ merged. IsMerged merged (followed_to_all element inside [] [] some).element)
       by_taken [] all linked none = gives
       by_taken (one ∷ some) [] linked none = absurd linked
       by_taken (one ∷ some) (link ∷ all) linked none = absurd (omega arith)
 
-  pub with_some : (link : Link) (rest : List Link) → links ≡ link ∷ rest
+  pub with_some : (link : TakenTarget) (rest : List TakenTarget) → links ≡ link ∷ rest
       → ((one : Taken) (others : List Taken) → IsLink link one → AreLinks path (end - 1) others rest
       → IfOk result (λ merged. IsMerged merged (merged_element element (merged_onto one.element others))))
       → IfOk result (λ merged. IsMerged merged (followed_to_all element inside [] [] taken).element)

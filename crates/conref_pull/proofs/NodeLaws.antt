@@ -1,7 +1,7 @@
 -- The node at a place of a document, as it is resolved alone.
 use Rattle.std.specs.Prelude.{◌≡◌, ◌+◌, ◌≤◌, ℕ, true, List, [], Option, Some, None, Result, Ok, Err, OnOk, length, slice_get, unwrap_or}
 use Rattle.std.proofs.Common.{refl, ap, ◌∙◌}
-use Rattle.dita_doc.specs.Siblings.{IsElementAt, document, element_at}
+use Rattle.dita_doc.specs.Siblings.{IsElementAt, doc_of_siblings, content_at}
 use Rattle.dita_doc.specs.Tree.{Content, End, Chars, Element, chars_node, tree_of}
 use Rattle.dita_doc.specs.declared.doc.Doc.{Doc}
 use Rattle.dita_doc.specs.declared.doc.Node.{Node}
@@ -12,10 +12,10 @@ use Rattle.doc_elements.specs.Walk.{element_of}
 use Rattle.map_spec.specs.Written as written
 use Rattle.map_spec.specs.Written.{Whole, Written}
 use Rattle.conref_spec.specs.Content.{Made}
-use Rattle.readers.specs.Named.{name_at, named}
+use Rattle.readers.specs.Named.{name_at, under_names}
 use Rattle.conref_targets.specs.Asking.{element_around}
 use Rattle.conref_targets.specs.Origin.{named_content}
-use Rattle.conref_targets.specs.Parts.{IsPart, has_first, first_alone}
+use Rattle.conref_targets.specs.Parts.{AreSiblingsAt, has_first, first_alone}
 use Rattle.conref_targets.specs.Tables.{AreTables, Documents}
 use Rattle.conref_targets.specs.declared.tables.PlaceTables.{PlaceTables}
 use Rattle.conref_targets.proofs.OriginLaws.{origin_there, whole_there}
@@ -36,9 +36,9 @@ by_whole (Some one) = written.Node one.0 one.1 written.End
 
 -- it is an element
 pub node_element : (doc : Doc) (place : ℕ) (part : Content) (node : Node) (inside : Siblings)
-    → IsPart (tree_of doc.nodes) place part → has_first part ≡ true → IsElementAt doc place node inside
+    → AreSiblingsAt (tree_of doc.nodes) place part → has_first part ≡ true → IsElementAt doc place node inside
     → written.Node (element_around inside node) (named_content inside) written.End
-    ≡ first_alone (named doc.origins part)
+    ≡ first_alone (under_names doc.origins part)
 node_element doc place End node inside there first is = cc
 node_element doc place (Chars text origin line rest) node inside there first is =
     let none = no_element_there (tree_of doc.nodes) place text origin line rest there in
@@ -46,16 +46,16 @@ node_element doc place (Chars text origin line rest) node inside there first is 
 node_element doc place (Element label attributes origin line held rest) node inside there first is =
     let home : Some (name_at doc.origins node.origin) ≡ slice_get doc.origins node.origin =
     some_name (slice_get doc.origins node.origin) (λ none. origin_there doc place node is.here none) in
-    let name_is : name_at (document inside).origins node.origin ≡ name_at doc.origins node.origin =
+    let name_is : name_at (doc_of_siblings inside).origins node.origin ≡ name_at doc.origins node.origin =
     ap (λ (d : Doc). name_at d.origins node.origin) is.within in
     let found = whole_there doc place (Element label attributes origin line held rest) node inside
     (name_at doc.origins node.origin) there refl is.element is.within home in
     ap (λ n. written.Node (element_of n node) (named_content inside) written.End) name_is ∙ ap by_whole found
 
 -- it is a text
-pub node_text : (doc : Doc) (place : ℕ) (part : Content) (node : Node) → IsPart (tree_of doc.nodes) place part
-    → has_first part ≡ true → element_at (tree_of doc.nodes) place ≡ None → slice_get doc.nodes place ≡ Some node
-    → written.Chars node.text (name_at doc.origins node.origin) written.End ≡ first_alone (named doc.origins part)
+pub node_text : (doc : Doc) (place : ℕ) (part : Content) (node : Node) → AreSiblingsAt (tree_of doc.nodes) place part
+    → has_first part ≡ true → content_at (tree_of doc.nodes) place ≡ None → slice_get doc.nodes place ≡ Some node
+    → written.Chars node.text (name_at doc.origins node.origin) written.End ≡ first_alone (under_names doc.origins part)
 node_text doc place End node there first none is = cc
 node_text doc place (Chars text origin line rest) node there first none is =
     let some = text_there doc.nodes doc.tree place text origin line rest there in
@@ -65,7 +65,7 @@ node_text doc place (Element label attributes origin line held rest) node there 
     let some = element_there (tree_of doc.nodes) place label attributes origin line held rest there in cc
 
 -- there is one
-pub node_none : (doc : Doc) (place : ℕ) (part : Content) → IsPart (tree_of doc.nodes) place part
+pub node_none : (doc : Doc) (place : ℕ) (part : Content) → AreSiblingsAt (tree_of doc.nodes) place part
     → has_first part ≡ true → slice_get doc.nodes place ≡ None → ⊥
 node_none doc place End there first none = cc
 node_none doc place (Chars text origin line rest) there first none =

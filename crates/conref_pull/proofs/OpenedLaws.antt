@@ -9,7 +9,7 @@ use Rattle.doc_maker.specs.Made.{building, declared}
 use Rattle.doc_maker.specs.declared.maker.DocMaker.{DocMaker}
 use Rattle.map_spec.specs.Judged.{group_faults}
 use Rattle.map_spec.specs.Written.{Element, Whole, Written}
-use Rattle.conref_spec.specs.Content.{Around, Made, Setting, around_within, declared_there, merged_element, without_id}
+use Rattle.conref_spec.specs.Content.{ContentAround, Made, ResolveInput, around_within, declared_there, merged_element, without_id}
 use Rattle.reader_spec.specs.World.{World}
 use Rattle.readers.specs.Setting.{Stand}
 use Rattle.conref_targets.specs.Judging.{with_attributes}
@@ -39,8 +39,9 @@ noted_as names given before after copied noted =
 
 -- As it is
 
-module _ {world : World} {stand : Stand} {links : ℕ} {here : Here} {held : Around} {name : List ℕ} {attributes : List Attribute}
-    {a b : Resolver} {places : PlaceTables} (is_range : Bool) (around : Around) (element : Element) (inside : Written)
+module _ {world : World} {stand : Stand} {links : ℕ} {here : Here} {held : ContentAround} {name : List ℕ} {attributes : List Attribute}
+    {a b : Resolver} {places : PlaceTables} (is_range : Bool) (around : ContentAround) (element : Element)
+    (inside : Written)
     (opener : DocMaker) (names : List (List ℕ)) (own : element.href_doc ≡ element.doc) (counted : OneMore a b)
     (named : name ≡ element.name) (are : attributes ≡ (without_id is_range element).attributes)
     (into : building opener ≡ opened (built b) (element_put_as name attributes element.doc element.line
@@ -77,7 +78,7 @@ module _ {world : World} {stand : Stand} {links : ℕ} {here : Here} {held : Aro
       → Walks result here.setting.pushed links content c d after
   held_is result d after walked = walks_as result here.setting.pushed links
       (among_made (inside_of here) false held inside) content c d after
-      (ap (λ (t : Around). among_made (inside_of here) false t inside) holds) (walked now)
+      (ap (λ (t : ContentAround). among_made (inside_of here) false t inside) holds) (walked now)
 
   pub kept_put : {d : Resolver} {after : PlaceTables} (closer : DocMaker)
       → (IsReady world stand links (inside_of here) (at_maker b opener) places
@@ -102,12 +103,12 @@ module _ {world : World} {stand : Stand} {links : ℕ} {here : Here} {held : Aro
 -- With what it takes
 
 module _ {world : World} {stand : Stand} {links : ℕ} {here : Here} {merged : Merged} {a b c : Resolver}
-    {places : PlaceTables} (is_range : Bool) (around : Around) (there : List (List ℕ)) (element target : Element)
+    {places : PlaceTables} (is_range : Bool) (around : ContentAround) (there : List (List ℕ)) (element target : Element)
     (inside : Written) (counted : OneMore a b) (is : IsMerged merged (merged_element element target))
     (judged : c ≡ record b { faults = b.faults ++ group_faults around.declared (with_attributes merged.attributes element) })
     (ready : IsReady world stand links here a places) where
   rules : here.setting.rules ≡ b.rules
-  rules = ap (λ (s : Setting). s.rules) ready.setting ∙ sym (ap (λ (r : Resolver). r.rules) counted.state)
+  rules = ap (λ (s : ResolveInput). s.rules) ready.setting ∙ sym (ap (λ (r : Resolver). r.rules) counted.state)
 
   pub taken_goes : true ≡ some_exclude b.rules around.declared merged.attributes
       → IsWalked here.setting.pushed links (merged_made here is_range around there (merged_element element target) inside) a c
@@ -115,8 +116,9 @@ module _ {world : World} {stand : Stand} {links : ℕ} {here : Here} {merged : M
   taken_goes gone = merged_goes here links is_range around there element target inside merged a b c places counted is judged
       rules gone ready.within ready.tables
 
-module _ {world : World} {stand : Stand} {links : ℕ} {here : Here} {held : Around} {name : List ℕ} {merged own : Merged}
-    {a b c : Resolver} {places : PlaceTables} (is_range : Bool) (around : Around) (there : List (List ℕ))
+module _ {world : World} {stand : Stand} {links : ℕ} {here : Here} {held : ContentAround} {name : List ℕ}
+    {merged own : Merged}
+    {a b c : Resolver} {places : PlaceTables} (is_range : Bool) (around : ContentAround) (there : List (List ℕ))
     (element target : Element) (inside : Written) (opener : DocMaker) (names : List (List ℕ))
     (at_home : element.href_doc ≡ element.doc) (counted : OneMore a b)
     (is : IsMerged merged (merged_element element target))
@@ -172,7 +174,7 @@ module _ {world : World} {stand : Stand} {links : ℕ} {here : Here} {held : Aro
   content_taken result kept e after same walked = walks_as result here.setting.pushed links
       (among_made (inside_of here) false held kept)
       (among_made (inside_of here) false (around_within is_range whole (declared_there there around)) inside) d e after
-      (ap (λ (t : Around). among_made (inside_of here) false t kept) holds
+      (ap (λ (t : ContentAround). among_made (inside_of here) false t kept) holds
       ∙ ap (among_made (inside_of here) false (around_within is_range whole (declared_there there around))) same) (walked ready_held)
 
   pub taken_put : {first last : Element} {kept : Written} {e : Resolver} {after : PlaceTables} (closer : DocMaker)

@@ -5,13 +5,14 @@ use Rattle.std.proofs.Common.{refl, sym, ap, ◌∙◌}
 use Rattle.dita_doc.specs.declared.fault.Fault.{Fault}
 use Rattle.map_spec.specs.Judged.{group_faults}
 use Rattle.map_spec.specs.Written.{Element, Written, End, Chars, Node}
-use Rattle.conref_spec.specs.Content.{Around, Followed, Made, Place, Range, Resolve, Setting, around_for, around_within, declared_there, element_made, element_resolved, followed, goes, made_beside, made_of, made_with, merged_element, nothing_made, range_behind, ranges_made, resolved_from}
+use Rattle.conref_spec.specs.Content.{ContentAround, Followed, Made, Place, Range, Resolve, ResolveInput, around_for, around_within, declared_there, element_made, element_resolved, followed, goes, made_beside, made_of, made_with, merged_element, nothing_made, range_behind, ranges_made, resolved_from}
 use Rattle.conref_pull.specs.Step.{Taken, declared_inside, followed_to_all, merged_onto, range_of_one}
 use Rattle.conref_pull.proofs.PutLaws.{beside_nothing, nothing_beside}
 
-module _ (resolve : Resolve) (setting : Setting) (is_range : Bool) (around : Around) (depth : ℕ) (path : List Place)
-    (element : Element) (inside : Written) (own : Around → Made) where
-  abbrev pub here : Around
+module _ (resolve : Resolve) (setting : ResolveInput) (is_range : Bool) (around : ContentAround) (depth : ℕ)
+    (path : List Place)
+    (element : Element) (inside : Written) (own : ContentAround → Made) where
+  abbrev pub here : ContentAround
   here = around_for is_range element around
 
   abbrev pub by : Followed → Made
@@ -50,13 +51,14 @@ module _ (resolve : Resolve) (setting : Setting) (is_range : Bool) (around : Aro
 
 -- Ranges
 
-pub end_resolved : (steps : ℕ) (setting : Setting) (is_range : Bool) (around : Around) (depth : ℕ) (path : List Place)
+pub end_resolved : (steps : ℕ) (setting : ResolveInput) (is_range : Bool) (around : ContentAround) (depth : ℕ)
+    (path : List Place)
     → resolved_from steps setting is_range around depth path End ≡ nothing_made
 unfolding resolved_from
 end_resolved zero setting is_range around depth path = refl
 end_resolved (suc steps) setting is_range around depth path = refl
 
-module _ (steps : ℕ) (setting : Setting) (around : Around) (depth : ℕ) where
+module _ (steps : ℕ) (setting : ResolveInput) (around : ContentAround) (depth : ℕ) where
   by_range : (nodes : Written) (declared : List (List ℕ)) (path : List Place) (more : List Range)
       → ranges_made (resolved_from steps setting) around depth (range_behind nodes declared path ++ more)
       ≡ made_beside (resolved_from steps setting true (declared_there declared around) depth path nodes)

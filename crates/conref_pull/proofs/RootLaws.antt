@@ -10,7 +10,7 @@ use Rattle.doc_elements.specs.Root.{root_element, root_named}
 use Rattle.doc_elements.specs.Walk.{element_of}
 use Rattle.map_spec.specs.Elements.{fault_at}
 use Rattle.map_spec.specs.Written as written
-use Rattle.map_spec.specs.Written.{Whole, document, first_sibling, written_in}
+use Rattle.map_spec.specs.Written.{Whole, first_sibling, written_in}
 use Rattle.reader_spec.specs.World.{World}
 use Rattle.conref_pull.specs.Resolved.{root_faults, too_many_faults}
 

@@ -5,14 +5,14 @@ use Rattle.dita_doc.specs.declared.content.Rule.{Rule}
 use Rattle.dita_doc.specs.declared.fault.Fault.{Fault}
 use Rattle.dita_doc.specs.declared.stop.NoMemory.{NoMemory}
 use Rattle.map_spec.specs.Written.{Element}
-use Rattle.conref_spec.specs.Content.{Setting, Sought}
+use Rattle.conref_spec.specs.Content.{ResolveInput, Sought}
 use Rattle.conref_targets.specs.Found.{IsReferenced}
 use Rattle.conref_targets.specs.declared.find.Found.{Found}
 use Rattle.conref_targets.specs.declared.tables.PlaceTables.{PlaceTables}
 use Rattle.conref_pull.specs.Seeking.{IsSought}
 use Rattle.conref_pull.specs.declared.resolver.Resolver.{Resolver}
 
-pub sought_in : (result : Result (Option Found) NoMemory) (setting : Setting) (topic : List ℕ) (element : Element)
+pub sought_in : (result : Result (Option Found) NoMemory) (setting : ResolveInput) (topic : List ℕ) (element : Element)
     (sought : Sought) (old : Resolver) (faults : List Fault) (places : PlaceTables)
     → IfOk result (λ found. IsReferenced setting topic element sought old.faults faults places found)
     → IfOk result (λ found. IsSought setting topic element sought old (record old { faults = faults }) places found)

@@ -5,7 +5,7 @@ use Rattle.std.specs.declared.vec.Vec.{Vec}
 use Rattle.std.proofs.Common.{sym, ap, subst}
 use Rattle.dita_doc.specs.declared.stop.Stop.{Stop}
 use Rattle.map_spec.specs.Written.{Element, Written, End, Chars, Node}
-use Rattle.conref_spec.specs.Content.{Around, Made, nothing_made, text_made}
+use Rattle.conref_spec.specs.Content.{ContentAround, Made, nothing_made, text_made}
 use Rattle.conref_targets.specs.Tables.{AreTables, Documents}
 use Rattle.conref_targets.specs.declared.tables.PlaceTables.{PlaceTables}
 use Rattle.conref_pull.specs.Putting.{IsPut}
@@ -27,7 +27,8 @@ put_walked documents links made a b places put path within tables = record {
   tables = tables;
 }
 
-module _ (here : Here) (links : ℕ) (is_range : Bool) (around : Around) (left : Written) (all : Made) (a b : Resolver)
+module _ (here : Here) (links : ℕ) (is_range : Bool) (around : ContentAround) (left : Written) (all : Made)
+    (a b : Resolver)
     (places : PlaceTables)
     (before : SoFar here.setting.pushed links (among_made here is_range around left) all a b places) where
   pub none_next : left ≡ End → IsWalked here.setting.pushed links all a b places

@@ -9,12 +9,12 @@ use Rattle.dita_doc.specs.declared.doc.Doc.{Doc}
 use Rattle.dita_doc.specs.declared.doc.Node.{Node}
 use Rattle.dita_doc.specs.declared.stop.Stop.{Stop}
 use Rattle.map_spec.specs.Written as written
-use Rattle.map_spec.specs.Written.{Written, size}
-use Rattle.conref_spec.specs.Content.{Around, Made, Place, count_limit, declared_there, made_beside, nothing_made, resolved_from, text_made}
+use Rattle.map_spec.specs.Written.{size}
+use Rattle.conref_spec.specs.Content.{ContentAround, Made, Place, count_limit, declared_there, made_beside, nothing_made, resolved_from, text_made}
 use Rattle.reader_spec.specs.World.{World}
-use Rattle.readers.specs.Named.{name_at, named}
+use Rattle.readers.specs.Named.{name_at, under_names}
 use Rattle.readers.specs.Setting.{Stand}
-use Rattle.conref_targets.specs.Parts.{IsPart, among_first, has_first, past, past_text, first_alone}
+use Rattle.conref_targets.specs.Parts.{AreSiblingsAt, among_first, has_first, past, past_text, first_alone}
 use Rattle.conref_targets.specs.Tables.{AreTables}
 use Rattle.conref_targets.specs.declared.tables.PlaceTables.{PlaceTables}
 use Rattle.conref_targets.proofs.PartLaws.{element_node_there, size_named, text_there}
@@ -22,7 +22,7 @@ use Rattle.conref_pull.specs.Linked.{AreLinks, IsLink}
 use Rattle.conref_pull.specs.State.{path_within, place_shown}
 use Rattle.conref_pull.specs.Step.{Taken}
 use Rattle.conref_pull.specs.Walking.{Here, IsReady, IsWalked, Walks, among_made, ranges_put, whole_made}
-use Rattle.conref_pull.specs.declared.chain.Link.{Link}
+use Rattle.conref_pull.specs.declared.chain.TakenTarget.{TakenTarget}
 use Rattle.conref_pull.specs.declared.resolver.Resolver.{Resolver}
 use Rattle.conref_pull.specs.declared.resolver.TooMany.{TooMany}
 use Rattle.conref_pull.proofs.ElementLaws.{resolved_more}
@@ -32,18 +32,18 @@ use Rattle.conref_pull.proofs.WalkLaws.{SoFar, path_shorter, so_far_as, so_far_b
 
 -- The siblings that are left of a range stand at a place
 
-module _ (doc : Doc) (here : Here) (links : ℕ) (is_range : Bool) (around : Around) (to : ℕ) where
+module _ (doc : Doc) (here : Here) (links : ℕ) (is_range : Bool) (around : ContentAround) (to : ℕ) where
   abbrev made_of : Content → ℕ → Made
-  made_of rest place = among_made here is_range around (among_first (to - place) (named doc.origins rest))
+  made_of rest place = among_made here is_range around (among_first (to - place) (under_names doc.origins rest))
 
   pub record Left (all : Made) (old new : Resolver) (places : PlaceTables) (place counter : ℕ) : Type 0 where
     pub rest : Content
-    pub there : IsPart (tree_of doc.nodes) place rest
+    pub there : AreSiblingsAt (tree_of doc.nodes) place rest
     pub fits : to ≤ place + size_of rest
     pub far : counter ≤ place
     pub so_far :
         SoFar here.setting.pushed links
-        (among_made here is_range around (among_first (to - place) (named doc.origins rest))) all old new places
+        (among_made here is_range around (among_first (to - place) (under_names doc.origins rest))) all old new places
 
   none_by : (rest : Content) (place : ℕ) → to ≤ place → made_of rest place ≡ nothing_made
   none_by End place none = refl
@@ -59,7 +59,7 @@ module _ (doc : Doc) (here : Here) (links : ℕ) (is_range : Bool) (around : Aro
       (so_far_as here.setting.pushed links (made_of left.rest place) nothing_made all old new places
       (none_by left.rest place none) left.so_far)
 
-  missing_by : (place : ℕ) (rest : Content) → IsPart (tree_of doc.nodes) place rest → to ≤ place + size_of rest
+  missing_by : (place : ℕ) (rest : Content) → AreSiblingsAt (tree_of doc.nodes) place rest → to ≤ place + size_of rest
       → place < to → slice_get doc.nodes place ≡ None → ⊥
   missing_by place End there fits within none = omega arith
   missing_by place (Chars text origin line rest) there fits within none =
@@ -84,23 +84,23 @@ module _ (doc : Doc) (here : Here) (links : ℕ) (is_range : Bool) (around : Aro
 
   -- what the first of them makes
   abbrev pub first_made : Content → Made
-  first_made rest = among_made here is_range around (first_alone (named doc.origins rest))
+  first_made rest = among_made here is_range around (first_alone (under_names doc.origins rest))
 
   -- those behind it
   record Next (rest : Content) (place end : ℕ) : Type 0 where
     others : Content
-    there : IsPart (tree_of doc.nodes) end others
+    there : AreSiblingsAt (tree_of doc.nodes) end others
     fits : to ≤ end + size_of others
     forward : place < end
     split :
-        among_made here is_range around (among_first (to - place) (named doc.origins rest)) ≡
-        made_beside (among_made here is_range around (first_alone (named doc.origins rest)))
-        (among_made here is_range around (among_first (to - end) (named doc.origins others)))
+        among_made here is_range around (among_first (to - place) (under_names doc.origins rest)) ≡
+        made_beside (among_made here is_range around (first_alone (under_names doc.origins rest)))
+        (among_made here is_range around (among_first (to - end) (under_names doc.origins others)))
 
   some_left : (place : ℕ) → place < to → (to - place == 0) ≡ false
   some_left place within = grind (arith, nat_tests)
 
-  next_by : (place : ℕ) (node : Node) (rest : Content) → IsPart (tree_of doc.nodes) place rest
+  next_by : (place : ℕ) (node : Node) (rest : Content) → AreSiblingsAt (tree_of doc.nodes) place rest
       → to ≤ place + size_of rest → place < to → slice_get doc.nodes place ≡ Some node → Next rest place node.end
   next_by place node End there fits within is = absurd (omega arith)
   next_by place node (Chars text origin line rest) there fits within is =
@@ -117,9 +117,10 @@ module _ (doc : Doc) (here : Here) (links : ℕ) (is_range : Bool) (around : Aro
         forward = omega arith;
         split = ap (λ (test : Bool). among_made here is_range around (if test then written.End
             else written.Chars text (name_at doc.origins origin)
-            (among_first (to - place - 1) (named doc.origins rest))))
+            (among_first (to - place - 1) (under_names doc.origins rest))))
             (some_left place within)
-            ∙ ap (λ n. made_beside one (among_made here is_range around (among_first n (named doc.origins rest)))) less
+            ∙ ap (λ n. made_beside one
+            (among_made here is_range around (among_first n (under_names doc.origins rest)))) less
             ∙ ap (λ (m : Made). made_beside m (made_of rest (place + 1))) (sym (beside_nothing one));
       })
   next_by place node (Element name attributes origin line inside rest) there fits within is =
@@ -129,7 +130,7 @@ module _ (doc : Doc) (here : Here) (links : ℕ) (is_range : Bool) (around : Aro
       let doc_is : List ℕ = name_at doc.origins origin in
       let element : written.Element =
       record { name = name; attributes = attributes; doc = doc_is; line = line; href_doc = doc_is } in
-      let held = named doc.origins inside in
+      let held = under_names doc.origins inside in
       let less : to - place - (1 + size held) ≡ to - (place + 1 + size_of inside) =
       ap (λ n. to - place - (1 + n)) (size_named doc.origins inside) ∙ omega arith in
       let one : Made = whole_made here is_range around element held in
@@ -140,9 +141,10 @@ module _ (doc : Doc) (here : Here) (links : ℕ) (is_range : Bool) (around : Aro
         fits = omega arith;
         forward = omega arith;
         split = ap (λ (test : Bool). among_made here is_range around (if test then written.End
-            else written.Node element held (among_first (to - place - (1 + size held)) (named doc.origins rest))))
+            else written.Node element held (among_first (to - place - (1 + size held)) (under_names doc.origins rest))))
             (some_left place within)
-            ∙ ap (λ n. made_beside one (among_made here is_range around (among_first n (named doc.origins rest)))) less
+            ∙ ap (λ n. made_beside one
+            (among_made here is_range around (among_first n (under_names doc.origins rest)))) less
             ∙ ap (λ (m : Made). made_beside m (made_of rest (place + 1 + size_of inside))) (sym (beside_nothing one));
       })
 
@@ -176,7 +178,8 @@ module _ (doc : Doc) (here : Here) (links : ℕ) (is_range : Bool) (around : Aro
       walked
 
 -- a range begins behind its target
-pub range_begins : (doc : Doc) (link : Link) (one : Taken) (here : Here) (links : ℕ) (is_range : Bool) (around : Around)
+pub range_begins : (doc : Doc) (link : TakenTarget) (one : Taken) (here : Here) (links : ℕ) (is_range : Bool)
+    (around : ContentAround)
     (old : Resolver) (places : PlaceTables) → doc ≡ arc_value link.doc → IsLink link one → old.count ≤ count_limit
     → links ≤ length old.path.items → AreTables here.setting.pushed places
     → Left doc here links is_range around link.to (among_made here is_range around one.range) old old places link.from
@@ -187,12 +190,12 @@ range_begins doc link one here links is_range around old places same is room wit
     link.from link.from) (sym same)
     (record {
       rest = is.rest;
-      there = subst (λ n. IsPart (tree_of (arc_value link.doc).nodes) n is.rest) (sym is.from) (past is.part);
+      there = subst (λ n. AreSiblingsAt (tree_of (arc_value link.doc).nodes) n is.rest) (sym is.from) (past is.part);
       fits = is.fits;
       far = omega arith;
       so_far = so_far_as here.setting.pushed links (among_made here is_range around one.range)
           (among_made here is_range around (among_first (link.to - link.from)
-          (named (arc_value link.doc).origins is.rest)))
+          (under_names (arc_value link.doc).origins is.rest)))
           (among_made here is_range around one.range) old old places (ap (among_made here is_range around) is.range)
           (so_far_begin here.setting.pushed links (among_made here is_range around one.range) old places room within
           tables);
@@ -200,9 +203,9 @@ range_begins doc link one here links is_range around old places same is room wit
 
 -- The ranges behind the targets, the farthest first
 
-module _ (here : Here) (links : ℕ) (around : Around) (path : List Place) where
+module _ (here : Here) (links : ℕ) (around : ContentAround) (path : List Place) where
   -- those of these targets are left, within so many
-  pub record Behind (items : List Link) (all : Made) (old new : Resolver) (places : PlaceTables)
+  pub record Behind (items : List TakenTarget) (all : Made) (old new : Resolver) (places : PlaceTables)
       (count index : ℕ) : Type 0
     where
       pub taken : List Taken
@@ -219,20 +222,21 @@ module _ (here : Here) (links : ℕ) (around : Around) (path : List Place) where
   none_of [] count is none = refl
   none_of (one ∷ taken) count is none = absurd (omega arith)
 
-  pub behind_none : (items : List Link) (all : Made) (old new : Resolver) (places : PlaceTables) (count index : ℕ)
+  pub behind_none : (items : List TakenTarget) (all : Made) (old new : Resolver) (places : PlaceTables)
+      (count index : ℕ)
       → Behind items all old new places count index → count ≤ links
       → IsWalked here.setting.pushed links all old new places
   behind_none items all old new places count index left none = so_far_end here.setting.pushed links all old new places
       (so_far_as here.setting.pushed links (ranges_put here around left.taken) nothing_made all old new places
       (none_of left.taken count left.count_is none) left.so_far)
 
-  no_links : (taken : List Taken) (count : ℕ) (items : List Link) → AreLinks path count taken items → items ≡ []
+  no_links : (taken : List Taken) (count : ℕ) (items : List TakenTarget) → AreLinks path count taken items → items ≡ []
       → ranges_put here around taken ≡ nothing_made
   no_links [] count items linked none = refl
   no_links (one ∷ taken) count [] linked none = absurd linked
   no_links (one ∷ taken) count (link ∷ items) linked none = cc
 
-  pub behind_all : (items : List Link) (all : Made) (old new : Resolver) (places : PlaceTables) (count index : ℕ)
+  pub behind_all : (items : List TakenTarget) (all : Made) (old new : Resolver) (places : PlaceTables) (count index : ℕ)
       → Behind items all old new places count index → drop index items ≡ []
       → IsWalked here.setting.pushed links all old new places
   behind_all items all old new places count index left none = so_far_end here.setting.pushed links all old new places
@@ -240,7 +244,7 @@ module _ (here : Here) (links : ℕ) (around : Around) (path : List Place) where
       (no_links left.taken count (drop index items) left.linked none) left.so_far)
 
   -- the next of them
-  pub record Nearest (link : Link) (count : ℕ) (taken : List Taken) (more : List Link) : Type 0 where
+  pub record Nearest (link : TakenTarget) (count : ℕ) (taken : List Taken) (more : List TakenTarget) : Type 0 where
     pub one : Taken
     pub others : List Taken
     pub all : taken ≡ one ∷ others
@@ -248,18 +252,18 @@ module _ (here : Here) (links : ℕ) (around : Around) (path : List Place) where
     pub at : one.path ≡ take count path
     pub linked : AreLinks path (count - 1) others more
 
-  nearest_by : (taken : List Taken) (count : ℕ) (link : Link) (more : List Link)
+  nearest_by : (taken : List Taken) (count : ℕ) (link : TakenTarget) (more : List TakenTarget)
       → AreLinks path count taken (link ∷ more) → Nearest link count taken more
   nearest_by [] count link more linked = absurd linked
   nearest_by (one ∷ taken) count link more linked =
       record { one = one; others = taken; all = refl; is = linked.0; at = linked.1; linked = linked.2 }
 
-  pub nearest : (items : List Link) (all : Made) (old new : Resolver) (places : PlaceTables) (count index : ℕ)
-      (link : Link) (left : Behind items all old new places count index) → drop index items ≡ link ∷ drop
+  pub nearest : (items : List TakenTarget) (all : Made) (old new : Resolver) (places : PlaceTables) (count index : ℕ)
+      (link : TakenTarget) (left : Behind items all old new places count index) → drop index items ≡ link ∷ drop
       (index + 1) items
       → Nearest link count left.taken (drop (index + 1) items)
   nearest items all old new places count index link left is = nearest_by left.taken count link (drop (index + 1) items)
-      (subst (λ (some : List Link). AreLinks path count left.taken some) is left.linked)
+      (subst (λ (some : List TakenTarget). AreLinks path count left.taken some) is left.linked)
 
   -- within one step less
   abbrev pub there : ℕ → ℕ → Here
@@ -278,8 +282,8 @@ module _ (here : Here) (links : ℕ) (around : Around) (path : List Place) where
       ∙ ap (λ (p : List Place). among_made (record here { path = p; steps = steps }) true
       (declared_there one.around around) one.range) at)
 
-  pub behind_step : (items : List Link) (all : Made) (old mid new : Resolver) (places after : PlaceTables)
-      (count index steps : ℕ) (link : Link) (left : Behind items all old mid places count index)
+  pub behind_step : (items : List TakenTarget) (all : Made) (old mid new : Resolver) (places after : PlaceTables)
+      (count index steps : ℕ) (link : TakenTarget) (left : Behind items all old mid places count index)
       (near : Nearest link count left.taken (drop (index + 1) items)) → here.steps ≡ suc steps → links < count
       → IsWalked here.setting.pushed count (among_made (there steps count) true
       (declared_there near.one.around around) near.one.range) mid new after
@@ -311,8 +315,8 @@ module _ (here : Here) (links : ℕ) (around : Around) (path : List Place) where
             less;
       }
 
-  pub behind_stop : (stop : Stop TooMany) (items : List Link) (all : Made) (old mid new : Resolver)
-      (places after : PlaceTables) (count index steps : ℕ) (link : Link)
+  pub behind_stop : (stop : Stop TooMany) (items : List TakenTarget) (all : Made) (old mid new : Resolver)
+      (places after : PlaceTables) (count index steps : ℕ) (link : TakenTarget)
       (left : Behind items all old mid places count index)
       (near : Nearest link count left.taken (drop (index + 1) items)) → here.steps ≡ suc steps → links < count
       → Walks (Err stop) here.setting.pushed count (among_made (there steps count) true
@@ -331,7 +335,7 @@ module _ (here : Here) (links : ℕ) (around : Around) (path : List Place) where
       (omega arith) walked)
 
   -- the page is ready for the range behind one of them
-  pub behind_ready : (world : World) (stand : Stand) (items : List Link) (all : Made) (old mid : Resolver)
+  pub behind_ready : (world : World) (stand : Stand) (items : List TakenTarget) (all : Made) (old mid : Resolver)
       (places : PlaceTables) (count index steps : ℕ) → Behind items all old mid places count index
       → IsReady world stand links here mid places → here.steps ≡ suc steps → links < count
       → IsReady world stand count (there steps count) mid places
@@ -352,7 +356,8 @@ pub steps_left : (steps links count : ℕ) → 32 ≤ steps + links → links < 
 steps_left zero links count enough some limit = absurd (omega arith)
 steps_left (suc less) links count enough some limit = (less, refl)
 
-pub behind_begins : (here : Here) (links end : ℕ) (around : Around) (path : List Place) (items : List Link)
+pub behind_begins : (here : Here) (links end : ℕ) (around : ContentAround) (path : List Place)
+    (items : List TakenTarget)
     (taken : List Taken) (old : Resolver) (places : PlaceTables) → AreLinks path end taken items
     → end ≡ links + length taken → path ≡ path_within old end → end ≤ length old.path.items → end ≤ 32
     → old.count ≤ count_limit → AreTables here.setting.pushed places
@@ -368,7 +373,8 @@ behind_begins here links end around path items taken old places linked count is 
 }
 
 -- the next of some links
-pub next_link : (items : List Link) (index : ℕ) (link : Link) → index < length items → link ≡ get_or items index link
+pub next_link : (items : List TakenTarget) (index : ℕ) (link : TakenTarget) → index < length items
+    → link ≡ get_or items index link
     → drop index items ≡ link ∷ drop (index + 1) items
-next_link items index link within is = at_drop_more (λ (some : List Link). some) items index link within
-    ∙ ap (λ (one : Link). one ∷ drop (index + 1) items) (sym is)
+next_link items index link within is = at_drop_more (λ (some : List TakenTarget). some) items index link within
+    ∙ ap (λ (one : TakenTarget). one ∷ drop (index + 1) items) (sym is)

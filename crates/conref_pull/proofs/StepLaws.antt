@@ -5,14 +5,15 @@ use Rattle.std.proofs.Common.{refl, sym, ap, subst, ◌∙◌, arith, append-nil
 use Rattle.std.proofs.lemmas.List.Concat.{flat_map-append}
 use Rattle.dita_doc.specs.declared.fault.Fault.{Fault}
 use Rattle.map_spec.specs.Written.{Element, Written}
-use Rattle.conref_spec.specs.Content.{Followed, Found, Place, Range, Setting, Sought, followed_from, followed_to, found_by, has_reference, key_faults, merged_element, refused_by, sought_by, taken, taken_or, unchanged, value_used}
+use Rattle.conref_spec.specs.Content.{Followed, Found, Place, Range, ResolveInput, Sought, followed_from, followed_to, found_by, has_reference, conkeyref_faults, merged_element, refused_by, sought_by, taken, taken_or, unchanged, value_used}
 use Rattle.conref_pull.specs.Linked.{AreLinks, IsLink}
-use Rattle.conref_pull.specs.Step.{Step, Taken, after_step, declared_inside, followed_to_all, merged_onto, range_of_one, step_of, step_to, step_with}
-use Rattle.conref_pull.specs.declared.chain.Link.{Link}
+use Rattle.conref_pull.specs.Step.{FollowStep, Taken, after_step, declared_inside, followed_to_all, merged_onto, range_of_one, step_of, step_to, step_with}
+use Rattle.conref_pull.specs.declared.chain.TakenTarget.{TakenTarget}
+use Rattle.conref_pull.proofs.TakingLaws.{merged_last}
 
 -- One step
 
-module _ (follow : List Place → Element → Written → Followed) (setting : Setting) (depth : ℕ) (path : List Place)
+module _ (follow : List Place → Element → Written → Followed) (setting : ResolveInput) (depth : ℕ) (path : List Place)
     (element : Element) (inside : Written) where
   by_refusal : (target : Found) (before : List Fault) (fault : Option Fault)
       → taken_or follow path element inside before target fault
@@ -26,10 +27,10 @@ module _ (follow : List Place → Element → Written → Followed) (setting : S
       ≡ after_step follow path element inside (step_to setting depth path element sought found).faults
       (step_to setting depth path element sought found).taken
   by_found sought None = refl
-  by_found sought (Some target) = by_refusal target (key_faults setting sought.conkeyref)
+  by_found sought (Some target) = by_refusal target (conkeyref_faults setting sought.conkeyref)
       (refused_by (value_used setting sought) depth path element target)
 
-  abbrev step_if : Bool → Sought → Option Found → Step
+  abbrev step_if : Bool → Sought → Option Found → FollowStep
   step_if test sought found =
       if test then step_to setting depth path element sought found else record { taken = None; faults = [] }
 
@@ -41,7 +42,7 @@ module _ (follow : List Place → Element → Written → Followed) (setting : S
   by_test false sought found = refl
 
 -- what follows from an element is its next step, and what follows from that
-pub follows : (steps : ℕ) (setting : Setting) (topic : List ℕ) (depth : ℕ) (path : List Place) (element : Element)
+pub follows : (steps : ℕ) (setting : ResolveInput) (topic : List ℕ) (depth : ℕ) (path : List Place) (element : Element)
     (inside : Written) → followed_from (suc steps) setting topic depth path element inside
     ≡ after_step (followed_from steps setting topic depth) path element inside
     (step_of setting topic depth path element).faults (step_of setting topic depth path element).taken
@@ -51,11 +52,6 @@ follows steps setting topic depth path element inside =
     (has_reference (sought_by element)) (sought_by element) (found_by setting topic element (sought_by element))
 
 -- Several steps
-
-onto_one_more : (element : Element) (all : List Taken) (one : Taken)
-    → merged_onto element (all ++ one ∷ []) ≡ merged_element one.element (merged_onto element all)
-onto_one_more element [] one = refl
-onto_one_more element (first ∷ all) one = onto_one_more (merged_element first.element element) all one
 
 ranges_one_more : (all : List Taken) (one : Taken)
     → flat_map range_of_one (all ++ one ∷ []) ≡ flat_map range_of_one all ++ range_of_one one
@@ -88,12 +84,13 @@ one_more element inside path before faults one (first ∷ all) =
       faults = before ++ faults;
     } in made) in
     ap (λ (label : Element). f label (flat_map range_of_one (first ∷ all) ++ range_of_one one))
-    (sym (onto_one_more first.element all one))
+    (sym (merged_last first.element all one))
     ∙ ap (f (merged_onto first.element (all ++ one ∷ []))) (sym (ranges_one_more (first ∷ all) one))
 
 -- Links
 
-pub links_one_more : (path : List Place) (end : ℕ) (all : List Taken) (links : List Link) (one : Taken) (link : Link)
+pub links_one_more : (path : List Place) (end : ℕ) (all : List Taken) (links : List TakenTarget) (one : Taken)
+    (link : TakenTarget)
     → AreLinks path end all links → IsLink link one → one.path ≡ take (end - length all) path
     → AreLinks path end (all ++ one ∷ []) (links ++ link ∷ [])
 links_one_more path end [] [] one link are is at =

@@ -10,7 +10,7 @@ use Rattle.doc_maker.specs.Made.{building}
 use Rattle.doc_maker.specs.declared.maker.DocMaker.{DocMaker}
 use Rattle.map_spec.specs.Written.{Element}
 use Rattle.conref_spec.specs.Content as content
-use Rattle.conref_spec.specs.Content.{Place, Setting, Sought, found_by, has_reference, key_faults, missing_fault, refused_by, sought_by, value_used}
+use Rattle.conref_spec.specs.Content.{Place, ResolveInput, Sought, found_by, has_reference, conkeyref_faults, refused_by, sought_by, value_used}
 use Rattle.conref_targets.specs.Found.{AreFound, IsFound, search_faults}
 use Rattle.conref_targets.specs.Sought.{if_reference, sought_found}
 use Rattle.conref_targets.specs.Tables.{AreTables}
@@ -20,8 +20,8 @@ use Rattle.conref_targets.specs.declared.tables.PlaceTables.{PlaceTables}
 use Rattle.conref_pull.specs.Seeking.{IsSought}
 use Rattle.conref_pull.specs.Linked.{IsStep}
 use Rattle.conref_pull.specs.State.{IsDepth, path_within, place_shown}
-use Rattle.conref_pull.specs.Step.{Step, step_of, step_to, step_with}
-use Rattle.conref_pull.specs.declared.chain.Link.{Link}
+use Rattle.conref_pull.specs.Step.{FollowStep, step_of, step_to, step_with}
+use Rattle.conref_pull.specs.declared.chain.TakenTarget.{TakenTarget}
 use Rattle.conref_pull.specs.declared.place.Place as kept
 use Rattle.conref_pull.specs.declared.resolver.Resolver.{Resolver}
 
@@ -73,8 +73,8 @@ some_reference element sought is = by_test (has_reference (sought_by element)) i
     by_test true e = refl
     by_test false e = cc
 
-module _ (setting : Setting) (topic : List ℕ) (at : ℕ) (path : List Place) (element : Element) where
-  abbrev step_if : Bool → Option content.Found → Step
+module _ (setting : ResolveInput) (topic : List ℕ) (at : ℕ) (path : List Place) (element : Element) where
+  abbrev step_if : Bool → Option content.Found → FollowStep
   step_if test found = if test then step_to setting at path element (sought_by element) found
       else record { taken = None; faults = [] }
 
@@ -84,11 +84,11 @@ module _ (setting : Setting) (topic : List ℕ) (at : ℕ) (path : List Place) (
   step_is test found has finds =
       ap (λ (b : Bool). step_if b (found_by setting topic element (sought_by element))) has ∙ ap (step_if test) finds
 
-  module _ (old new : Resolver) (places : PlaceTables) (taken : Option Link) where
-    step_as : (step : Step) → step_of setting topic at path element ≡ step
+  module _ (old new : Resolver) (places : PlaceTables) (taken : Option TakenTarget) where
+    step_as : (step : FollowStep) → step_of setting topic at path element ≡ step
         → IsStep setting.pushed step old new places taken
         → IsStep setting.pushed (step_of setting topic at path element) old new places taken
-    step_as step same is = subst (λ (s : Step). IsStep setting.pushed s old new places taken) (sym same) is
+    step_as step same is = subst (λ (s : FollowStep). IsStep setting.pushed s old new places taken) (sym same) is
 
   -- there is no reference
   pub step_without : (old : Resolver) (places : PlaceTables) → AreTables setting.pushed places
@@ -133,7 +133,7 @@ module _ (setting : Setting) (topic : List ℕ) (at : ℕ) (path : List Place) (
       (subst (λ (f : Option Found). IsSought setting topic element sought old new places f) none is))
 
   -- the step goes on from what was found
-  pub step_behind : (old mid new : Resolver) (places : PlaceTables) (taken : Option Link) (meant : content.Found)
+  pub step_behind : (old mid new : Resolver) (places : PlaceTables) (taken : Option TakenTarget) (meant : content.Found)
       (before : List Fault) (refused : Option Fault) → mid ≡ record old { faults = old.faults ++ before }
       → IsStep setting.pushed (step_with path element meant [] refused) mid new places taken
       → IsStep setting.pushed (step_with path element meant before refused) old new places taken
@@ -153,12 +153,12 @@ module _ (setting : Setting) (topic : List ℕ) (at : ℕ) (path : List Place) (
   }
 
 -- what was meant, of which this was found
-pub record Meant (setting : Setting) (topic : List ℕ) (element : Element) (found : Found) : Type 0 where
+pub record Meant (setting : ResolveInput) (topic : List ℕ) (element : Element) (found : Found) : Type 0 where
   pub meant : content.Found
   pub is : found_by setting topic element (sought_by element) ≡ Some meant
   pub there : IsFound setting.pushed meant found
 
-pub meant_there : (setting : Setting) (topic : List ℕ) (element : Element) (found : Found)
+pub meant_there : (setting : ResolveInput) (topic : List ℕ) (element : Element) (found : Found)
     → AreFound setting.pushed (found_by setting topic element (sought_by element)) (Some found)
     → Meant setting topic element found
 meant_there setting topic element found is =
@@ -169,8 +169,8 @@ meant_there setting topic element found is =
     by_meant None e there = absurd there
     by_meant (Some meant) e there = record { meant = meant; is = e; there = there }
 
-module _ (setting : Setting) (topic : List ℕ) (at links : ℕ) (element : Element) (found : Found)
-    (old mid new : Resolver) (first places : PlaceTables) (taken : Option Link) where
+module _ (setting : ResolveInput) (topic : List ℕ) (at links : ℕ) (element : Element) (found : Found)
+    (old mid new : Resolver) (first places : PlaceTables) (taken : Option TakenTarget) where
   -- what was found is accepted or refused
   pub step_found : has_reference (sought_by element) ≡ true
       → (sought : IsSought setting topic element (sought_by element) old mid first (Some found))
@@ -183,7 +183,7 @@ module _ (setting : Setting) (topic : List ℕ) (at links : ℕ) (element : Elem
       (step_if setting topic at (path_within old links) element true (Some there.meant))
       (step_is setting topic at (path_within old links) element true (Some there.meant) has there.is)
       (step_behind setting topic at (path_within old links) element old mid new places taken there.meant
-      (key_faults setting (sought_by element).conkeyref)
+      (conkeyref_faults setting (sought_by element).conkeyref)
       (refused_by (value_used setting (sought_by element)) at (path_within old links) element there.meant) state
       (subst (λ (value : List ℕ). IsStep setting.pushed (step_with (path_within old links) element there.meant []
       (refused_by value at (path_within old links) element there.meant)) mid new places taken) sought.search.named
@@ -191,20 +191,22 @@ module _ (setting : Setting) (topic : List ℕ) (at links : ℕ) (element : Elem
       (refused_by found.value.now at path element there.meant)) mid new places taken)
       (within_same old mid links (ap (λ (r : Resolver). r.path) sought.state)) is)))
     where
-      state : mid ≡ record old { faults = old.faults ++ key_faults setting (sought_by element).conkeyref }
+      state : mid ≡ record old { faults = old.faults ++ conkeyref_faults setting (sought_by element).conkeyref }
       state = sought.state ∙ ap (λ (meant : Option content.Found). (let made : Resolver =
           record old { faults = old.faults ++ search_faults setting element (sought_by element) meant } in made)) there.is
 
 -- a call that may run out of memory
-if_ok : (result : Result (Option Link) NoMemory) (P Q : Option Link → Type 0) → ((link : Option Link) → P link → Q link)
+if_ok : (result : Result (Option TakenTarget) NoMemory) (P Q : Option TakenTarget → Type 0)
+    → ((link : Option TakenTarget) → P link → Q link)
     → IfOk result P → IfOk result Q
 if_ok (Err stop) P Q turns is = is
 if_ok (Ok link) P Q turns is = turns link is
 
-module _ (setting : Setting) (topic : List ℕ) (at links : ℕ) (element : Element) (found : Found)
+module _ (setting : ResolveInput) (topic : List ℕ) (at links : ℕ) (element : Element) (found : Found)
     (old mid new : Resolver) (first places : PlaceTables) where
   -- what was found is accepted or refused, as the call says
-  pub step_on : (sought : Sought) (result : Result (Option Link) NoMemory) → has_reference (sought_by element) ≡ true
+  pub step_on : (sought : Sought) (result : Result (Option TakenTarget) NoMemory)
+      → has_reference (sought_by element) ≡ true
       → sought ≡ sought_by element → IsSought setting topic element sought old mid first (Some found) → IsDepth old at
       → links ≤ length old.path.items
       → ((meant : content.Found) → AreTables setting.pushed first → IsFound setting.pushed meant found → IsDepth mid at

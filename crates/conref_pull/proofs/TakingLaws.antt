@@ -9,12 +9,13 @@ use Rattle.dita_doc.specs.ClassValue.{value_of}
 use Rattle.dita_doc.specs.Tree.{has_href}
 use Rattle.dita_doc.specs.declared.doc.Attribute.{Attribute}
 use Rattle.dita_doc.specs.declared.stop.NoMemory.{NoMemory}
+use Rattle.dita_doc.proofs.Tests.{and_false, and_true}
 use Rattle.map_spec.specs.Written.{Element}
 use Rattle.conref_spec.specs.Content.{Place, merged_element, specified}
 use Rattle.conref_pull.specs.Linked.{AreLinks, IsLink}
 use Rattle.conref_pull.specs.Merging.{AreAlike, IsMerged, TakesAll, is_given, is_missing, is_specified, is_taken, own_part, part_of, taking}
 use Rattle.conref_pull.specs.Step.{Taken, merged_onto}
-use Rattle.conref_pull.specs.declared.chain.Link.{Link}
+use Rattle.conref_pull.specs.declared.chain.TakenTarget.{TakenTarget}
 use Rattle.conref_pull.specs.declared.merge.Merged.{Merged}
 use Rattle.conref_pull.proofs.MergeLaws.{filter_both, missing_taken}
 
@@ -68,14 +69,6 @@ filter_same : (p q : Attribute → Bool) → ((one : Attribute) → p one ≡ q 
 filter_same p q same [] = refl
 filter_same p q same (one ∷ all) =
     rw (same one) (ap (λ (more : List Attribute). if q one then one ∷ more else more) (filter_same p q same all))
-
-and_false : (b : Bool) → (b && false) ≡ false
-and_false true = refl
-and_false false = refl
-
-and_true : (b : Bool) → (b && true) ≡ b
-and_true true = refl
-and_true false = refl
 
 -- what neither has is what both together have not
 neither : (own all : List Attribute) (other : Attribute)
@@ -218,19 +211,20 @@ taken_up leaves merged before own target more takes href is more_is takes_is hre
 
 -- Targets one after another, the last of them first
 
-merged_last : (far : Element) (front : List Taken) (last : Taken)
+pub merged_last : (far : Element) (front : List Taken) (last : Taken)
     → merged_onto far (front ++ last ∷ []) ≡ merged_element last.element (merged_onto far front)
 merged_last far [] last = refl
 merged_last far (one ∷ front) last = merged_last (merged_element one.element far) front last
 
-record LastLink (path : List Place) (end : ℕ) (taken : List Taken) (links : List Link) (link : Link) : Type 0 where
+record LastLink (path : List Place) (end : ℕ) (taken : List Taken) (links : List TakenTarget)
+    (link : TakenTarget) : Type 0 where
   front : List Taken
   last : Taken
   is : taken ≡ front ++ last ∷ []
   linked : AreLinks path end front links
   here : IsLink link last
 
-last_link : (path : List Place) (end : ℕ) (taken : List Taken) (links : List Link) (link : Link)
+last_link : (path : List Place) (end : ℕ) (taken : List Taken) (links : List TakenTarget) (link : TakenTarget)
     → AreLinks path end taken (links ++ link ∷ []) → LastLink path end taken links link
 last_link path end [] [] link linked = absurd linked
 last_link path end [] (one ∷ links) link linked = absurd linked
@@ -249,7 +243,7 @@ last_link path end (one ∷ taken) (first ∷ links) link linked =
 
 -- On the way from the nearest target to the farthest
 
-pub record OnTheWay (merged : Merged) (left : List Link) (own : Element) (taken : List Taken) : Type 0 where
+pub record OnTheWay (merged : Merged) (left : List TakenTarget) (own : Element) (taken : List Taken) : Type 0 where
   pub so_far : Element
   pub is : IsMerged merged so_far
   pub path : List Place
@@ -258,11 +252,11 @@ pub record OnTheWay (merged : Merged) (left : List Link) (own : Element) (taken 
   pub linked : AreLinks path end rest left
   pub alike : (far : Element) → AreAlike (taking so_far (merged_onto far rest)) (taking own (merged_onto far taken))
 
-no_links : (left : List Link) → length left ≡ 0 → left ≡ []
+no_links : (left : List TakenTarget) → length left ≡ 0 → left ≡ []
 no_links [] none = refl
 no_links (link ∷ left) none = absurd (omega arith)
 
-pub way_end : (merged : Merged) (left : List Link) (own : Element) (taken : List Taken) → length left ≡ 0
+pub way_end : (merged : Merged) (left : List TakenTarget) (own : Element) (taken : List Taken) → length left ≡ 0
     → OnTheWay merged left own taken → TakesAll merged own taken
 way_end merged left own taken none way =
     by_rest way.rest (subst (AreLinks way.path way.end way.rest) (no_links left none) way.linked) way.alike
@@ -273,7 +267,8 @@ way_end merged left own taken none way =
     by_rest [] linked alike = record { made = way.so_far; is = way.is; alike = alike }
     by_rest (one ∷ rest) linked alike = absurd linked
 
-pub way_on : (merged next : Merged) (left others : List Link) (link : Link) (own : Element) (taken : List Taken)
+pub way_on : (merged next : Merged) (left others : List TakenTarget) (link : TakenTarget) (own : Element)
+    (taken : List Taken)
     → left ≡ others ++ link ∷ [] → OnTheWay merged left own taken
     → ((element : Element) (one : Taken) → IsMerged merged element → IsLink link one
     → IsMerged next (taking element (own_part one.element)))

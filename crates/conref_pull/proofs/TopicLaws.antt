@@ -3,7 +3,7 @@
 use Rattle.std.specs.Prelude.{◌≡◌, ◌&&◌, ◌||◌, ◌==◌, ◌++◌, ℕ, Bool, true, false, not, List, [], ◌∷◌, Option, Some, None, bytes_eq, codes, filter, length, unwrap_or, if◌then◌else◌}
 use Rattle.std.specs.List.{list_any}
 use Rattle.std.proofs.Common.{refl, sym, ap, subst, ◌∙◌}
-use Rattle.std.proofs.lemmas.Bool.{and_parts, false≢true}
+use Rattle.std.proofs.lemmas.Bool.{and_from, and_left, and_parts, and_right, false≢true}
 use Rattle.std.proofs.lemmas.Slice.Eq.{bytes_eq-Decides}
 use Rattle.dita_doc.specs.ClassValue.{has_type, value_of}
 use Rattle.dita_doc.specs.declared.doc.Attribute.{Attribute}
@@ -12,11 +12,11 @@ use Rattle.doc_elements.proofs.ChildLaws.{is_of_type}
 use Rattle.map_spec.specs.Elements.{has_types, is_special, tokens_by}
 use Rattle.map_spec.specs.Titles.{id_of}
 use Rattle.map_spec.specs.Written.{Element, Written}
-use Rattle.conref_spec.specs.Content.{Followed, Found, Place, Setting, Sought, followed, followed_from, found_by, has_reference, id_shown, is_written_in, key_faults, merged, merged_element, names_not_taken, refused_by, sought_by, specified, topic_for, topic_within, use_target, value_used}
+use Rattle.conref_spec.specs.Content.{Followed, Found, Place, ResolveInput, Sought, followed, followed_from, found_by, has_reference, id_seen, is_written_in, conkeyref_faults, merged_attributes, merged_element, names_not_taken, refused_by, sought_by, specified, topic_before_merge, topic_after_merge, use_target, value_used}
 use Rattle.map_spec.specs.Places.{is_topic}
 use Rattle.map_spec.specs.Pushes.{without_names}
 use Rattle.conref_pull.specs.Merging.{own_id}
-use Rattle.conref_pull.specs.Step.{Step, after_step, step_to, step_with}
+use Rattle.conref_pull.specs.Step.{FollowStep, after_step, step_to, step_with}
 use Rattle.conref_pull.proofs.StepLaws.{follows}
 
 -- Values of attributes
@@ -63,12 +63,12 @@ no_class_left value is =
 
 class_by : (element target : Element) (value : Option (List ℕ)) → value_of (codes "class") element.attributes ≡ value
     → not (length (tokens_by value) == 0) ≡ true
-    → value_of (codes "class") (merged element.attributes target.attributes) ≡ value
+    → value_of (codes "class") (merged_attributes element.attributes target.attributes) ≡ value
 class_by element target None is types = absurd (false≢true types)
 class_by element target (Some value) is types = by_left (bytes_eq value use_target) refl
   where
     by_left : (left : Bool) → bytes_eq value use_target ≡ left
-        → value_of (codes "class") (merged element.attributes target.attributes) ≡ Some value
+        → value_of (codes "class") (merged_attributes element.attributes target.attributes) ≡ Some value
     by_left true l = absurd (false≢true (ap (λ (tokens : List (List ℕ)). not (length tokens == 0)) (sym (no_class_left value l)) ∙ types))
     by_left false l = value_beside (codes "class") (specified element.attributes)
         (filter (λ (other : Attribute). not (is_written_in (specified element.attributes) other))
@@ -136,7 +136,8 @@ changes false true id topic test = absurd (false≢true (sym test))
 changes false false id topic test = absurd (false≢true (sym test))
 
 pub topic_stays : (is_range : Bool) (element target : Element) (topic : List ℕ) → has_types element ≡ true
-    → (is_range || not (is_topic element)) ≡ true → topic ≡ topic_within is_range (merged_element element target) topic
+    → (is_range || not (is_topic element)) ≡ true
+    → topic ≡ topic_after_merge is_range (merged_element element target) topic
 topic_stays is_range element target topic types test =
     subst (λ (is : Bool). topic ≡ (if is && not is_range then id_of (merged_element element target) else topic))
     (sym (class_kept element target types))
@@ -144,7 +145,7 @@ topic_stays is_range element target topic types test =
 
 pub topic_changes : (is_range : Bool) (element target : Element) (topic : List ℕ) → has_types element ≡ true
     → (is_range || not (is_topic element)) ≡ false
-    → own_id element.attributes ≡ topic_within is_range (merged_element element target) topic
+    → own_id element.attributes ≡ topic_after_merge is_range (merged_element element target) topic
 topic_changes is_range element target topic types test =
     sym (id_merged element target)
     ∙ subst (λ (is : Bool). id_of (merged_element element target)
@@ -155,7 +156,7 @@ topic_changes is_range element target topic types test =
 -- The topic that an element and its reference see
 
 abbrev shown_by : Bool → Bool → List ℕ → List ℕ → List ℕ
-shown_by is is_range id topic = if is then id_shown is_range id else topic
+shown_by is is_range id topic = if is then id_seen is_range id else topic
 
 left_by : (is is_range : Bool) (id topic found : List ℕ)
     → found ≡ (if is && not is_range then id else shown_by is is_range id topic)
@@ -181,14 +182,15 @@ seen_by true false id topic found at test =
     not_left false e = refl
 
 pub topic_left : (is_range : Bool) (element : Element) (topic found : List ℕ)
-    → found ≡ topic_within is_range element (topic_for is_range element topic)
-    → (bytes_eq found use_target && is_topic element) ≡ true → ◌≡◌ {A = List ℕ} [] (topic_for is_range element topic)
+    → found ≡ topic_after_merge is_range element (topic_before_merge is_range element topic)
+    → (bytes_eq found use_target && is_topic element) ≡ true
+    → ◌≡◌ {A = List ℕ} [] (topic_before_merge is_range element topic)
 topic_left is_range element topic found at test =
     left_by (is_topic element) is_range (id_of element) topic found at test
 
 pub topic_seen : (is_range : Bool) (element : Element) (topic found : List ℕ)
-    → found ≡ topic_within is_range element (topic_for is_range element topic)
-    → (bytes_eq found use_target && is_topic element) ≡ false → found ≡ topic_for is_range element topic
+    → found ≡ topic_after_merge is_range element (topic_before_merge is_range element topic)
+    → (bytes_eq found use_target && is_topic element) ≡ false → found ≡ topic_before_merge is_range element topic
 topic_seen is_range element topic found at test =
     seen_by (is_topic element) is_range (id_of element) topic found at test
 
@@ -199,45 +201,35 @@ topic_type = codes "topic/topic"
 type_is : (element : Element) (test : Bool) → test ≡ has_type element.attributes topic_type → is_topic element ≡ test
 type_is element test is = is_of_type topic_type element ∙ sym is
 
-both_of : (first second : Bool) → first ≡ true → second ≡ true → (first && second) ≡ true
-both_of true true one two = refl
-both_of true false one two = two
-both_of false second one two = one
-
-second_not : (first second : Bool) → second ≡ false → (first && second) ≡ false
-second_not true second not_it = not_it
-second_not false second not_it = refl
-
-first_not : (first second : Bool) → first ≡ false → (first && second) ≡ false
-first_not true second not_it = absurd (false≢true (sym not_it))
-first_not false second not_it = refl
-
 pub seen_left : (is_range : Bool) (element : Element) (topic found : List ℕ)
-    → found ≡ topic_within is_range element (topic_for is_range element topic) → true ≡ bytes_eq found use_target
-    → true ≡ has_type element.attributes (codes "topic/topic") → ◌≡◌ {A = List ℕ} [] (topic_for is_range element topic)
+    → found ≡ topic_after_merge is_range element (topic_before_merge is_range element topic)
+    → true ≡ bytes_eq found use_target
+    → true ≡ has_type element.attributes (codes "topic/topic")
+    → ◌≡◌ {A = List ℕ} [] (topic_before_merge is_range element topic)
 seen_left is_range element topic found at left is = topic_left is_range element topic found at
-    (both_of (bytes_eq found use_target) (is_topic element) (sym left) (type_is element true is))
+    (and_from (bytes_eq found use_target) (is_topic element) (sym left) (type_is element true is))
 
 pub seen_other : (is_range : Bool) (element : Element) (topic found : List ℕ)
-    → found ≡ topic_within is_range element (topic_for is_range element topic)
-    → false ≡ has_type element.attributes (codes "topic/topic") → found ≡ topic_for is_range element topic
+    → found ≡ topic_after_merge is_range element (topic_before_merge is_range element topic)
+    → false ≡ has_type element.attributes (codes "topic/topic") → found ≡ topic_before_merge is_range element topic
 seen_other is_range element topic found at other = topic_seen is_range element topic found at
-    (second_not (bytes_eq found use_target) (is_topic element) (type_is element false other))
+    (and_right (bytes_eq found use_target) (is_topic element) (type_is element false other))
 
 pub seen_kept : (is_range : Bool) (element : Element) (topic found : List ℕ)
-    → found ≡ topic_within is_range element (topic_for is_range element topic) → false ≡ bytes_eq found use_target
-    → found ≡ topic_for is_range element topic
+    → found ≡ topic_after_merge is_range element (topic_before_merge is_range element topic)
+    → false ≡ bytes_eq found use_target
+    → found ≡ topic_before_merge is_range element topic
 seen_kept is_range element topic found at kept = topic_seen is_range element topic found at
-    (first_not (bytes_eq found use_target) (is_topic element) (sym kept))
+    (and_left (bytes_eq found use_target) (is_topic element) (sym kept))
 
 pub taken_in_range : (is_range : Bool) (element target : Element) (topic : List ℕ) → is_range ≡ true
-    → has_types element ≡ true → topic ≡ topic_within is_range (merged_element element target) topic
+    → has_types element ≡ true → topic ≡ topic_after_merge is_range (merged_element element target) topic
 taken_in_range is_range element target topic ranged types =
     topic_stays is_range element target topic types (ap (λ (test : Bool). test || not (is_topic element)) ranged)
 
 pub taken_elsewhere : (is_range : Bool) (element target : Element) (topic : List ℕ)
     → false ≡ has_type element.attributes (codes "topic/topic") → has_types element ≡ true
-    → topic ≡ topic_within is_range (merged_element element target) topic
+    → topic ≡ topic_after_merge is_range (merged_element element target) topic
 taken_elsewhere is_range element target topic other types = topic_stays is_range element target topic types
     (ap (λ (is : Bool). is_range || not is) (type_is element false other) ∙ or_true is_range)
   where
@@ -247,7 +239,7 @@ taken_elsewhere is_range element target topic other types = topic_stays is_range
 
 pub taken_by_topic : (is_range : Bool) (element target : Element) (topic : List ℕ) → is_range ≡ false
     → true ≡ has_type element.attributes (codes "topic/topic") → has_types element ≡ true
-    → own_id element.attributes ≡ topic_within is_range (merged_element element target) topic
+    → own_id element.attributes ≡ topic_after_merge is_range (merged_element element target) topic
 taken_by_topic is_range element target topic ranged is types = topic_changes is_range element target topic types
     (ap (λ (test : Bool). test || not (is_topic element)) ranged
     ∙ ap (λ (test : Bool). false || not test) (type_is element true is))
@@ -266,7 +258,7 @@ not_refused : (test : Bool) (fault : Fault) (more : Option Fault) → refused_if
 not_refused true fault more none = refl
 not_refused false fault more none = cc
 
-module _ (follow : List Place → Element → Written → Followed) (setting : Setting) (depth : ℕ) (path : List Place)
+module _ (follow : List Place → Element → Written → Followed) (setting : ResolveInput) (depth : ℕ) (path : List Place)
     (element : Element) (inside : Written) where
   by_refusal : (target : Found) (before : List Fault) (refused : Option Fault)
       → (after_step follow path element inside (step_with path element target before refused).faults
@@ -281,10 +273,10 @@ module _ (follow : List Place → Element → Written → Followed) (setting : S
   by_found sought (Some target) took =
       special_types target.standing.whole.0 element
       (not_refused (is_special target.standing.whole.0 element) _ _
-      (by_refusal target (key_faults setting sought.conkeyref)
+      (by_refusal target (conkeyref_faults setting sought.conkeyref)
       (refused_by (value_used setting sought) depth path element target) took))
 
-  abbrev step_if : Bool → Sought → Option Found → Step
+  abbrev step_if : Bool → Sought → Option Found → FollowStep
   step_if test sought found =
       if test then step_to setting depth path element sought found else record { taken = None; faults = [] }
 
@@ -294,7 +286,7 @@ module _ (follow : List Place → Element → Written → Followed) (setting : S
   by_test true sought found took = by_found sought found took
   by_test false sought found took = absurd (false≢true took)
 
-pub took_types : (setting : Setting) (topic : List ℕ) (depth : ℕ) (path : List Place) (element : Element)
+pub took_types : (setting : ResolveInput) (topic : List ℕ) (depth : ℕ) (path : List Place) (element : Element)
     (inside : Written) → (followed setting topic depth path element inside).has_taken ≡ true → has_types element ≡ true
 took_types setting topic depth path element inside took =
     by_test (followed_from 32 setting topic depth) setting depth path element inside (has_reference (sought_by element)) (sought_by element)

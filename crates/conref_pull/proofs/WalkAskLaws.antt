@@ -2,7 +2,7 @@
 use Rattle.std.specs.Borrow.{Bor}
 use Rattle.std.specs.Prelude.{◌≡◌, ◌<◌, ℕ, List, [], ◌∷◌, Some, Result, Ok, Err, OnOk, get_or, length, slice_get}
 use Rattle.std.proofs.Common.{ap, subst, sym, ◌∙◌}
-use Rattle.dita_doc.specs.Siblings.{document}
+use Rattle.dita_doc.specs.Siblings.{doc_of_siblings}
 use Rattle.dita_doc.specs.declared.doc.Doc.{Doc}
 use Rattle.dita_doc.specs.declared.doc.Node.{Node}
 use Rattle.dita_doc.specs.declared.fault.Fault.{Fault}
@@ -29,7 +29,7 @@ use Rattle.conref_targets.proofs.OriginLaws.{origin_among}
 use Rattle.conref_pull.specs.Linked.{AreGivenTo, IsGivenTo}
 use Rattle.conref_pull.specs.Count.{OneMore}
 use Rattle.conref_pull.specs.State.{IsSamePage}
-use Rattle.conref_pull.specs.declared.chain.Link.{Link}
+use Rattle.conref_pull.specs.declared.chain.TakenTarget.{TakenTarget}
 use Rattle.conref_pull.specs.declared.resolver.Resolver.{Resolver}
 use Rattle.conref_pull.specs.declared.resolver.TooMany.{TooMany}
 pub use Rattle.conref_pull.proofs.AroundLaws.{page_judged, page_one}
@@ -96,7 +96,8 @@ reused_given {told} {doc} same given =
     subst (λ (d : Doc). AreGiven told (reused_of_doc d)) (sym same) (given_reused told doc given)
 
 -- the next of some links, by what was told since
-pub link_later : {old new : List Told} {items some : List Link} {link : Link} (index : ℕ) → Grows old new → items ≡ some
+pub link_later : {old new : List Told} {items some : List TakenTarget} {link : TakenTarget} (index : ℕ)
+    → Grows old new → items ≡ some
     → index < length items → link ≡ get_or items index link → AreGivenTo old some → IsGivenTo new link
 link_later {old} {new} {items} {some} {link} index grows same within is given =
     given_later old new _ grows (link_given old items index link (given_links old same given) within is)
@@ -118,7 +119,7 @@ asks_target {old = old} {a = a} {b = b} {c = c} {faults = faults} stand target c
 -- An element of siblings whose reference is followed, and what comes behind
 
 module _ {doc : Doc} {faults : List Fault} {a : Resolver} (a0 : Resolver) (siblings : Siblings) (node : Node)
-    (origin : List ℕ) (of : doc ≡ document siblings) (name : Some origin ≡ slice_get doc.origins node.origin)
+    (origin : List ℕ) (of : doc ≡ doc_of_siblings siblings) (name : Some origin ≡ slice_get doc.origins node.origin)
     (judged : a ≡ record a0 { faults = faults }) where
   pub asks_followed : {old new : List Told} (stand : Stand)
       → AsksOf stand a (reused_by (element_of origin node)) old new

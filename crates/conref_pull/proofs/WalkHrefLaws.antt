@@ -2,7 +2,7 @@
 use Rattle.std.specs.Arc.{arc_value}
 use Rattle.std.specs.Prelude.{◌≡◌, ℕ, Bool, List, Result, Some, OnOk, slice_get}
 use Rattle.std.proofs.Common.{sym, subst}
-use Rattle.dita_doc.specs.Siblings.{IsElementAt, document}
+use Rattle.dita_doc.specs.Siblings.{IsElementAt, doc_of_siblings}
 use Rattle.dita_doc.specs.declared.doc.Attribute.{Attribute}
 use Rattle.dita_doc.specs.declared.doc.Doc.{Doc}
 use Rattle.dita_doc.specs.declared.doc.Node.{Node}
@@ -26,7 +26,7 @@ use Rattle.conref_pull.specs.Count.{OneMore}
 use Rattle.conref_pull.specs.PutHrefs.{MergedNamed, HaveNamedIn, PutNamed}
 use Rattle.conref_pull.specs.Merging.{IsMerged}
 use Rattle.conref_pull.specs.Putting.{IsSameMaker, Puts, built}
-use Rattle.conref_pull.specs.declared.chain.Link.{Link}
+use Rattle.conref_pull.specs.declared.chain.TakenTarget.{TakenTarget}
 use Rattle.conref_pull.specs.declared.merge.Merged.{Merged}
 use Rattle.conref_pull.specs.declared.resolver.Resolver.{Resolver}
 use Rattle.conref_pull.specs.declared.resolver.TooMany.{TooMany}
@@ -42,7 +42,7 @@ use Rattle.conref_pull.proofs.WalkLoopLaws.{Splits}
 
 -- what a call hands on that puts nothing
 module _ {told more : List Told} (grows : Grows told more) where
-  pub origin_later : {doc : Doc} (siblings : Siblings) (node : Node) (origin : List ℕ) → doc ≡ document siblings
+  pub origin_later : {doc : Doc} (siblings : Siblings) (node : Node) (origin : List ℕ) → doc ≡ doc_of_siblings siblings
       → Some origin ≡ slice_get doc.origins node.origin → HasNamed told (element_around siblings node)
       → HasNamed more (element_of origin node)
   origin_later {doc} siblings node origin of name named = element_later told more grows (element_of origin node)
@@ -52,7 +52,7 @@ module _ {told more : List Told} (grows : Grows told more) where
   put_later {a} {b} same put = building_later told more grows (built b) (same_put told a b same put)
 
   -- the document of a link, under another name
-  pub named_later : {other : Doc} (link : Link) → other ≡ arc_value link.doc → IsGivenTo told link
+  pub named_later : {other : Doc} (link : TakenTarget) → other ≡ arc_value link.doc → IsGivenTo told link
       → HaveNamed more (named_tree other)
   named_later link same given = subst (λ (d : Doc). HaveNamed more (named_tree d)) (sym same)
       (nodes_later told more grows (named_tree (arc_value link.doc)) (link_named told link given))

@@ -14,10 +14,10 @@ use Rattle.dita_doc.specs.declared.stop.Stop.TheVariants as stops
 use Rattle.doc_maker.specs.Building.{Building, behind, depth, opened}
 use Rattle.doc_maker.proofs.BuildingLaws.{beside_beside, depth_behind}
 use Rattle.map_spec.specs.Written.{Element, Written}
-use Rattle.conref_spec.specs.Content.{Made, count_limit, depth_limit, made_beside, made_with, nothing_made}
+use Rattle.conref_spec.specs.Content.{Made, count_limit, resolve_depth_limit, made_beside, made_with, nothing_made}
 use Rattle.reader_spec.specs.World.{World}
 use Rattle.readers.specs.Setting.{Stand}
-use Rattle.conref_targets.specs.Setting.{setting_of}
+use Rattle.conref_targets.specs.ResolveInput.{setting_of}
 use Rattle.conref_targets.specs.Tables.{AreTables, Documents}
 use Rattle.conref_targets.specs.declared.tables.PlaceTables.{PlaceTables}
 use Rattle.conref_pull.specs.Putting.{built, declared_put}
@@ -103,8 +103,8 @@ path_shorter links end a b within same =
 pub limit_depth : (a : Resolver) (at : ℕ) → StandsDeep a at → IsDepth a at
 limit_depth a at deep = record { is = same_test deep.around (depth (built a)) at a.deepest deep.deepest deep.is }
   where
-    same_test : (around count at deepest : ℕ) → deepest ≡ depth_limit - around → at ≡ around + 1 + count
-        → nat_lt depth_limit at ≡ nat_le deepest count
+    same_test : (around count at deepest : ℕ) → deepest ≡ resolve_depth_limit - around → at ≡ around + 1 + count
+        → nat_lt resolve_depth_limit at ≡ nat_le deepest count
     same_test around count at deepest is there = grind (arith, nat_tests)
 
 -- Pieces one behind the other

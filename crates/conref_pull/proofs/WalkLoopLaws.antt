@@ -2,28 +2,27 @@
 use Rattle.std.specs.Prelude.{◌≡◌, ◌+◌, ◌-◌, ◌<◌, ◌≤◌, ℕ, Bool, true, List, [], None, Some, Result, Ok, Err, IsErrAnd, drop, get_or, length, slice_get, suc}
 use Rattle.std.specs.Arc.{arc_value}
 use Rattle.std.proofs.Common.{refl, sym, ap, subst, ◌∙◌}
-use Rattle.dita_doc.specs.Siblings.{content, document}
+use Rattle.dita_doc.specs.Siblings.{content, doc_of_siblings}
 use Rattle.dita_doc.specs.Tree.{Content, Element, tree_of}
 use Rattle.dita_doc.specs.declared.doc.Doc.{Doc}
 use Rattle.dita_doc.specs.declared.doc.Node.{Node}
 use Rattle.dita_doc.specs.declared.siblings.Siblings.{Siblings}
 use Rattle.dita_doc.specs.declared.stop.Stop.{Stop}
-use Rattle.conref_spec.specs.Content.{Around, Made, Place, declared_there}
+use Rattle.conref_spec.specs.Content.{ContentAround, Made, Place, declared_there}
 use Rattle.reader_spec.specs.World.{World}
-use Rattle.readers.specs.Named.{named, reused_in}
+use Rattle.readers.specs.Named.{under_names, reused_in}
 use Rattle.readers.specs.Setting.{Stand}
 use Rattle.conref_targets.specs.Asking.{AreAmong, element_around, reused_of_node}
 use Rattle.conref_targets.specs.Origin.{named_content}
-use Rattle.conref_targets.specs.Parts.{IsPart, has_first, first_alone}
+use Rattle.conref_targets.specs.Parts.{AreSiblingsAt, has_first, first_alone}
 use Rattle.conref_targets.specs.declared.tables.PlaceTables.{PlaceTables}
 use Rattle.conref_pull.specs.Linked.{AreLinks, IsLink}
 use Rattle.conref_pull.specs.State.{IsSamePage, path_within}
 use Rattle.conref_pull.specs.Step.{Taken}
 use Rattle.conref_pull.specs.Walking.{Here, IsReady, IsWalked, Walks, among_made, ranges_put, whole_made}
-use Rattle.conref_pull.specs.declared.chain.Link.{Link}
+use Rattle.conref_pull.specs.declared.chain.TakenTarget.{TakenTarget}
 use Rattle.conref_pull.specs.declared.resolver.Resolver.{Resolver}
 use Rattle.conref_pull.specs.declared.resolver.TooMany.{TooMany}
-pub use Rattle.conref_pull.proofs.ChainLaws.{not_none}
 pub use Rattle.std.proofs.lemmas.List.{drop_all}
 use Rattle.conref_targets.proofs.OriginLaws.{among_then, first_among, rest_among, split_is}
 pub use Rattle.conref_pull.proofs.LinkLaws.{given_links, links_are}
@@ -39,12 +38,13 @@ pub use Rattle.conref_pull.proofs.WalkLaws.{seen_as}
 -- these are the first of siblings, what it holds, and those behind it
 pub record Splits (left : Siblings) (node : Node) (inside rest : Siblings) : Type 0 where
   pub is : content left ≡ Element node.text node.attributes node.origin node.line (content inside) (content rest)
-  pub held : document inside ≡ document left
-  pub behind : document rest ≡ document left
+  pub held : doc_of_siblings inside ≡ doc_of_siblings left
+  pub behind : doc_of_siblings rest ≡ doc_of_siblings left
 
 pub splits : (left : Siblings) (node : Node) (inside rest : Siblings)
     → content left ≡ Element node.text node.attributes node.origin node.line (content inside) (content rest)
-    → (document inside ≡ document left) × (document rest ≡ document left) → Splits left node inside rest
+    → (doc_of_siblings inside ≡ doc_of_siblings left) × (doc_of_siblings rest ≡ doc_of_siblings left)
+    → Splits left node inside rest
 splits left node inside rest is same = record { is = is; held = same.0; behind = same.1 }
 
 module _ {left : Siblings} {node : Node} {inside rest : Siblings} {names : List (List ℕ)}
@@ -59,19 +59,19 @@ module _ {left : Siblings} {node : Node} {inside rest : Siblings} {names : List 
 
 module _ {world : World} {stand later : Stand} {links : ℕ} {here : Here} {all : Made} {a b : Resolver}
     {places between : PlaceTables} {left : Siblings} {node : Node} {inside rest : Siblings} (is_range : Bool)
-    (around : Around) (place : ℕ) (split : Splits left node inside rest)
-    (there : slice_get (document left).nodes place ≡ Some node)
+    (around : ContentAround) (place : ℕ) (split : Splits left node inside rest)
+    (there : slice_get (doc_of_siblings left).nodes place ≡ Some node)
     (ready : IsReady world stand links here a places) (same : IsSamePage a b) (stands : later ≡ stand)
     (before : SoFar here.setting.pushed links (among_made here is_range around
     (named_content left)) all a b between) where
-  there_too : slice_get (document inside).nodes place ≡ Some node
+  there_too : slice_get (doc_of_siblings inside).nodes place ≡ Some node
   there_too = ap (λ (d : Doc). slice_get d.nodes place) split.held ∙ there
 
   ready_next : IsReady world later links here b between
   ready_next = ready_after world stand later links here before.made a b places between ready same stands before.walked
 
   pub sibling_next : (c : Resolver) (after : PlaceTables)
-      → (IsReady world later links here b between → slice_get (document inside).nodes place ≡ Some node
+      → (IsReady world later links here b between → slice_get (doc_of_siblings inside).nodes place ≡ Some node
       → IsWalked here.setting.pushed links
       (whole_made here is_range around (element_around inside node) (named_content inside)) b c after)
       → SoFar here.setting.pushed links (among_made here is_range around (named_content rest)) all a c after
@@ -81,7 +81,7 @@ module _ {world : World} {stand later : Stand} {links : ℕ} {here : Here} {all 
 
   pub sibling_stops : (result : Result (Unit {0}) (Stop TooMany)) (stop : Stop TooMany) (c : Resolver)
       (after : PlaceTables) → IsErrAnd result (λ e. e ≡ stop)
-      → (IsReady world later links here b between → slice_get (document inside).nodes place ≡ Some node
+      → (IsReady world later links here b between → slice_get (doc_of_siblings inside).nodes place ≡ Some node
       → Walks (Err stop) here.setting.pushed links
       (whole_made here is_range around (element_around inside node) (named_content inside)) b c after)
       → Walks result here.setting.pushed links all a c after
@@ -92,8 +92,9 @@ module _ {world : World} {stand later : Stand} {links : ℕ} {here : Here} {all 
 
 -- A node of a range, which is resolved in a document that is the same
 
-pub range_ready : {world : World} {stand : Stand} {links : ℕ} {here : Here} {link : Link} {one : Taken} {a : Resolver}
-    {places : PlaceTables} (is_range : Bool) (around : Around) → IsReady world stand links here a places
+pub range_ready : {world : World} {stand : Stand} {links : ℕ} {here : Here} {link : TakenTarget} {one : Taken}
+    {a : Resolver}
+    {places : PlaceTables} (is_range : Bool) (around : ContentAround) → IsReady world stand links here a places
     → IsLink link one
     → Left (arc_value link.doc) here links is_range around link.to (among_made here is_range around one.range) a a places
     link.from link.from
@@ -101,7 +102,7 @@ range_ready {links = links} {here = here} {link = link} {one = one} {a = a} {pla
     range_begins (arc_value link.doc) link one here links is_range around a places refl is ready.room ready.within
     ready.tables
 
-module _ {doc : Doc} {here : Here} {links : ℕ} {is_range : Bool} {around : Around} {to : ℕ} {all : Made}
+module _ {doc : Doc} {here : Here} {links : ℕ} {is_range : Bool} {around : ContentAround} {to : ℕ} {all : Made}
     {a b : Resolver} {places : PlaceTables} {place counter : ℕ}
     (left : Left doc here links is_range around to all a b places place counter) where
   pub range_ends : to ≤ place → IsWalked here.setting.pushed links all a b places
@@ -112,7 +113,7 @@ module _ {doc : Doc} {here : Here} {links : ℕ} {is_range : Bool} {around : Aro
   range_goes_on alike within none = left_missing doc here links is_range around to all a b places place counter left
       within (ap (λ (d : Doc). slice_get d.nodes place) (sym alike) ∙ sym none)
 
-module _ {world : World} {stand later : Stand} {links : ℕ} {here : Here} {is_range : Bool} {around : Around}
+module _ {world : World} {stand later : Stand} {links : ℕ} {here : Here} {is_range : Bool} {around : ContentAround}
     {doc other node-of : Doc} {to : ℕ} {all : Made} {a b : Resolver} {places between : PlaceTables}
     {place counter : ℕ} {node : Node} (alike : other ≡ doc) (there-too : node-of ≡ doc)
     (ready : IsReady world stand links here a places) (same : IsSamePage a b) (stands : later ≡ stand)
@@ -122,23 +123,23 @@ module _ {world : World} {stand later : Stand} {links : ℕ} {here : Here} {is_r
   node_is = ap (λ (d : Doc). slice_get d.nodes place) (sym there-too) ∙ sym is
 
   first_walks : (result : Result (Unit {0}) (Stop TooMany)) (c : Resolver) (after : PlaceTables)
-      → ((part : Content) → IsReady world later links here b between → IsPart (tree_of other.nodes) place part
+      → ((part : Content) → IsReady world later links here b between → AreSiblingsAt (tree_of other.nodes) place part
       → has_first part ≡ true → Walks result here.setting.pushed links
-      (among_made here is_range around (first_alone (named other.origins part))) b c after)
+      (among_made here is_range around (first_alone (under_names other.origins part))) b c after)
       → Walks result here.setting.pushed links
-      (among_made here is_range around (first_alone (named doc.origins left.rest))) b c after
-  first_walks result c after walked = subst (λ (d : Doc). IsPart (tree_of d.nodes) place left.rest
+      (among_made here is_range around (first_alone (under_names doc.origins left.rest))) b c after
+  first_walks result c after walked = subst (λ (d : Doc). AreSiblingsAt (tree_of d.nodes) place left.rest
       → Walks result here.setting.pushed links
-      (among_made here is_range around (first_alone (named d.origins left.rest))) b c after) alike
+      (among_made here is_range around (first_alone (under_names d.origins left.rest))) b c after) alike
       (λ part. walked left.rest
       (ready_after world stand later links here left.so_far.made a b places between ready same stands
       left.so_far.walked)
       part (left_some doc here links is_range around to all a b between place counter left within)) left.there
 
   pub node_next : (c : Resolver) (after : PlaceTables)
-      → ((part : Content) → IsReady world later links here b between → IsPart (tree_of other.nodes) place part
+      → ((part : Content) → IsReady world later links here b between → AreSiblingsAt (tree_of other.nodes) place part
       → has_first part ≡ true → IsWalked here.setting.pushed links
-      (among_made here is_range around (first_alone (named other.origins part))) b c after)
+      (among_made here is_range around (first_alone (under_names other.origins part))) b c after)
       → Left doc here links is_range around to all a c after node.end (counter + 1)
   node_next c after walked = left_step doc here links is_range around to all a b c between after place counter node left
       within node_is (first_walks (Ok tt) c after walked)
@@ -146,9 +147,9 @@ module _ {world : World} {stand later : Stand} {links : ℕ} {here : Here} {is_r
   pub node_stops : (result : Result (Unit {0}) (Stop TooMany)) (stop : Stop TooMany) (c : Resolver)
       (after : PlaceTables)
       → IsErrAnd result (λ e. e ≡ stop)
-      → ((part : Content) → IsReady world later links here b between → IsPart (tree_of other.nodes) place part
+      → ((part : Content) → IsReady world later links here b between → AreSiblingsAt (tree_of other.nodes) place part
       → has_first part ≡ true → Walks (Err stop) here.setting.pushed links
-      (among_made here is_range around (first_alone (named other.origins part))) b c after)
+      (among_made here is_range around (first_alone (under_names other.origins part))) b c after)
       → Walks result here.setting.pushed links all a c after
   node_stops result stop c after ended walked = walks_err result stop here.setting.pushed links all a c after ended
       (left_stop doc here links is_range around to stop all a b c between after place counter node left within node_is
@@ -157,7 +158,7 @@ module _ {world : World} {stand later : Stand} {links : ℕ} {here : Here} {is_r
 -- The range behind a target
 
 pub ranges_ready : {world : World} {stand : Stand} {links end : ℕ} {here : Here} {path : List Place}
-    {items some : List Link} {a : Resolver} {places : PlaceTables} (around : Around) (taken : List Taken)
+    {items some : List TakenTarget} {a : Resolver} {places : PlaceTables} (around : ContentAround) (taken : List Taken)
     → IsReady world stand links here a places → items ≡ some → AreLinks path end taken some → end ≡ links + length taken
     → path ≡ path_within a end → end ≤ length a.path.items → end ≤ 32
     → Behind here links around path items (ranges_put here around taken) a a places end 0
@@ -166,7 +167,7 @@ ranges_ready {links = links} {end = end} {here = here} {path = path} {items = it
     behind_begins here links end around path items taken a places (links_are path end taken is linked) count same far
     limit ready.room ready.tables
 
-module _ {here : Here} {links : ℕ} {around : Around} {path : List Place} {items : List Link} {all : Made}
+module _ {here : Here} {links : ℕ} {around : ContentAround} {path : List Place} {items : List TakenTarget} {all : Made}
     {a b : Resolver} {places : PlaceTables} {count index : ℕ}
     (left : Behind here links around path items all a b places count index) where
   pub ranges_end : count ≤ links → IsWalked here.setting.pushed links all a b places
@@ -175,8 +176,9 @@ module _ {here : Here} {links : ℕ} {around : Around} {path : List Place} {item
   pub ranges_over : drop index items ≡ [] → IsWalked here.setting.pushed links all a b places
   ranges_over none = behind_all here links around path items all a b places count index left none
 
-module _ {world : World} {stand later : Stand} {links : ℕ} {here : Here} {around : Around} {path : List Place}
-    {items : List Link} {all : Made} {a b : Resolver} {places between : PlaceTables} {count index : ℕ} {link : Link}
+module _ {world : World} {stand later : Stand} {links : ℕ} {here : Here} {around : ContentAround} {path : List Place}
+    {items : List TakenTarget} {all : Made} {a b : Resolver} {places between : PlaceTables} {count index : ℕ}
+    {link : TakenTarget}
     (ready : IsReady world stand links here a places) (same : IsSamePage a b) (stands : later ≡ stand)
     (some : links < count) (within : index < length items) (is : link ≡ get_or items index link)
     (left : Behind here links around path items all a b between count index) where

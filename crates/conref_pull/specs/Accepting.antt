@@ -5,7 +5,7 @@ use Rattle.dita_doc.specs.declared.fault.FaultCode.TheVariants as faults
 use Rattle.conref_spec.specs.Content.{Place, is_place, path_limit}
 use Rattle.conref_targets.specs.declared.find.Found.{Found}
 use Rattle.conref_pull.specs.State.{place_shown}
-use Rattle.conref_pull.specs.declared.chain.Link.{Link}
+use Rattle.conref_pull.specs.declared.chain.TakenTarget.{TakenTarget}
 use Rattle.conref_pull.specs.declared.place.Place as kept
 
 abbrev pub place_of : Found → Place
@@ -24,7 +24,7 @@ refusal_by on_path too_deep =
 abbrev pub is_too_deep : ℕ → ℕ → ℕ → Bool
 is_too_deep links deepest opened = nat_le path_limit links || nat_le deepest opened
 
-abbrev pub link_of : Found → List (List ℕ) → ℕ → ℕ → Link
+abbrev pub link_of : Found → List (List ℕ) → ℕ → ℕ → TakenTarget
 link_of found declared from to =
     record { doc = found.doc; place = found.place; declared = declared; from = from; to = to }
 

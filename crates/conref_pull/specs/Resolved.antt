@@ -16,7 +16,7 @@ use Rattle.reader_spec.specs.World.{World}
 use Rattle.readers.specs.Setting as made
 use Rattle.conref_targets.specs.Around.{alone_at, around_at, nothing_around}
 use Rattle.conref_targets.specs.Rules.{ditavals, page_rules}
-use Rattle.conref_targets.specs.Setting.{setting_of}
+use Rattle.conref_targets.specs.ResolveInput.{setting_of}
 use Rattle.conref_pull.specs.Putting.{built, declared_put}
 use Rattle.conref_pull.specs.declared.resolver.Resolver.{Resolver}
 use Rattle.conref_pull.specs.declared.resolver.TooMany.{TooMany}
@@ -72,8 +72,8 @@ page_made world setting val page = resolved_page count_limit (too_many_faults wo
     (setting_of world setting page (page_rules world (ditavals val page.filters)))
 
 -- what stands in the place of one node of its document, where it stands
-abbrev pub node_made : World → made.Setting → Option (List ℕ) → PageId → ℕ → Made
-node_made world setting val page place =
+abbrev pub node_resolved : World → made.Setting → Option (List ℕ) → PageId → ℕ → Made
+node_resolved world setting val page place =
     let there = setting_of world setting page (page_rules world (ditavals val page.filters)) in
     let stands = around_at nothing_around (page_root there) place in
     within count_limit (too_many_faults world page.doc)

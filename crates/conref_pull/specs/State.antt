@@ -3,7 +3,7 @@ use Rattle.std.specs.Prelude.{◌≡◌, ℕ, List, map, nat_le, nat_lt, take}
 use Rattle.doc_maker.specs.Building.{depth}
 use Rattle.doc_maker.specs.Made.{building}
 use Rattle.conref_spec.specs.Content as content
-use Rattle.conref_spec.specs.Content.{depth_limit}
+use Rattle.conref_spec.specs.Content.{resolve_depth_limit}
 use Rattle.conref_pull.specs.declared.place.Place.{Place}
 use Rattle.conref_pull.specs.declared.resolver.Resolver.{Resolver}
 
@@ -16,7 +16,7 @@ path_within resolver links = take links (map place_shown resolver.path.items)
 
 -- what is put next stands at this depth, as far as the limit is concerned
 pub record IsDepth (resolver : Resolver) (at : ℕ) : Type 0 where
-  pub is : nat_lt depth_limit at ≡ nat_le resolver.deepest (depth (building resolver.maker))
+  pub is : nat_lt resolve_depth_limit at ≡ nat_le resolver.deepest (depth (building resolver.maker))
 
 -- the page is the same, and so is how it is judged
 pub record IsSamePage (old new : Resolver) : Type 0 where

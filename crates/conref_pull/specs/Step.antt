@@ -5,7 +5,7 @@ use Rattle.dita_doc.specs.declared.fault.Fault.{Fault}
 use Rattle.ditaval_rules.specs.Domains.{declared_by}
 use Rattle.map_spec.specs.Elements.{attribute}
 use Rattle.map_spec.specs.Written.{Element, Written, End}
-use Rattle.conref_spec.specs.Content.{Followed, Found, Place, Range, Setting, Sought, declared_around, found_by, has_reference, key_faults, merged_element, missing_fault, range_behind, range_by, refused_by, sought_by, taken, unchanged, value_used}
+use Rattle.conref_spec.specs.Content.{Followed, Found, Place, Range, ResolveInput, Sought, declared_around_written, found_by, has_reference, conkeyref_faults, merged_element, missing_fault, range_behind, range_by, refused_by, sought_by, taken, unchanged, value_used}
 
 -- a target that was taken: the element, the names of conditional attributes that are declared around it, what it holds, the
 -- range behind it, and the targets that it is resolved within
@@ -16,38 +16,42 @@ pub record Taken : Type 0 where
   pub range : Written
   pub path : List Place
 
-pub record Step : Type 0 where
+pub record FollowStep : Type 0 where
   pub taken : Option Taken
   pub faults : List Fault
 
 abbrev pub target_taken : List Place → Element → Found → Taken
 target_taken path element target = record {
   element = target.standing.whole.0;
-  around = declared_around [] target.nodes target.standing.place;
+  around = declared_around_written [] target.nodes target.standing.place;
   inside = target.standing.whole.1;
   range = unwrap_or (range_by target.standing (attribute (codes "conrefend") element)) End;
   path = path ++ record { doc = target.doc; at = target.standing.place } ∷ [];
 }
 
-abbrev pub step_with : List Place → Element → Found → List Fault → Option Fault → Step
+abbrev pub step_with : List Place → Element → Found → List Fault → Option Fault → FollowStep
 step_with path element target before (Some fault) = record { taken = None; faults = before ++ fault ∷ [] }
 step_with path element target before None =
     record { taken = Some (target_taken path element target); faults = before }
 
-abbrev pub step_to : Setting → ℕ → List Place → Element → Sought → Option Found → Step
+abbrev pub step_to : ResolveInput → ℕ → List Place → Element → Sought → Option Found → FollowStep
 step_to setting depth path element sought None =
-    record { taken = None; faults = key_faults setting sought.conkeyref ++ missing_fault setting element sought ∷ [] }
+    record {
+      taken = None;
+      faults = conkeyref_faults setting sought.conkeyref
+          ++ missing_fault setting element sought ∷ [];
+    }
 step_to setting depth path element sought (Some target) =
-    step_with path element target (key_faults setting sought.conkeyref)
+    step_with path element target (conkeyref_faults setting sought.conkeyref)
     (refused_by (value_used setting sought) depth path element target)
 
-abbrev pub step_by : Setting → List ℕ → ℕ → List Place → Element → Sought → Step
+abbrev pub step_by : ResolveInput → List ℕ → ℕ → List Place → Element → Sought → FollowStep
 step_by setting topic depth path element sought = if has_reference sought
     then step_to setting depth path element sought (found_by setting topic element sought)
     else record { taken = None; faults = [] }
 
 -- the next step from an element
-abbrev pub step_of : Setting → List ℕ → ℕ → List Place → Element → Step
+abbrev pub step_of : ResolveInput → List ℕ → ℕ → List Place → Element → FollowStep
 step_of setting topic depth path element = step_by setting topic depth path element (sought_by element)
 
 -- what follows from a step

@@ -6,10 +6,10 @@ use Rattle.dita_doc.specs.declared.stop.Stop.TheVariants as stops
 use Rattle.doc_maker.specs.Building.{depth}
 use Rattle.map_spec.specs.Judged.{group_faults}
 use Rattle.map_spec.specs.Written.{Element, Written}
-use Rattle.conref_spec.specs.Content.{Around, Made, Place, Setting, around_within, count_limit, declared_there, depth_limit, element_made, element_resolved, goes, made_with, nothing_made, path_limit, ranges_made, resolved_among, resolved_from}
+use Rattle.conref_spec.specs.Content.{ContentAround, Made, Place, ResolveInput, around_within, count_limit, declared_there, resolve_depth_limit, element_made, element_resolved, goes, made_with, nothing_made, path_limit, ranges_made, resolved_among, resolved_from}
 use Rattle.reader_spec.specs.World.{World}
 use Rattle.readers.specs.Setting.{Stand}
-use Rattle.conref_targets.specs.Setting.{setting_of}
+use Rattle.conref_targets.specs.ResolveInput.{setting_of}
 use Rattle.conref_targets.specs.Tables.{AreTables, Documents}
 use Rattle.conref_targets.specs.declared.tables.PlaceTables.{PlaceTables}
 use Rattle.conref_pull.specs.Putting.{IsPut, built}
@@ -21,7 +21,7 @@ use Rattle.conref_pull.specs.declared.resolver.TooMany.{TooMany}
 
 -- where nodes are resolved: in this setting, at this depth, within the targets of this path, and within so many more
 pub record Here : Type 0 where
-  pub setting : Setting
+  pub setting : ResolveInput
   pub depth : ℕ
   pub path : List Place
   pub steps : ℕ
@@ -29,43 +29,43 @@ pub record Here : Type 0 where
 abbrev pub inside_of : Here → Here
 inside_of here = record here { depth = here.depth + 1 }
 
-abbrev pub seen_by : List ℕ → List (List ℕ) → Around
+abbrev pub seen_by : List ℕ → List (List ℕ) → ContentAround
 seen_by topic declared = record { topic = topic; declared = declared }
 
 -- what is around these nodes
-abbrev pub around_of : At → Around
+abbrev pub around_of : At → ContentAround
 around_of at = seen_by at.topic.now at.declared.now
 
 -- What is put in the place of siblings, with this around them
 
-abbrev pub among_made : Here → Bool → Around → Written → Made
+abbrev pub among_made : Here → Bool → ContentAround → Written → Made
 among_made here is_range around nodes =
     resolved_among (resolved_from here.steps here.setting) here.setting is_range around here.depth here.path nodes
 
 -- in the place of an element
-abbrev pub whole_made : Here → Bool → Around → Element → Written → Made
+abbrev pub whole_made : Here → Bool → ContentAround → Element → Written → Made
 whole_made here is_range around element inside =
     element_resolved (resolved_from here.steps here.setting) here.setting is_range around here.depth here.path element
     inside (λ shown. among_made (inside_of here) false shown inside)
 
 -- in the place of an element that stays, for which these names are declared, with this around what it holds
-abbrev pub stays_made : Here → Bool → List (List ℕ) → Around → Element → Written → Made
+abbrev pub stays_made : Here → Bool → List (List ℕ) → ContentAround → Element → Written → Made
 stays_made here is_range declared around element inside = element_made is_range declared element
     (among_made (inside_of here) false (around_within is_range element around) inside)
 
 -- in the place of an element that takes nothing, for which this counts
-abbrev pub kept_made : Here → Bool → Around → Element → Written → Made
+abbrev pub kept_made : Here → Bool → ContentAround → Element → Written → Made
 kept_made here is_range around element inside = stays_made here is_range around.declared around element inside
 
 -- in the place of an element with what it takes, which holds the content of a target, for which these names are
 -- declared; for the element itself its own are
-abbrev pub merged_made : Here → Bool → Around → List (List ℕ) → Element → Written → Made
+abbrev pub merged_made : Here → Bool → ContentAround → List (List ℕ) → Element → Written → Made
 merged_made here is_range around there merged inside = made_with (group_faults around.declared merged)
     (if goes here.setting around.declared merged then record nothing_made { count = 1 }
     else stays_made here is_range around.declared (declared_there there around) merged inside)
 
 -- in the place of the ranges behind the targets that were taken
-abbrev pub ranges_put : Here → Around → List Taken → Made
+abbrev pub ranges_put : Here → ContentAround → List Taken → Made
 ranges_put here around taken =
     ranges_made (resolved_from here.steps here.setting) around here.depth (flat_map range_of_one taken)
 
@@ -74,7 +74,7 @@ ranges_put here around taken =
 -- what is put next stands at this depth: behind so many elements around all that is resolved, and those that are open
 pub record StandsDeep (resolver : Resolver) (at : ℕ) : Type 0 where
   pub around : ℕ
-  pub deepest : resolver.deepest ≡ depth_limit - around
+  pub deepest : resolver.deepest ≡ resolve_depth_limit - around
   pub is : at ≡ around + 1 + depth (built resolver)
 
 -- nodes can be resolved here, within so many targets
@@ -99,12 +99,12 @@ pub record IsWalked (documents : Documents) (links : ℕ) (made : Made) (old new
     pub tables : AreTables documents places
 
 -- it is too much, and the tables are right all the same
-pub record IsFull (documents : Documents) (made : Made) (old : Resolver) (places : PlaceTables) : Type 0 where
+pub record HasNoRoom (documents : Documents) (made : Made) (old : Resolver) (places : PlaceTables) : Type 0 where
   pub much : count_limit < old.count + made.count
   pub tables : AreTables documents places
 
 -- it was put, or it is too much; out of memory, nothing is said
 abbrev pub Walks : Result (Unit {0}) (Stop TooMany) → Documents → ℕ → Made → Resolver → Resolver → PlaceTables → Type 0
 Walks (Ok done) documents links made old new places = IsWalked documents links made old new places
-Walks (Err (stops.Fault fault)) documents links made old new places = IsFull documents made old places
+Walks (Err (stops.Fault fault)) documents links made old new places = HasNoRoom documents made old places
 Walks (Err stops.NoMemory) documents links made old new places = Unit {0}

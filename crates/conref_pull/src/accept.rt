@@ -9,7 +9,7 @@ ghost use Rattle.conref_spec.specs.Content as content_spec;
 ghost use Rattle.conref_targets.specs.Tables.{AreTables, Documents};
 ghost use Rattle.conref_pull.specs.Accepting as accepting_spec;
 
-use crate::chain::Link;
+use crate::chain::TakenTarget;
 use crate::place::Place;
 use crate::resolver::Resolver;
 use conref_targets::{Found, PlaceTables, around_found, range_end, whole_at};
@@ -50,7 +50,7 @@ impl<'a> Resolver<'a> {
         element: &Node,
         found: Found<'_>,
         links: u32,
-    ) -> Result<Option<Link>, NoMemory>
+    ) -> Result<Option<TakenTarget>, NoMemory>
         ensures limit { IfOk result (λ link. IsSome link → links < 32) }
         ensures known { (documents : Documents) (meant : content_spec.Found) (at : ℕ)
             → AreTables documents places.old → found_spec.IsFound documents meant found.entry
@@ -93,13 +93,13 @@ impl<'a> Resolver<'a> {
         declared: List<Text>,
         from: u32,
         to: u32,
-    ) -> Result<Option<Link>, NoMemory>
+    ) -> Result<Option<TakenTarget>, NoMemory>
         ensures limit { IfOk result (λ link. IsSome link → links < 32) }
         ensures known { (documents : Documents) (meant : content_spec.Found) (at : ℕ) (target : doc.Node)
             (places : PlaceTables) → AreTables documents places
             → found_spec.IsFound documents meant found.entry
             → slice_get (arc_value found.entry.doc).nodes found.entry.place ≡ Some target → target.end ≡ from
-            → declared ≡ content_spec.declared_around [] meant.nodes meant.standing.place
+            → declared ≡ content_spec.declared_around_written [] meant.nodes meant.standing.place
             → elements_spec.is_special meant.standing.whole.0 (walk_spec.element_of origin.now element.now)
             ≡ true
             → ranges_spec.IsRangeEnd from meant.standing.behind (content_spec.range_by meant.standing
@@ -190,7 +190,7 @@ fn enter(
     declared: List<Text>,
     from: u32,
     to: u32,
-) -> Result<Link, NoMemory>
+) -> Result<TakenTarget, NoMemory>
     ensures link { IfOk result (λ link. link
         ≡ accepting_spec.link_of found.entry declared from to) }
     ensures path { OnOk result (accepting_spec.GoesOn path.old.items path.new.items found.entry
@@ -207,7 +207,7 @@ fn enter(
         doc: name,
         at: place,
     })?;
-    Ok(Link {
+    Ok(TakenTarget {
         doc,
         place,
         declared,

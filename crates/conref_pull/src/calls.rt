@@ -14,7 +14,7 @@ ghost use Rattle.readers.specs.Told.{Agrees, Told};
 ghost use Rattle.conref_targets.specs.Asking.{Asks};
 ghost use Rattle.conref_targets.specs.Hrefs.{HaveNamed};
 ghost use Rattle.conref_targets.specs.Rules.{AreRules, HasAll, ditavals};
-ghost use Rattle.conref_targets.specs.Setting.{documents_in};
+ghost use Rattle.conref_targets.specs.ResolveInput.{documents_in};
 ghost use Rattle.conref_targets.specs.Tables.{AreTables};
 ghost use Rattle.conref_targets.specs.Asking as asking_spec;
 ghost use Rattle.conref_pull.specs.PutHrefs.{PutNamed};
@@ -23,7 +23,7 @@ ghost use Rattle.conref_pull.specs.Resolved.{IsResolved, too_many_faults};
 
 use crate::resolver::{At, Resolver, TOO_MANY, TooMany};
 use crate::tables::Tables;
-use conref_targets::{PageRules, Standing};
+use conref_targets::{NodeStanding, PageRules};
 use dita_doc::{Context, Fault, FaultCode, List, NoMemory, Resolved, Siblings, Stop};
 use doc_elements::{fault_at, root_of};
 use doc_maker::DocMaker;
@@ -35,7 +35,7 @@ const DEPTH_LIMIT: usize = 256;
 
 /// The content that stands in the place of one node of a page's document, where it stands. With
 /// more than 262,144 nodes there is none, and one fault at the root of the document as stored.
-#[tactic(auto, using(crate::proofs::Rules::calling))]
+#[tactic(auto, using(conref_targets::proofs::Telling::telling))]
 pub fn resolve<A: Asker>(
     alloc: Global,
     asker: &mut A,
@@ -43,9 +43,9 @@ pub fn resolve<A: Asker>(
     place: u32,
 ) -> Result<Resolved, NoMemory>
     ensures known { (world : World) → Agrees world (A.told asker.new)
-        → IfOk result (λ resolved. IsResolved resolved (resolved_spec.node_made world
+        → IfOk result (λ resolved. IsResolved resolved (resolved_spec.node_resolved world
         (A.stand asker.old).setting context.now.val context.now.page place)) }
-    ensures value { IfOk result (λ resolved. IsResolved resolved (resolved_spec.node_made
+    ensures value { IfOk result (λ resolved. IsResolved resolved (resolved_spec.node_resolved
         (A.stand asker.old).world (A.stand asker.old).setting context.now.val context.now.page place)) }
     ensures stand { A.stand asker.new ≡ A.stand asker.old }
     ensures founded { StaysFounded (founded_spec.homes (A.stand asker.old).setting.nodes
@@ -64,7 +64,7 @@ pub fn resolve<A: Asker>(
 
 /// The content of a page: of all roots of its document, of which pushes can make several or none.
 /// With more than 262,144 nodes there is none, and one fault at the root of the document as stored.
-#[tactic(auto, using(crate::proofs::Rules::calling))]
+#[tactic(auto, using(conref_targets::proofs::Telling::telling))]
 pub fn resolve_page<A: Asker>(
     alloc: Global,
     asker: &mut A,
@@ -91,7 +91,7 @@ pub fn resolve_page<A: Asker>(
 }
 
 /// The same as `resolve`, by tables that are kept for all pages of the plan.
-#[tactic(auto, using(crate::proofs::Rules::calling))]
+#[tactic(auto, using(conref_targets::proofs::Telling::telling))]
 pub fn resolve_with<A: Asker>(
     alloc: Global,
     asker: &mut A,
@@ -102,7 +102,7 @@ pub fn resolve_with<A: Asker>(
     ensures known { (world : World) → Agrees world (A.told asker.new)
         → AreRules world tables.old.rules
         → AreTables (documents_in world (A.stand asker.old).setting) tables.old.places
-        → IfOk result (λ resolved. IsResolved resolved (resolved_spec.node_made world
+        → IfOk result (λ resolved. IsResolved resolved (resolved_spec.node_resolved world
         (A.stand asker.old).setting context.now.val context.now.page place)) }
     ensures kept { (world : World) → Agrees world (A.told asker.new)
         → AreRules world tables.old.rules
@@ -125,7 +125,7 @@ pub fn resolve_with<A: Asker>(
     };
     tables.rules.read(alloc, asker, context)?;
     let rules = PageRules::of(alloc, &tables.rules, context)?;
-    let standing = Standing::at(alloc, &doc, place)?;
+    let standing = NodeStanding::at(alloc, &doc, place)?;
     let deepest = DEPTH_LIMIT.saturating_sub(standing.depth);
     let mut resolver = Resolver::new(alloc, context, rules, deepest);
     let at = At {
@@ -139,7 +139,7 @@ pub fn resolve_with<A: Asker>(
 }
 
 /// The same as `resolve_page`, by tables that are kept for all pages of the plan.
-#[tactic(auto, using(crate::proofs::Rules::calling))]
+#[tactic(auto, using(conref_targets::proofs::Telling::telling))]
 pub fn resolve_page_with<A: Asker>(
     alloc: Global,
     asker: &mut A,
@@ -186,7 +186,7 @@ pub fn resolve_page_with<A: Asker>(
     finish(alloc, asker, context, resolver, done)
 }
 
-#[tactic(auto, using(crate::proofs::Rules::asking))]
+#[tactic(auto, using(conref_targets::proofs::AskingLaws::following))]
 fn finish<A: Asker>(
     alloc: Global,
     asker: &mut A,
@@ -212,7 +212,7 @@ fn finish<A: Asker>(
 }
 
 // What is handed out if the walk was stopped.
-#[tactic(auto, using(crate::proofs::Rules::asking))]
+#[tactic(auto, using(conref_targets::proofs::AskingLaws::following))]
 fn stopped<A: Asker>(
     alloc: Global,
     asker: &mut A,
@@ -243,7 +243,7 @@ fn nothing(alloc: Global) -> Resolved
 }
 
 // No content, with the fault of too much of it.
-#[tactic(auto, using(crate::proofs::Rules::asking))]
+#[tactic(auto, using(conref_targets::proofs::AskingLaws::following))]
 fn too_many<A: Asker>(alloc: Global, asker: &mut A, context: &Context) -> Result<Resolved, NoMemory>
     ensures known { (world : World) → Agrees world (A.told asker.new)
         → IfOk result (λ resolved. IsResolved resolved (resolved_spec.too_much

@@ -11,7 +11,7 @@ use std::sync::Arc;
 // A target that was taken, the names of conditional attributes that are declared around it, and the
 // range behind it, which is empty if there is none.
 #[derive(Drop)]
-pub(crate) struct Link {
+pub(crate) struct TakenTarget {
     pub doc: Arc<Doc>,
     pub place: u32,
     pub declared: List<Text>,
@@ -19,7 +19,7 @@ pub(crate) struct Link {
     pub to: u32,
 }
 
-impl Link {
+impl TakenTarget {
     ghost use Rattle.std.specs.Prelude.{◌≡◌, List, Some, IfOk, IfSome};
     ghost use Rattle.std.specs.Arc.{arc_value};
     ghost use Rattle.readers.specs.Told.{Told};
@@ -61,12 +61,12 @@ impl Link {
 // The targets that an element takes, the farthest first, and how many targets the content of that
 // one is resolved within.
 #[derive(Drop)]
-pub(crate) struct Chain {
-    pub links: Vec<Link>,
+pub(crate) struct TakenTargets {
+    pub links: Vec<TakenTarget>,
     pub end: u32,
 }
 
-impl Chain {
+impl TakenTargets {
     ghost use Rattle.std.specs.Prelude.{◌≡◌, ◌∷◌, ℕ, List, Some, IfOk, IfSome};
     ghost use Rattle.conref_spec.specs.Content.{Place};
     ghost use Rattle.readers.specs.Told.{Told};
@@ -119,7 +119,7 @@ impl<'a> Resolver<'a> {
     ghost use Rattle.readers.specs.Told.{Agrees};
     ghost use Rattle.conref_targets.specs.Asking.{Asks, IsGivenIn, names_of_value};
     ghost use Rattle.conref_targets.specs.Tables.{AreTables};
-    ghost use Rattle.conref_targets.specs.Setting as setting_spec;
+    ghost use Rattle.conref_targets.specs.ResolveInput as setting_spec;
     ghost use Rattle.conref_targets.specs.Sought as sought_spec;
     ghost use Rattle.conref_pull.specs.Linked.{AreGivenTo, IsGivenIf};
     ghost use Rattle.conref_pull.specs.Linked as linked_spec;
@@ -131,7 +131,7 @@ impl<'a> Resolver<'a> {
     // Follows the reference of an element, target by target, until one has none or can't be taken.
     // `topic` is the id of the topic around the element, and `links` tells within how many targets
     // it is resolved.
-    #[tactic(auto, using(crate::proofs::Rules::asking, crate::proofs::PutLaws::making))]
+    #[tactic(auto, using(conref_targets::proofs::AskingLaws::following, crate::proofs::PutLaws::making))]
     pub(crate) fn chain<A: Asker>(
         &mut self,
         asker: &mut A,
@@ -140,7 +140,7 @@ impl<'a> Resolver<'a> {
         element: &Node,
         topic: &str,
         links: u32,
-    ) -> Result<Chain, NoMemory>
+    ) -> Result<TakenTargets, NoMemory>
         ensures limit { IfOk result (λ chain. links < chain.end → chain.end ≤ 32) }
         ensures known { (world : World) (depth : ℕ) (inside : Written)
             → Agrees world (A.told asker.new)
@@ -165,12 +165,12 @@ impl<'a> Resolver<'a> {
     {
         let mut taken = Vec::new(self.alloc);
         let end = self.follow(asker, places, origin, element, topic, links, &mut taken)?;
-        Ok(Chain { links: taken, end })
+        Ok(TakenTargets { links: taken, end })
     }
 
     // Puts the targets that an element takes behind others, and tells within how many targets the
     // content of the farthest is resolved.
-    #[tactic(auto, using(crate::proofs::Rules::asking, crate::proofs::PutLaws::making))]
+    #[tactic(auto, using(conref_targets::proofs::AskingLaws::following, crate::proofs::PutLaws::making))]
     fn follow<A: Asker>(
         &mut self,
         asker: &mut A,
@@ -179,7 +179,7 @@ impl<'a> Resolver<'a> {
         element: &Node,
         topic: &str,
         links: u32,
-        taken: &mut Vec<Link>,
+        taken: &mut Vec<TakenTarget>,
     ) -> Result<u32, NoMemory>
         ensures limit { IfOk result (λ end. links < end → end ≤ 32) }
         ensures known { (world : World) (depth steps : ℕ) (inside : Written)
@@ -219,7 +219,7 @@ impl<'a> Resolver<'a> {
 
     // Takes the target that an element refers to, within so many targets; none, if it has no
     // reference, or has a fault.
-    #[tactic(auto, using(crate::proofs::Rules::asking, crate::proofs::PutLaws::making))]
+    #[tactic(auto, using(conref_targets::proofs::AskingLaws::following, crate::proofs::PutLaws::making))]
     fn take<A: Asker>(
         &mut self,
         asker: &mut A,
@@ -228,7 +228,7 @@ impl<'a> Resolver<'a> {
         element: &Node,
         topic: &str,
         links: u32,
-    ) -> Result<Option<Link>, NoMemory>
+    ) -> Result<Option<TakenTarget>, NoMemory>
         ensures limit { IfOk result (λ link. IsSome link → links < 32) }
         ensures known { (world : World) (depth : ℕ) → Agrees world (A.told asker.new)
             → AreTables (setting_spec.documents_in world (A.stand asker.old).setting) places.old

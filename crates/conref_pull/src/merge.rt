@@ -16,7 +16,7 @@ ghost use Rattle.conref_pull.specs.Merging as merging_spec;
 ghost use Rattle.conref_pull.specs.Step as step_spec;
 ghost use Rattle.conref_pull.specs.Step.{Taken};
 
-use crate::chain::Link;
+use crate::chain::TakenTarget;
 use dita_doc::{Attribute, List, Name, NoMemory, Node, is_same};
 use std::alloc::Global;
 
@@ -81,7 +81,7 @@ impl Merged {
 
     // The same with what it has not from these targets, the nearest of which stands last. Each of
     // them leaves values to the one before it.
-    fn with_nearer(self, alloc: Global, nearer: &[Link]) -> Result<Merged, NoMemory>
+    fn with_nearer(self, alloc: Global, nearer: &[TakenTarget]) -> Result<Merged, NoMemory>
         ensures merged { (path : List Place) (end : ℕ) (taken : List Taken) (own : Element)
             → linked_spec.AreLinks path end taken nearer.now → merging_spec.IsMerged self own
             → IfOk result (λ merged. merging_spec.TakesAll merged own taken) }
@@ -98,7 +98,7 @@ impl Merged {
     }
 
     // The same with what it has not from a target, which may leave values to another.
-    fn with_link(self, alloc: Global, link: &Link, leaves: bool) -> Result<Merged, NoMemory>
+    fn with_link(self, alloc: Global, link: &TakenTarget, leaves: bool) -> Result<Merged, NoMemory>
         ensures merged { (own : Element) (one : Taken) → merging_spec.IsMerged self own
             → linked_spec.IsLink link.now one → IfOk result (λ merged. merging_spec.IsMerged merged
             (merging_spec.taking own (merging_spec.part_of leaves one.element))) }
@@ -169,7 +169,7 @@ pub(crate) fn merged_with(
     alloc: Global,
     origin: &Name,
     element: &Node,
-    links: &[Link],
+    links: &[TakenTarget],
 ) -> Result<Merged, NoMemory>
     ensures merged { (path : List Place) (end : ℕ) (taken : List Taken) (inside : Written)
         → linked_spec.AreLinks path end taken links.now
@@ -189,8 +189,8 @@ fn merged_from(
     alloc: Global,
     origin: &Name,
     element: &Node,
-    farthest: &Link,
-    nearer: &[Link],
+    farthest: &TakenTarget,
+    nearer: &[TakenTarget],
 ) -> Result<Merged, NoMemory>
     ensures merged { (path : List Place) (end : ℕ) (one : Taken) (taken : List Taken)
         → linked_spec.IsLink farthest.now one → linked_spec.AreLinks path end taken nearer.now

@@ -17,7 +17,7 @@ impl Tables {
     ghost use Rattle.std.specs.Prelude.{◌≡◌, IfOk};
     ghost use Rattle.reader_spec.specs.World.{World};
     ghost use Rattle.conref_targets.specs.Rules as rules_spec;
-    ghost use Rattle.conref_targets.specs.Shown.{shown};
+    ghost use Rattle.dita_doc.specs.Shown.{shown};
     ghost use Rattle.conref_targets.specs.Tables as tables_spec;
     ghost use Rattle.conref_targets.specs.Tables.{Documents};
 

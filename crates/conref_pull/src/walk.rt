@@ -6,7 +6,7 @@ ghost use Rattle.map_spec.specs.Elements as elements_spec;
 ghost use Rattle.map_spec.specs.Written.{Element};
 ghost use Rattle.conref_spec.specs.Content as content_spec;
 
-use crate::chain::{Chain, Link};
+use crate::chain::{TakenTarget, TakenTargets};
 use crate::merge::{Merged, USE_TARGET, merged_with, own_id};
 use crate::resolver::{At, Resolver, TooMany};
 use conref_targets::{PlaceTables, Sought, node_of, origin_of};
@@ -45,7 +45,7 @@ impl<'a> Resolver<'a> {
 
     // Resolves nodes that stand side by side.
     #[cycle(resolve)]
-    #[tactic(auto, using(crate::proofs::Rules::asking, crate::proofs::StateLaws::paging))]
+    #[tactic(auto, using(conref_targets::proofs::AskingLaws::following, crate::proofs::StateLaws::paging))]
     pub(crate) fn siblings<A: Asker>(
         &mut self,
         asker: &mut A,
@@ -91,7 +91,7 @@ impl<'a> Resolver<'a> {
 
     // Resolves an element.
     #[cycle(resolve)]
-    #[tactic(auto, using(crate::proofs::Rules::asking, crate::proofs::StateLaws::paging))]
+    #[tactic(auto, using(conref_targets::proofs::AskingLaws::following, crate::proofs::StateLaws::paging))]
     pub(crate) fn element<A: Asker>(
         &mut self,
         asker: &mut A,
@@ -102,7 +102,7 @@ impl<'a> Resolver<'a> {
     ) -> Result<(), Stop<TooMany>>
         ensures known { (world : World) (here : Here) (place : ℕ) → Agrees world (A.told asker.new)
             → IsReady world (A.stand asker.old) at.entry.links here self.old places.old
-            → slice_get (siblings_spec.document inside.entry).nodes place ≡ Some node.now
+            → slice_get (siblings_spec.doc_of_siblings inside.entry).nodes place ≡ Some node.now
             → Walks result here.setting.pushed at.entry.links (walking_spec.whole_made here
             at.entry.is_range (around_of at.entry) (element_around inside.entry node.now)
             (named_content inside.entry)) self.old self.new places.new }
@@ -125,7 +125,7 @@ impl<'a> Resolver<'a> {
     // Resolves an element for which these names of conditional attributes are declared: it goes,
     // stays as it is, or takes what its reference names, with the ranges behind it.
     #[cycle(resolve)]
-    #[tactic(auto, using(crate::proofs::Rules::asking, crate::proofs::StateLaws::paging))]
+    #[tactic(auto, using(conref_targets::proofs::AskingLaws::following, crate::proofs::StateLaws::paging))]
     fn element_with<A: Asker>(
         &mut self,
         asker: &mut A,
@@ -137,7 +137,7 @@ impl<'a> Resolver<'a> {
     ) -> Result<(), Stop<TooMany>>
         ensures known { (world : World) (here : Here) (place : ℕ) → Agrees world (A.told asker.new)
             → IsReady world (A.stand asker.old) at.entry.links here self.old places.old
-            → slice_get (siblings_spec.document inside.entry).nodes place ≡ Some node.now
+            → slice_get (siblings_spec.doc_of_siblings inside.entry).nodes place ≡ Some node.now
             → declared.now ≡ declared_by at.entry.declared.now node.now.attributes
             → Walks result here.setting.pushed at.entry.links (walking_spec.whole_made here
             at.entry.is_range (around_of at.entry) (element_around inside.entry node.now)
@@ -173,7 +173,7 @@ impl<'a> Resolver<'a> {
 
     // Puts an element for which these names are declared as it is, with its content.
     #[cycle(resolve)]
-    #[tactic(auto, using(crate::proofs::Rules::asking, crate::proofs::StateLaws::paging))]
+    #[tactic(auto, using(conref_targets::proofs::AskingLaws::following, crate::proofs::StateLaws::paging))]
     fn unchanged<A: Asker>(
         &mut self,
         asker: &mut A,
@@ -187,7 +187,7 @@ impl<'a> Resolver<'a> {
         ensures known { (world : World) (here : Here) → Agrees world (A.told asker.new)
             → IsReady world (A.stand asker.old) at.entry.links here self.old places.old
             → Walks result here.setting.pushed at.entry.links (walking_spec.kept_made here
-            at.entry.is_range (seen_by (content_spec.topic_for at.entry.is_range
+            at.entry.is_range (seen_by (content_spec.topic_before_merge at.entry.is_range
             (walk_spec.element_of origin.now node.now) at.entry.topic.now) declared.now)
             (walk_spec.element_of origin.now node.now) (named_content inside.entry)) self.old
             self.new places.new }
@@ -223,14 +223,14 @@ impl<'a> Resolver<'a> {
     // Puts an element with what it takes from its targets, and the content of the last of them. It
     // is judged once more, by the names that are declared for itself, and counts also if it goes.
     #[cycle(resolve)]
-    #[tactic(auto, using(crate::proofs::Rules::asking, crate::proofs::StateLaws::paging))]
+    #[tactic(auto, using(conref_targets::proofs::AskingLaws::following, crate::proofs::StateLaws::paging))]
     fn merged<A: Asker>(
         &mut self,
         asker: &mut A,
         places: &mut PlaceTables,
         origin: &Name,
         node: &Node,
-        chain: &Chain,
+        chain: &TakenTargets,
         topic: &str,
         declared: &List<Text>,
         at: At<'_>,
@@ -288,12 +288,12 @@ impl<'a> Resolver<'a> {
     // Resolves the ranges behind the targets of an element, the farthest first, each within the
     // targets up to its own.
     #[cycle(resolve)]
-    #[tactic(auto, using(crate::proofs::Rules::asking, crate::proofs::StateLaws::paging))]
+    #[tactic(auto, using(conref_targets::proofs::AskingLaws::following, crate::proofs::StateLaws::paging))]
     fn ranges<A: Asker>(
         &mut self,
         asker: &mut A,
         places: &mut PlaceTables,
-        chain: &Chain,
+        chain: &TakenTargets,
         at: At<'_>,
     ) -> Result<(), Stop<TooMany>>
         ensures known { (world : World) (here : Here) (path : List Place) (taken : List Taken)
@@ -335,12 +335,12 @@ impl<'a> Resolver<'a> {
 
     // Resolves the range behind a target.
     #[cycle(resolve)]
-    #[tactic(auto, using(crate::proofs::Rules::asking, crate::proofs::StateLaws::paging))]
+    #[tactic(auto, using(conref_targets::proofs::AskingLaws::following, crate::proofs::StateLaws::paging))]
     fn range<A: Asker>(
         &mut self,
         asker: &mut A,
         places: &mut PlaceTables,
-        link: &Link,
+        link: &TakenTarget,
         at: At<'_>,
     ) -> Result<(), Stop<TooMany>>
         ensures known { (world : World) (here : Here) (one : Taken) → Agrees world (A.told asker.new)
@@ -374,7 +374,7 @@ impl<'a> Resolver<'a> {
 
     // Resolves the node at a place of a document.
     #[cycle(resolve)]
-    #[tactic(auto, using(crate::proofs::Rules::asking, crate::proofs::StateLaws::paging))]
+    #[tactic(auto, using(conref_targets::proofs::AskingLaws::following, crate::proofs::StateLaws::paging))]
     pub(crate) fn node_at<A: Asker>(
         &mut self,
         asker: &mut A,
@@ -386,11 +386,11 @@ impl<'a> Resolver<'a> {
         ensures known { (world : World) (here : Here) (part : Content)
             → Agrees world (A.told asker.new)
             → IsReady world (A.stand asker.old) at.entry.links here self.old places.old
-            → parts_spec.IsPart (tree_spec.tree_of doc.now.nodes) place part
+            → parts_spec.AreSiblingsAt (tree_spec.tree_of doc.now.nodes) place part
             → parts_spec.has_first part ≡ true
             → Walks result here.setting.pushed at.entry.links (walking_spec.among_made here
             at.entry.is_range (around_of at.entry) (parts_spec.first_alone
-            (named_spec.named doc.now.origins part))) self.old self.new places.new }
+            (named_spec.under_names doc.now.origins part))) self.old self.new places.new }
         ensures missing { (world : World) (here : Here) → Agrees world (A.told asker.new)
             → IsReady world (A.stand asker.old) at.entry.links here self.old places.old
             → slice_get doc.now.nodes place ≡ None
@@ -430,7 +430,7 @@ fn declared_for<'b>(own: &'b Option<List<Text>>, around: &'b List<Text>) -> &'b 
 // The id of the nearest topic for the reference of an element: an element that leaves its id to its
 // target has none.
 fn topic_seen<'b>(node: &'b Node, at: At<'b>) -> &'b str
-    ensures { (name : List ℕ) → result.now ≡ content_spec.topic_for at.entry.is_range
+    ensures { (name : List ℕ) → result.now ≡ content_spec.topic_before_merge at.entry.is_range
         (walk_spec.element_of name node.now) at.entry.topic.now }
 {
     let topic = topic_within(node, at);
@@ -442,8 +442,8 @@ fn topic_seen<'b>(node: &'b Node, at: At<'b>) -> &'b str
 
 // The id of the nearest topic for what an element holds; an element of a range has none.
 fn topic_within<'b>(node: &'b Node, at: At<'b>) -> &'b str
-    ensures { (name : List ℕ) → result.now ≡ content_spec.topic_within at.entry.is_range
-        (walk_spec.element_of name node.now) (content_spec.topic_for at.entry.is_range
+    ensures { (name : List ℕ) → result.now ≡ content_spec.topic_after_merge at.entry.is_range
+        (walk_spec.element_of name node.now) (content_spec.topic_before_merge at.entry.is_range
         (walk_spec.element_of name node.now) at.entry.topic.now) }
 {
     if !node.has_type("topic/topic") {
@@ -459,7 +459,7 @@ fn topic_within<'b>(node: &'b Node, at: At<'b>) -> &'b str
 fn topic_taken<'b>(node: &'b Node, topic: &'b str, is_range: bool) -> &'b str
     ensures { (name : List ℕ) (target : Element)
         → elements_spec.has_types (walk_spec.element_of name node.now) ≡ true
-        → result.now ≡ content_spec.topic_within is_range (content_spec.merged_element
+        → result.now ≡ content_spec.topic_after_merge is_range (content_spec.merged_element
         (walk_spec.element_of name node.now) target) topic.now }
 {
     if is_range {

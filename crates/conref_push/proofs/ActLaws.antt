@@ -9,12 +9,12 @@ use Rattle.dita_doc.specs.Tree.{ArePreorder, Content, nodes_of, size_of, tree_of
 use Rattle.dita_doc.specs.declared.doc.Node as doc
 use Rattle.doc_elements.specs.Walk.{element_of}
 use Rattle.map_spec.specs.Written.{elements_below, written_in}
-use Rattle.map_spec.specs.Pushes.{acts}
+use Rattle.map_spec.specs.Pushes.{has_conaction}
 use Rattle.conref_push.specs.Acting.{acts_there, any_acts}
 
 module _ (name : List ℕ) where
   abbrev pub node_acts : doc.Node → Bool
-  node_acts node = acts (element_of name node)
+  node_acts node = has_conaction (element_of name node)
 
   nodes_act : (all : Content) (place : ℕ) → list_any node_acts (nodes_of all place) ≡ any_acts (written_in name all)
   nodes_act tree.End place = refl

@@ -6,10 +6,12 @@ use Rattle.std.specs.Option.{option_and_then}
 use Rattle.std.proofs.Common.{inl, inr, refl, sym, ap, subst, ◌∙◌, arith, get_or}
 use Rattle.std.proofs.Math.Logic.{⊎_elim}
 use Rattle.std.proofs.lemmas.Bool.{false≢true, or_cases}
+use Rattle.std.proofs.lemmas.List.Elements.{filter_map-append}
 use Rattle.dita_doc.specs.Tree as tree
 use Rattle.dita_doc.specs.Tree.{Content}
 use Rattle.dita_doc.specs.declared.content.PushKind.{PushKind}
 use Rattle.dita_doc.specs.declared.content.PushKind.TheVariants as kinds
+use Rattle.dita_doc.proofs.Tests.{same_text}
 use Rattle.map_spec.specs.Elements.{attribute, has_value}
 use Rattle.map_spec.specs.Written.{Element, Whole, Written, End, Chars, Node, first_sibling, size, written_in}
 use Rattle.map_spec.specs.Places.{Standing, TopicAt, standing_from, topic_inside}
@@ -21,13 +23,13 @@ use Rattle.readers.specs.Told.{Told, document}
 use Rattle.readers.proofs.DocumentLaws.{asks_among, asks_one, asks_then, covers_nothing, covers_same, follows_may}
 use Rattle.readers.proofs.AmongLaws.{among_back, among_front}
 use Rattle.readers.proofs.GivenLaws.{first_among as first_named}
-use Rattle.readers.proofs.FoundedLaws.{among_behind, among_first, among_one, given_allowed, stays_among, stays_then}
+use Rattle.readers.proofs.FoundedLaws.{among_first, among_one, given_allowed, stays_among, stays_then}
 use Rattle.conref_push.specs.declared.pushing.Pushing as code
-use Rattle.conref_push.specs.Aimed.{aim_of, aims_among, aims_in, doc_aimed, doc_named, push_targets}
+use Rattle.conref_push.specs.Aimed.{push_aim, aims_among, aims_in, doc_aimed, doc_named, push_targets}
 use Rattle.conref_push.specs.Sight.{Sight, all_seen, label_of, seen_at, sight_at, sight_of, standing_at}
-use Rattle.conref_push.proofs.AmongLaws.{among_append, same_name}
+use Rattle.conref_push.proofs.AmongLaws.{among_append}
 use Rattle.conref_push.proofs.FileLaws.{named_joined}
-use Rattle.conref_push.proofs.SightLaws.{first_or, some_both}
+use Rattle.conref_push.proofs.SightLaws.{first_or}
 
 -- An element that is seen is aimed at a document among all that are aimed at
 
@@ -188,7 +190,7 @@ module _ (name m : List ℕ) where
   aim_first : (aim : Option (List ℕ)) (more : List (List ℕ)) (P : Type 0) → (aim ≡ Some m → P)
       → (IsTrue (is_among more m) → P) → IsTrue (is_among (cons_option aim more) m) → P
   aim_first None more P here there among = there among
-  aim_first (Some first) more P here there among = ⊎_elim (λ same. here (ap Some (same_name first m same))) there
+  aim_first (Some first) more P here there among = ⊎_elim (λ same. here (ap Some (same_text first m same))) there
       (or_cases (bytes_eq first m) (is_among more m) among)
 
   kind_gives : (kind : Option PushKind) (place : ℕ) (element : Element) (inside : Written) (rest : Content)
@@ -215,7 +217,7 @@ module _ (name m : List ℕ) where
       let held = standing_from (place + 1) (topic_inside place element around) None inside in
       let later = standing_from (place + 1 + size inside) around (Some element) behind in
       let Goal : Type 0 = IsTrue (is_among (gives before) m) ⊎ Among (Node element inside behind) in
-      aim_first (aim_of here) (aims_among (held ++ later)) Goal
+      aim_first (push_aim here) (aims_among (held ++ later)) Goal
       (λ is. kind_gives (push_kind (attribute (codes "conaction") element)) place element inside rest around before
       refl first is)
       (λ more. ⊎_elim
@@ -227,7 +229,7 @@ module _ (name m : List ℕ) where
       (λ given. inr (by_rest element inside behind given))
       (aims_given rest (place + 1 + size inside) around (Some element) refl past))
       (or_cases (is_among (aims_among held) m) (is_among (aims_among later) m)
-      (subst IsTrue (ap (λ l. is_among l m) (some_both aim_of held later)
+      (subst IsTrue (ap (λ l. is_among l m) (filter_map-append push_aim held later)
       ∙ among_append (aims_among held) (aims_among later) m) more)))
       among
 
@@ -255,14 +257,6 @@ asks_put name all a b c before told next = asks_then push_targets nothing (name 
     (λ rule roots covers may. follows_may rule push_targets roots (document name (Some all)) a b covers told) next
 
 -- A document of a list
-
-pub item_among : (names : List (List ℕ)) (at : ℕ) (one : List ℕ) → at < length names → one ≡ get_or names at one
-    → IsTrue (is_among names one)
-item_among [] at one within is = absurd (omega arith)
-item_among (name ∷ names) zero one within is =
-    subst (λ n. IsTrue (is_among (name ∷ names) n)) (sym is) (among_first name names)
-item_among (name ∷ names) (suc at) one within is =
-    among_behind name names one (item_among names at one (omega arith) is)
 
 pub asks_item : (names : List (List ℕ)) (one : List ℕ) (old new : List Told) → IsTrue (is_among names one)
     → AsksOnly push_targets (one ∷ []) old new → AsksOnly push_targets names old new

@@ -2,11 +2,11 @@
 use Rattle.std.specs.Prelude.{◌≡◌, ◌||◌, ◌&&◌, ℕ, Bool, true, false, List, [], ◌∷◌, ◌++◌, Some, None, bytes_eq}
 use Rattle.std.specs.Option.{option_map_or}
 use Rattle.std.proofs.Common.{refl, sym, ap, ◌∙◌}
-use Rattle.std.proofs.lemmas.Slice.Eq.{bytes_eq-Decides}
+use Rattle.dita_doc.proofs.Tests.{same_text}
 use Rattle.map_spec.specs.Written.{Written, document}
 use Rattle.reader_spec.specs.World.{World}
 use Rattle.readers.specs.Founded.{is_among}
-use Rattle.conref_push.specs.Acting.{acts_in, any_acts}
+use Rattle.conref_push.specs.Acting.{has_conaction_in, any_acts}
 use Rattle.conref_push.specs.Gathered.{acting_with}
 use Rattle.conref_push.specs.Table.{acts_among}
 
@@ -30,9 +30,6 @@ among_push [] name m = or_false (bytes_eq name m)
 among_push (first ∷ names) name m = ap (λ b. bytes_eq first m || b) (among_push names name m)
     ∙ or_assoc (bytes_eq first m) (is_among names m) (bytes_eq name m)
 
-pub same_name : (name m : List ℕ) → bytes_eq name m ≡ true → name ≡ m
-same_name name m is = (bytes_eq-Decides name m).0 is
-
 parts_of : (names same acts own : Bool) → (same ≡ true → acts ≡ own)
     → ((names || same) && acts) ≡ ((names && acts) || (same && own))
 parts_of true true true own is = refl
@@ -47,17 +44,17 @@ pub acts_more : (world : World) (documents : List (List ℕ)) (name : List ℕ) 
     → document world name ≡ Some nodes
     → acting_with (acts_among world documents) name nodes m ≡ acts_among world (documents ++ name ∷ []) m
 acts_more world documents name nodes m is = sym (
-    ap (λ b. b && acts_in world m) (among_push documents name m)
-    ∙ parts_of (is_among documents m) (bytes_eq name m) (acts_in world m) (any_acts nodes)
-    (λ same. ap (acts_in world) (sym (same_name name m same)) ∙ ap (λ found. option_map_or any_acts found false) is))
+    ap (λ b. b && has_conaction_in world m) (among_push documents name m)
+    ∙ parts_of (is_among documents m) (bytes_eq name m) (has_conaction_in world m) (any_acts nodes)
+    (λ same. ap (has_conaction_in world) (sym (same_text name m same)) ∙ ap (λ found. option_map_or any_acts found false) is))
 
 pub acts_same : (world : World) (documents : List (List ℕ)) (name m : List ℕ) → document world name ≡ None
     → acts_among world documents m ≡ acts_among world (documents ++ name ∷ []) m
 acts_same world documents name m none = sym (
-    ap (λ b. b && acts_in world m) (among_push documents name m)
-    ∙ parts_of (is_among documents m) (bytes_eq name m) (acts_in world m) false
-    (λ same. ap (acts_in world) (sym (same_name name m same)) ∙ ap (λ found. option_map_or any_acts found false) none)
-    ∙ no_more (is_among documents m && acts_in world m) (bytes_eq name m))
+    ap (λ b. b && has_conaction_in world m) (among_push documents name m)
+    ∙ parts_of (is_among documents m) (bytes_eq name m) (has_conaction_in world m) false
+    (λ same. ap (has_conaction_in world) (sym (same_text name m same)) ∙ ap (λ found. option_map_or any_acts found false) none)
+    ∙ no_more (is_among documents m && has_conaction_in world m) (bytes_eq name m))
   where
     no_more : (a b : Bool) → (a || (b && false)) ≡ a
     no_more true b = refl

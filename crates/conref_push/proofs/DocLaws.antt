@@ -4,8 +4,9 @@ use Rattle.std.specs.BTreeMap as tree
 use Rattle.std.specs.Cmp.Lexicographic.{slice_cmp}
 use Rattle.std.specs.Option.{option_and_then}
 use Rattle.std.specs.Ordering.{is_eq, nat_cmp}
-use Rattle.std.proofs.Common.{Ordering, Less, Equal, Greater, refl, sym, ap, subst, ◌∙◌}
-use Rattle.dita_doc.proofs.NameOrder.{equal_itself, same_from_equal}
+use Rattle.std.proofs.Common.{refl, sym, ap, subst, ◌∙◌}
+use Rattle.dita_doc.proofs.NameOrder.{equal_itself}
+use Rattle.dita_doc.proofs.Orders.{same_at}
 use Rattle.dita_doc.specs.declared.plan.Reference.{Reference}
 use Rattle.href_text.specs.Joined.{joined}
 use Rattle.href_text.specs.Reference.{reference_of}
@@ -19,22 +20,13 @@ use Rattle.readers.specs.Documents.{AsksOnly, nothing}
 use Rattle.readers.specs.Founded.{StaysFounded}
 use Rattle.readers.specs.Told.{Told}
 use Rattle.topic_find.specs.Walk.{place_of}
-use Rattle.conref_push.specs.Aimed.{aim_read, doc_aimed, doc_named}
+use Rattle.conref_push.specs.Aimed.{push_aim_read, doc_aimed, doc_named}
 use Rattle.conref_push.specs.Sight.{Sight, standing_seen}
 use Rattle.conref_push.specs.Targets.{AreKnown, IsTargetDoc, if_fits, place_meant, place_seen, spot_of, spot_seen, target_tree}
 use Rattle.conref_push.specs.declared.target_docs.PushTarget as code
 use Rattle.conref_push.specs.declared.target_docs.TargetDoc.{TargetDoc}
 
 -- Tables by names
-
-equal_test : (o : Ordering) → is_eq o ≡ true → o ≡ Equal
-equal_test Equal same = refl
-equal_test Less same = cc
-equal_test Greater same = cc
-
--- the names are the same
-pub same_at : (name other : List ℕ) → tree.is_at (slice_cmp nat_cmp name) other ≡ true → name ≡ other
-same_at name other at = same_from_equal name other (equal_test (slice_cmp nat_cmp name other) at)
 
 abbrev pub IsPut : {X : Type 0} → tree.BTreeMap (List ℕ) X → tree.BTreeMap (List ℕ) X → List ℕ → X → Type 0
 IsPut {X} old new key value = (q : List ℕ) → tree.get (slice_cmp nat_cmp) new q
@@ -146,16 +138,16 @@ module _ (world : World) (sight : Sight) where
 
   spot_by : (conref : Option (List ℕ))
       → seen_by (option_and_then (push_target world (standing_seen sight)) conref)
-      ≡ option_and_then spot_there (aim_read sight.element.doc conref)
+      ≡ option_and_then spot_there (push_aim_read sight.element.doc conref)
   spot_by None = refl
   spot_by (Some value) = spot_read (if_read (reference_of value))
 
   -- nothing is named
-  pub spot_unread : None ≡ aim_read sight.element.doc sight.conref → None ≡ spot_seen world sight
+  pub spot_unread : None ≡ push_aim_read sight.element.doc sight.conref → None ≡ spot_seen world sight
   spot_unread none = sym (spot_by sight.conref ∙ ap (option_and_then spot_there) (sym none))
 
   pub spot_is : (name : List ℕ) (reference : Reference) (place : Option ℕ)
-      → Some (name, reference) ≡ aim_read sight.element.doc sight.conref
+      → Some (name, reference) ≡ push_aim_read sight.element.doc sight.conref
       → place ≡ place_seen world sight name reference
       → option_map (λ p. spot_at name p) place ≡ spot_seen world sight
   spot_is name reference place read is = ap (option_map (λ p. spot_at name p)) is
@@ -176,25 +168,25 @@ named_read doc (Some reference) = by_name (if_read (joined doc reference.file))
     by_name (Some name) = refl
 
 named_by : (doc : List ℕ) (conref : Option (List ℕ)) → option_and_then (doc_named doc) conref
-    ≡ option_map (λ (aim : List ℕ × Reference). aim.0) (aim_read doc conref)
+    ≡ option_map (λ (aim : List ℕ × Reference). aim.0) (push_aim_read doc conref)
 named_by doc None = refl
 named_by doc (Some value) = named_read doc (if_read (reference_of value))
 
 pub aimed_at : (sight : Sight) (name : List ℕ) (reference : Reference)
-    → Some (name, reference) ≡ aim_read sight.element.doc sight.conref
+    → Some (name, reference) ≡ push_aim_read sight.element.doc sight.conref
     → option_to_list (doc_aimed sight) ≡ name ∷ []
 aimed_at sight name reference read = ap option_to_list (named_by sight.element.doc sight.conref
     ∙ ap (option_map (λ (aim : List ℕ × Reference). aim.0)) (sym read))
 
 -- calls about the document at which an element is aimed
 pub stays_aimed : (sight : Sight) (name : List ℕ) (reference : Reference) (old new : List Told)
-    → Some (name, reference) ≡ aim_read sight.element.doc sight.conref → StaysFounded (name ∷ []) old new
+    → Some (name, reference) ≡ push_aim_read sight.element.doc sight.conref → StaysFounded (name ∷ []) old new
     → StaysFounded (option_to_list (doc_aimed sight)) old new
 stays_aimed sight name reference old new read = subst (λ names. StaysFounded names old new)
     (sym (aimed_at sight name reference read))
 
 pub asks_aimed : (sight : Sight) (name : List ℕ) (reference : Reference) (old new : List Told)
-    → Some (name, reference) ≡ aim_read sight.element.doc sight.conref → AsksOnly nothing (name ∷ []) old new
+    → Some (name, reference) ≡ push_aim_read sight.element.doc sight.conref → AsksOnly nothing (name ∷ []) old new
     → AsksOnly nothing (option_to_list (doc_aimed sight)) old new
 asks_aimed sight name reference old new read = subst (λ names. AsksOnly nothing names old new)
     (sym (aimed_at sight name reference read))

@@ -6,7 +6,7 @@ use Rattle.std.proofs.Common.{refl}
 use Rattle.dita_doc.specs.declared.content.Push.{Push}
 use Rattle.dita_doc.specs.declared.content.PushKind.{PushKind}
 use Rattle.map_spec.specs.Written.{Element, Whole, Written, End, Chars, Node, document, element_at, element_in, side_by_side, size}
-use Rattle.map_spec.specs.Pushes.{acts, all_side_by_side, at_place, copy_beside, is_after, is_before, is_replace, itself_or, pushed_element, pushed_from, pushes_at, with_id_of, without_acting}
+use Rattle.map_spec.specs.Pushes.{has_conaction, all_side_by_side, pushed_at, copy_beside, is_after, is_before, is_replace, itself_or, pushed_element, pushed_from, pushes_at, with_id_of, without_acting}
 use Rattle.reader_spec.specs.World.{World}
 use Rattle.readers.specs.Founded.{is_among}
 use Rattle.readers.proofs.FoundedLaws.{among_behind, among_first}
@@ -62,7 +62,7 @@ module _ (E : Element → Type 0) where
   each_beside (Chars text doc rest) more is also = each_beside rest more is also
   each_beside (Node element inside rest) more is also = (is.0, (is.1.0, each_beside rest more is.1.1 also))
 
-  quiet_by : (element : Element) (inside rest : Written) (told : Bool) → acts element ≡ told → E element
+  quiet_by : (element : Element) (inside rest : Written) (told : Bool) → has_conaction element ≡ told → E element
       → EachOf E (without_acting inside) → EachOf E (without_acting rest)
       → EachOf E (without_acting (Node element inside rest))
   quiet_by element inside rest true told here within later = rw told later
@@ -71,7 +71,7 @@ module _ (E : Element → Type 0) where
   each_quiet : (nodes : Written) → EachOf E nodes → EachOf E (without_acting nodes)
   each_quiet End is = tt
   each_quiet (Chars text doc rest) is = each_quiet rest is
-  each_quiet (Node element inside rest) is = quiet_by element inside rest (acts element) refl is.0
+  each_quiet (Node element inside rest) is = quiet_by element inside rest (has_conaction element) refl is.0
       (each_quiet inside is.1.0) (each_quiet rest is.1.1)
 
   -- An element that is found
@@ -132,7 +132,7 @@ module _ (E : Element → Type 0) where
 
     module _ (pushes : List Push) (are : InFroms E world pushes) where
       each_place : (place : ℕ) (element : Element) (inside : Written) → E element → EachOf E inside
-          → EachOf E (at_place world pushes place element inside)
+          → EachOf E (pushed_at world pushes place element inside)
       each_place place element inside here within =
           let P = λ (push : Push). TreeOf E (document world push.from) in
           let instead = pushes_at is_replace place pushes in
@@ -144,13 +144,13 @@ module _ (E : Element → Type 0) where
           (each_itself element inside instead here within (each_at P is_replace place pushes are))
           (each_copied (pushes_at is_after place pushes) (each_at P is_after place pushes are)))
 
-      each_by : (place : ℕ) (element : Element) (inside rest : Written) (told : Bool) → acts element ≡ told
+      each_by : (place : ℕ) (element : Element) (inside rest : Written) (told : Bool) → has_conaction element ≡ told
           → E element → EachOf E (pushed_from world pushes (place + 1) inside)
           → EachOf E (pushed_from world pushes (place + 1 + size inside) rest)
           → EachOf E (pushed_from world pushes place (Node element inside rest))
       each_by place element inside rest true told here within later = rw told later
       each_by place element inside rest false told here within later = rw told (each_beside
-          (at_place world pushes place element (pushed_from world pushes (place + 1) inside))
+          (pushed_at world pushes place element (pushed_from world pushes (place + 1) inside))
           (pushed_from world pushes (place + 1 + size inside) rest)
           (each_place place element (pushed_from world pushes (place + 1) inside) here within) later)
 
@@ -159,5 +159,5 @@ module _ (E : Element → Type 0) where
       each_pushed place End is = tt
       each_pushed place (Chars text doc rest) is = each_pushed (place + 1) rest is
       each_pushed place (Node element inside rest) is =
-          each_by place element inside rest (acts element) refl is.0 (each_pushed (place + 1) inside is.1.0)
+          each_by place element inside rest (has_conaction element) refl is.0 (each_pushed (place + 1) inside is.1.0)
           (each_pushed (place + 1 + size inside) rest is.1.1)

@@ -8,6 +8,7 @@ use Rattle.std.proofs.lemmas.Bool.{false≢true, or_cases, or_left, or_right}
 use Rattle.dita_doc.specs.ClassValue.{value_of}
 use Rattle.dita_doc.specs.declared.content.Push.{Push}
 use Rattle.dita_doc.specs.declared.doc.Attribute.{Attribute}
+use Rattle.dita_doc.proofs.Tests.{same_text}
 use Rattle.map_spec.specs.Elements.{attribute}
 use Rattle.map_spec.specs.Written.{Element, Written, End, Chars, Node, document}
 use Rattle.map_spec.specs.Pushes.{id_written, pushed_element, pushed_from, pushing_names, with_id_of, without_names}
@@ -16,7 +17,7 @@ use Rattle.readers.specs.Founded.{is_among}
 use Rattle.readers.specs.Named.{given_in, given_in_found, name_joined, name_written, names_of_element, names_of_found, reused_by, reused_of_found}
 use Rattle.conref_push.specs.Into.{froms, pushed_by}
 use Rattle.readers.proofs.AmongLaws.{among_back, among_front}
-use Rattle.conref_push.proofs.AmongLaws.{among_append, same_name}
+use Rattle.conref_push.proofs.AmongLaws.{among_append}
 use Rattle.conref_push.proofs.EachLaws.{EachOf, TreeOf, each_from, each_pushed}
 
 -- Attributes that stay
@@ -46,7 +47,7 @@ value_kept names name [] = by_test (list_any (bytes_eq name) names)
     by_test false = refl
 value_kept names name (one ∷ rest) = value_step names name one rest (list_any (bytes_eq one.name) names)
     (bytes_eq one.name name) (list_any (bytes_eq name) names) refl refl
-    (λ same. ap (λ n. list_any (bytes_eq n) names) (same_name one.name name same))
+    (λ same. ap (λ n. list_any (bytes_eq n) names) (same_text one.name name same))
     (value_kept names name rest)
 
 -- the value of another attribute than the id

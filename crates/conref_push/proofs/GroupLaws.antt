@@ -1,29 +1,17 @@
 -- Pushes by the places that they go to, one after the other.
 use Rattle.std.specs.Prelude.{◌≡◌, ◌+◌, ◌<◌, ◌≤◌, ◌==◌, ℕ, Bool, true, false, List, [], ◌∷◌, ◌++◌, Some, None, cond, length, take, if◌then◌else◌}
 use Rattle.std.specs.BTreeMap as tree
-use Rattle.std.specs.FinMap.{nat_cmp-IsAntisymmetric}
-use Rattle.std.specs.Ordering.{is_eq, nat_cmp}
+use Rattle.std.specs.Ordering.{nat_cmp}
 use Rattle.std.specs.declared.alloc.Global.{Global}
 use Rattle.std.specs.declared.vec.Vec.{Vec}
-use Rattle.std.proofs.Common.{Ordering, Less, Equal, Greater, refl, sym, ap, subst, ◌∙◌, append-nil, get_or}
-use Rattle.std.proofs.lemmas.Bool.{eq-eqb, eqb-true}
-use Rattle.std.proofs.lemmas.Cmp.{nat_cmp_total, tied_itself}
+use Rattle.std.proofs.Common.{refl, sym, ap, subst, ◌∙◌, append-nil, get_or}
+use Rattle.std.proofs.lemmas.Bool.{eqb-true}
 use Rattle.std.proofs.lemmas.List.{take_all}
 use Rattle.std.proofs.lemmas.List.Elements.{filter-append}
 use Rattle.dita_doc.specs.declared.content.Push.{Push}
+use Rattle.dita_doc.proofs.Orders.{at_number}
 use Rattle.plan_nodes.proofs.HomeLaws.{push_of}
 use Rattle.conref_push.specs.Making.{AreGroups, Groups, HasAt, group_at, group_of, pushes_to}
-
-same_by : (a b : ℕ) (same : Bool) (o : Ordering) → (a == b) ≡ same → nat_cmp a b ≡ o → is_eq o ≡ same
-same_by a b true o test is =
-    ap is_eq (sym is ∙ ap (λ n. nat_cmp n b) (eqb-true a b test) ∙ tied_itself nat_cmp_total b)
-same_by a b false Less test is = refl
-same_by a b false Greater test is = refl
-same_by a b false Equal test is = sym (eq-eqb a b (nat_cmp-IsAntisymmetric a b is)) ∙ test
-
--- two numbers have the same place in a table where they are equal
-same_place : (a b : ℕ) → tree.is_at (nat_cmp a) b ≡ (a == b)
-same_place a b = same_by a b (a == b) (nat_cmp a b) refl refl
 
 pub no_groups : (groups : Groups) → groups.entries ≡ [] → AreGroups [] groups
 no_groups groups none = λ place. rw none refl
@@ -36,7 +24,7 @@ pub group_put : (pushes : List Push) (push : Push) (old middle new : Groups) (gr
 group_put pushes push old middle new group out back is are = λ place.
     ap group_of (back.each place ∙ ap (cond (tree.is_at (nat_cmp push.at) place) (Some group)) (out.each place))
     ∙ ap (λ test. group_of (cond test (Some group) (cond test None (tree.get nat_cmp old place))))
-    (same_place push.at place)
+    (at_number push.at place)
     ∙ by_test place (push.at == place) refl
     ∙ sym (filter-append (λ (p : Push). p.at == place) pushes (push ∷ []))
   where

@@ -1,4 +1,3 @@
-pub mod Telling
 pub mod ActLaws
 pub mod SightLaws
 pub mod AttributeLaws

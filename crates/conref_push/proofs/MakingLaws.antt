@@ -5,7 +5,7 @@ use Rattle.std.proofs.lemmas.List.{drop_more, map-append, take_all}
 use Rattle.std.proofs.lemmas.List.Elements.{filter-append}
 use Rattle.dita_doc.specs.Tree as tree
 use Rattle.dita_doc.specs.Tree.{Content, nodes_of, size_of}
-use Rattle.dita_doc.specs.Siblings.{content, document}
+use Rattle.dita_doc.specs.Siblings.{content, doc_of_siblings}
 use Rattle.dita_doc.specs.declared.siblings.Siblings.{Siblings}
 use Rattle.dita_doc.specs.declared.content.Push.{Push}
 use Rattle.dita_doc.specs.declared.content.PushKind.{PushKind}
@@ -15,7 +15,7 @@ use Rattle.dita_doc.specs.declared.doc.Node as doc
 use Rattle.doc_elements.specs.Walk.{element_of}
 use Rattle.doc_maker.proofs.BuildingLaws.{behind_behind, behind_end, beside_beside, beside_end}
 use Rattle.map_spec.specs.Written.{Element, Written, End, Node, side_by_side, size}
-use Rattle.map_spec.specs.Pushes.{acts, all_side_by_side, at_place, copy_beside, is_after, is_before, is_replace, itself_or, pushed_from, pushes_at, without_acting}
+use Rattle.map_spec.specs.Pushes.{has_conaction, all_side_by_side, pushed_at, copy_beside, is_after, is_before, is_replace, itself_or, pushed_from, pushes_at, without_acting}
 use Rattle.plan_nodes.proofs.HomeLaws.{push_of}
 use Rattle.reader_spec.specs.World.{World}
 use Rattle.readers.specs.Founded.{is_among}
@@ -23,7 +23,7 @@ use Rattle.readers.proofs.FoundedLaws.{among_behind, among_first}
 use Rattle.std.proofs.Math.Logic.{⊎_elim}
 use Rattle.std.proofs.lemmas.Bool.{or_cases, or_left, or_right}
 use Rattle.conref_push.specs.Into.{froms}
-use Rattle.conref_push.specs.Making.{AreAmong, IsFrom, at_place_or_none, copied, copies_of, copy_if, is_kind, of_kind, pushes_to, replacement, some}
+use Rattle.conref_push.specs.Making.{AreAmong, IsFrom, at_place_or_none, pushed_copy, copies_of, copy_if, is_kind, of_kind, pushes_to, replacement, some}
 
 -- One after the other
 
@@ -47,24 +47,24 @@ closed_with building one two new element inside first put close =
 -- Elements that act are left out
 
 abbrev pub quiet_first : Element → Written → Written
-quiet_first element inside = if acts element then End else Node element (without_acting inside) End
+quiet_first element inside = if has_conaction element then End else Node element (without_acting inside) End
 
-quiet_by : (element : Element) (inside rest : Written) (told : Bool) → acts element ≡ told
+quiet_by : (element : Element) (inside rest : Written) (told : Bool) → has_conaction element ≡ told
     → without_acting (Node element inside rest) ≡ side_by_side (quiet_first element inside) (without_acting rest)
 quiet_by element inside rest true is = rw is refl
 quiet_by element inside rest false is = rw is refl
 
 pub quiet_node : (element : Element) (inside rest : Written)
     → without_acting (Node element inside rest) ≡ side_by_side (quiet_first element inside) (without_acting rest)
-quiet_node element inside rest = quiet_by element inside rest (acts element) refl
+quiet_node element inside rest = quiet_by element inside rest (has_conaction element) refl
 
-pub quiet_acting : (building : Building) (element : Element) (inside : Written) → true ≡ acts element
+pub quiet_acting : (building : Building) (element : Element) (inside : Written) → true ≡ has_conaction element
     → building ≡ behind building (quiet_first element inside)
 quiet_acting building element inside is =
     sym (behind_end building)
     ∙ ap (λ (b : Bool). behind building (if b then End else Node element (without_acting inside) End)) is
 
-pub quiet_put : (building new : Building) (element : Element) (inside : Written) → false ≡ acts element
+pub quiet_put : (building new : Building) (element : Element) (inside : Written) → false ≡ has_conaction element
     → new ≡ behind building (Node element (without_acting inside) End)
     → new ≡ behind building (quiet_first element inside)
 quiet_put building new element inside is put = put
@@ -73,7 +73,7 @@ quiet_put building new element inside is put = put
 -- What stands at a place
 
 pushed_by : (world : World) (pushes : List Push) (place : ℕ) (element : Element) (inside rest : Written) (told : Bool)
-    → acts element ≡ told
+    → has_conaction element ≡ told
     → pushed_from world pushes place (Node element inside rest)
     ≡ side_by_side (at_place_or_none world pushes place element inside)
     (pushed_from world pushes (place + 1 + size inside) rest)
@@ -85,14 +85,14 @@ pub pushed_node : (world : World) (pushes : List Push) (place : ℕ) (element : 
     ≡ side_by_side (at_place_or_none world pushes place element inside)
     (pushed_from world pushes (place + 1 + size inside) rest)
 pushed_node world pushes place element inside rest =
-    pushed_by world pushes place element inside rest (acts element) refl
+    pushed_by world pushes place element inside rest (has_conaction element) refl
 
 pub place_acting : (world : World) (pushes : List Push) (place : ℕ) (building : Building) (element : Element)
-    (inside : Written) → true ≡ acts element
+    (inside : Written) → true ≡ has_conaction element
     → building ≡ behind building (at_place_or_none world pushes place element inside)
 place_acting world pushes place building element inside is = sym (behind_end building)
     ∙ ap (λ (b : Bool). behind building (if b then End
-    else at_place world pushes place element (pushed_from world pushes (place + 1) inside))) is
+    else pushed_at world pushes place element (pushed_from world pushes (place + 1) inside))) is
 
 kind_by : (is_of : PushKind → Bool) (place : ℕ) (push : Push) (rest : List Push) (one two : Bool)
     → is_of push.kind ≡ one → (push.at == place) ≡ two
@@ -116,7 +116,7 @@ around world element inside before instead after =
     (all_side_by_side (map (copy_beside world) after)))
 
 pub place_put : (world : World) (pushes group : List Push) (place : ℕ) (b one two new : Building) (element : Element)
-    (inside : Written) → false ≡ acts element → group ≡ pushes_to place pushes
+    (inside : Written) → false ≡ has_conaction element → group ≡ pushes_to place pushes
     → one ≡ behind b (copies_of world kinds.Before group)
     → two ≡ behind one (itself_or world element (pushed_from world pushes (place + 1) inside) (replacement group))
     → new ≡ behind two (copies_of world kinds.After group)
@@ -129,7 +129,7 @@ place_put world pushes group place b one two new element inside quiet is first s
     let put : new ≡ behind b (side_by_side x (side_by_side y z)) =
     third ∙ ap (λ m. behind m z) (second ∙ ap (λ m. behind m y) first) ∙ behind_behind (behind b x) y z
     ∙ behind_behind b x (side_by_side y z) in
-    let same : side_by_side x (side_by_side y z) ≡ at_place world pushes place element below =
+    let same : side_by_side x (side_by_side y z) ≡ pushed_at world pushes place element below =
     ap (λ l. around world element below (of_kind kinds.Before l) (of_kind kinds.Replace l) (of_kind kinds.After l)) is
     ∙ ap (λ l. around world element below l (of_kind kinds.Replace (pushes_to place pushes))
     (of_kind kinds.After (pushes_to place pushes))) (kind_at is_before place pushes)
@@ -138,7 +138,7 @@ place_put world pushes group place b one two new element inside quiet is first s
     ∙ ap (λ l. around world element below (pushes_at is_before place pushes) (pushes_at is_replace place pushes) l)
     (kind_at is_after place pushes) in
     put ∙ ap (behind b) same
-    ∙ ap (λ (t : Bool). behind b (if t then End else at_place world pushes place element below)) quiet
+    ∙ ap (λ (t : Bool). behind b (if t then End else pushed_at world pushes place element below)) quiet
 
 -- Copies of the pushes of a kind
 
@@ -222,8 +222,8 @@ among_placed place (one ∷ rest) = among_by place one rest (one.at == place) re
 
 -- a copy is the element with other attributes
 pub by_replaced : (building : Building) (name : List ℕ) (node : doc.Node) (replaced : Option Element)
-    → opened building (element node.text (copied replaced (element_of name node)).attributes name node.line name)
-    ≡ opened building (copied replaced (element_of name node))
+    → opened building (element node.text (pushed_copy replaced (element_of name node)).attributes name node.line name)
+    ≡ opened building (pushed_copy replaced (element_of name node))
 by_replaced building name node None = refl
 by_replaced building name node (Some other) = refl
 
@@ -252,9 +252,9 @@ end_of nodes all more at place first node is within there same =
 
 pub end_there : (left : Siblings) (place : ℕ) (node : doc.Node) (inside rest : Content)
     → content left ≡ tree.Element node.text node.attributes node.origin node.line inside rest
-    → slice_get (document left).nodes place ≡ Some node → place ≡ left.place
+    → slice_get (doc_of_siblings left).nodes place ≡ Some node → place ≡ left.place
     → node.end ≡ place + 1 + size_of inside
 end_there left place node inside rest is there same =
-    end_of left.nodes.now (document left).nodes _ left.place place _ node
+    end_of left.nodes.now (doc_of_siblings left).nodes _ left.place place _ node
     (left.tree ∙ ap (λ all. nodes_of all left.place) is) left.within there same
     ∙ ap (λ n. n + 1 + size_of inside) (sym same)

@@ -1,5 +1,5 @@
 -- Targets of pushes by their places: an element that is found stands where it says.
-use Rattle.std.specs.Prelude.{◌≡◌, ◌+◌, ◌-◌, ◌<◌, ◌≤◌, ◌==◌, ◌++◌, ℕ, Bool, true, false, List, ◌∷◌, Option, Some, None, Result, Ok, Err, IfOk, find, length, nat_lt, option_map, if◌then◌else◌}
+use Rattle.std.specs.Prelude.{◌≡◌, ◌+◌, ◌-◌, ◌<◌, ◌≤◌, ◌==◌, ◌++◌, ℕ, Bool, true, false, List, ◌∷◌, Option, Some, None, find, length, nat_lt, option_map, if◌then◌else◌}
 use Rattle.std.specs.Option.{option_and_then, option_map_or, option_or}
 use Rattle.std.proofs.Common.{refl, sym, ap, subst, ◌∙◌, arith}
 use Rattle.std.proofs.lemmas.Bool.Decides.{nat_tests}
@@ -160,12 +160,6 @@ meant_some nodes sight reference topic place fits same is fitting =
         let told : fits ≡ is_special sight.element one.whole.0 = fitting
         ∙ ap (λ (w : Option Whole). option_map_or (λ (v : Whole). is_special sight.element v.0) w false) whole in
         rw (told, here) (fits_test (is_special sight.element one.whole.0) one)
-
--- what a call gives by another word
-pub if_ok : {X E : Type 0} (result : Result X E) (P Q : X → Type 0) → ((x : X) → P x → Q x) → IfOk result P
-    → IfOk result Q
-if_ok (Ok x) P Q next is = next x is
-if_ok (Err e) P Q next is = tt
 
 pub fits_by : (sight : Sight) (nodes : Written) (place : ℕ) (found : Option Whole)
     → found ≡ element_at nodes place

@@ -1,37 +1,29 @@
 -- The elements that pushes replace.
-use Rattle.std.specs.Prelude.{◌≡◌, ◌==◌, ◌||◌, ◌&&◌, ℕ, Bool, true, false, List, [], ◌∷◌, ◌++◌, bytes_eq, cond, not}
+use Rattle.std.specs.Prelude.{◌≡◌, ◌==◌, ◌||◌, ◌&&◌, Bool, true, false, List, [], ◌∷◌, ◌++◌, bytes_eq, cond, not}
 use Rattle.std.specs.BTreeSet as set
 use Rattle.std.specs.Cmp.{tied_then, unsigned_tied}
 use Rattle.std.specs.Cmp.Lexicographic.{slice_cmp, texts_ties}
 use Rattle.std.specs.Bool.{OnFalse}
 use Rattle.std.specs.List.{list_any}
 use Rattle.std.specs.Ordering.{is_eq, nat_cmp}
-use Rattle.std.proofs.Common.{refl, sym, ap, ◌∙◌, arith}
-use Rattle.std.proofs.lemmas.Bool.Decides.{nat_tests, same_from_decides}
+use Rattle.std.proofs.Common.{refl, sym, ap, ◌∙◌}
 use Rattle.std.proofs.lemmas.List.Folds.{list_any-append}
-use Rattle.std.proofs.lemmas.Slice.Eq.{bytes_eq-Decides}
 use Rattle.dita_doc.specs.declared.content.PushKind.{PushKind}
 use Rattle.dita_doc.specs.declared.fault.Fault.{Fault}
+use Rattle.dita_doc.proofs.Tests.{and_assoc, cond_or, number_swaps, or_last, text_swaps}
 use Rattle.map_spec.specs.Pushes.{AllPushes, PushInto, is_replace, is_replaced_by}
 use Rattle.conref_push.specs.Gathered.{AreReplaced, replaces, with_fault}
 use Rattle.conref_push.specs.Targets.{IsNoted, target_cmp}
 use Rattle.conref_push.specs.declared.target_docs.PushTarget as code
 use Rattle.conref_push.specs.declared.target_docs.Targets.{Targets}
 
-text_swap : (a b : List ℕ) → bytes_eq a b ≡ bytes_eq b a
-text_swap a b = same_from_decides _ _ (bytes_eq-Decides a b)
-    (let there = bytes_eq-Decides b a in (λ e. sym (there.0 e), λ same. there.1 (sym same)))
-
-nat_swap : (a b : ℕ) → (a == b) ≡ (b == a)
-nat_swap a b = grind (arith, nat_tests)
-
 -- two targets are the same element
 pub same_target : (one other : code.PushTarget)
     → is_eq (target_cmp one other) ≡ (bytes_eq other.doc one.doc && (other.place == one.place))
 same_target one other = sym (tied_then (slice_cmp nat_cmp one.doc other.doc) (nat_cmp one.place other.place))
     ∙ ap (λ b. b && is_eq (nat_cmp one.place other.place))
-    (sym (texts_ties one.doc other.doc) ∙ text_swap one.doc other.doc)
-    ∙ ap (λ b. bytes_eq other.doc one.doc && b) (unsigned_tied one.place other.place ∙ nat_swap one.place other.place)
+    (sym (texts_ties one.doc other.doc) ∙ text_swaps one.doc other.doc)
+    ∙ ap (λ b. bytes_eq other.doc one.doc && b) (unsigned_tied one.place other.place ∙ number_swaps one.place other.place)
 
 never : (into : PushInto) (made : List PushInto) → is_replace into.push.kind ≡ false
     → list_any (is_replaced_by into) made ≡ false
@@ -54,16 +46,6 @@ replaced_by into target made doc at = by_test (is_replace into.push.kind) refl
     by_test true is = each_same (is_replaced_by into) (replaces target) made (λ other. rw (is, doc, at) refl)
     by_test false is = never into made is
 
-and_assoc : (a b c : Bool) → (a && (b && c)) ≡ ((a && b) && c)
-and_assoc true b c = refl
-and_assoc false b c = refl
-
-or_swap : (a b : Bool) → (a || b) ≡ (b || (a || false))
-or_swap true true = refl
-or_swap true false = refl
-or_swap false true = refl
-or_swap false false = refl
-
 -- a push more was noted
 pub noted_push : (all : AllPushes) (old new : Targets) (kind : PushKind) (target : code.PushTarget) (into : PushInto)
     → AreReplaced all old → IsNoted kind target false old.replaced new.replaced → into.push.kind ≡ kind
@@ -79,7 +61,7 @@ noted_push all old new kind target into replaced noted is doc at = λ other.
     noted.each other
     ∙ ap (λ b. b || set.contains target_cmp old.replaced other) mine
     ∙ ap (λ b. replaces other into || b) (replaced other)
-    ∙ or_swap (replaces other into) (list_any (replaces other) all.made)
+    ∙ or_last (replaces other into) (list_any (replaces other) all.made)
     ∙ sym (list_any-append (replaces other) all.made (into ∷ []))
 
 -- one that is dropped was noted
@@ -87,10 +69,6 @@ pub noted_twice : (all : AllPushes) (old new : Targets) (kind : PushKind) (targe
     → AreReplaced all old → IsNoted kind target true old.replaced new.replaced
     → AreReplaced (with_fault all fault) new
 noted_twice all old new kind target fault replaced noted = λ other. noted.each other ∙ replaced other
-
-or_cond : (test before : Bool) → cond test true before ≡ (test || before)
-or_cond true before = refl
-or_cond false before = refl
 
 -- the set was asked whether it has the element, and has it then
 pub noted_by : (kind : PushKind) (old new : set.BTreeSet code.PushTarget) (key target : code.PushTarget) (added : Bool)
@@ -102,7 +80,7 @@ pub noted_by : (kind : PushKind) (old new : set.BTreeSet code.PushTarget) (key t
 noted_by kind old new key target true replaces_it same updates kept = record {
   each = λ other. updates other
       ∙ ap (λ k. cond (is_eq (target_cmp k other)) true (set.contains target_cmp old other)) same
-      ∙ or_cond (is_eq (target_cmp target other)) (set.contains target_cmp old other)
+      ∙ cond_or (is_eq (target_cmp target other)) (set.contains target_cmp old other)
       ∙ ap (λ b. (b && is_eq (target_cmp target other)) || set.contains target_cmp old other) replaces_it;
 }
 noted_by kind old new key target false replaces_it same updates kept = record {

@@ -5,7 +5,7 @@ use Rattle.std.proofs.Common.{refl, ap, ap₂, ◌∙◌}
 use Rattle.dita_doc.specs.Tree.{Content}
 use Rattle.dita_doc.specs.declared.content.Push.{Push}
 use Rattle.map_spec.specs.Written.{Element, Whole, Written, End, Chars, Node, element_at, element_in, side_by_side, size, written_in}
-use Rattle.map_spec.specs.Pushes.{acts, all_side_by_side, at_place, copy_beside, is_after, is_before, is_replace, itself_or, pushed_element, pushed_from, pushes_at, with_id_of, without_acting}
+use Rattle.map_spec.specs.Pushes.{has_conaction, all_side_by_side, pushed_at, copy_beside, is_after, is_before, is_replace, itself_or, pushed_element, pushed_from, pushes_at, with_id_of, without_acting}
 use Rattle.reader_spec.specs.World.{World}
 use Rattle.readers.specs.Founded.{is_among}
 use Rattle.conref_push.specs.Into.{froms, pushed_by}
@@ -44,14 +44,14 @@ module _ (one other : World) where
 
   module _ (pushes : List Push) (are : EachPush IsAlike pushes) where
     same_place : (place : ℕ) (element : Element) (inside : Written)
-        → at_place one pushes place element inside ≡ at_place other pushes place element inside
+        → pushed_at one pushes place element inside ≡ pushed_at other pushes place element inside
     same_place place element inside = ap₂ side_by_side
         (same_copies (pushes_at is_before place pushes) (each_at IsAlike is_before place pushes are))
         (ap₂ side_by_side
         (same_itself element inside (pushes_at is_replace place pushes) (each_at IsAlike is_replace place pushes are))
         (same_copies (pushes_at is_after place pushes) (each_at IsAlike is_after place pushes are)))
 
-    same_by : (place : ℕ) (element : Element) (inside rest : Written) (told : Bool) → acts element ≡ told
+    same_by : (place : ℕ) (element : Element) (inside rest : Written) (told : Bool) → has_conaction element ≡ told
         → pushed_from one pushes (place + 1) inside ≡ pushed_from other pushes (place + 1) inside
         → pushed_from one pushes (place + 1 + size inside) rest
         ≡ pushed_from other pushes (place + 1 + size inside) rest
@@ -60,13 +60,13 @@ module _ (one other : World) where
     same_by place element inside rest true told within later = rw told later
     same_by place element inside rest false told within later = rw told (ap₂ side_by_side
         (same_place place element (pushed_from one pushes (place + 1) inside)
-        ∙ ap (at_place other pushes place element) within) later)
+        ∙ ap (pushed_at other pushes place element) within) later)
 
     same_pushed : (place : ℕ) (nodes : Written)
         → pushed_from one pushes place nodes ≡ pushed_from other pushes place nodes
     same_pushed place End = refl
     same_pushed place (Chars text doc rest) = ap (Chars text doc) (same_pushed (place + 1) rest)
-    same_pushed place (Node element inside rest) = same_by place element inside rest (acts element) refl
+    same_pushed place (Node element inside rest) = same_by place element inside rest (has_conaction element) refl
         (same_pushed (place + 1) inside) (same_pushed (place + 1 + size inside) rest)
 
     same_found : (name : List ℕ) (found : Option Content)

@@ -5,11 +5,12 @@ use Rattle.std.specs.Option.{option_copied, option_map_or}
 use Rattle.std.proofs.Common.{refl, sym, ap, subst, ◌∙◌, append-nil, append_assoc}
 use Rattle.std.proofs.lemmas.List.{map-append}
 use Rattle.std.proofs.lemmas.List.Concat.{flat_map-append}
+use Rattle.std.proofs.lemmas.List.Elements.{filter_map-append}
 use Rattle.dita_doc.specs.declared.content.PushKind.{PushKind}
 use Rattle.map_spec.specs.Elements.{attribute}
 use Rattle.map_spec.specs.Written.{Element, Whole, Written, End, Chars, Node, document, elements_below, size}
 use Rattle.map_spec.specs.Places.{Standing, TopicAt, all_standing, standing_from, topic_inside}
-use Rattle.map_spec.specs.Pushes.{AllPushes, Pushing, PushTarget, acts, all_pushes, conref_of, no_pushes, push_kind, pushes_behind, pushing_at, pushing_in, pushing_of, with_pushing}
+use Rattle.map_spec.specs.Pushes.{AllPushes, Pushing, PushTarget, has_conaction, all_pushes, conref_of, no_pushes, push_kind, pushes_behind, pushing_at, pushing_in, pushing_of, with_pushing}
 use Rattle.reader_spec.specs.World.{World}
 use Rattle.conref_push.specs.Acting.{acts_there, any_acts}
 use Rattle.conref_push.specs.Gathered.{sights_in}
@@ -22,17 +23,6 @@ use Rattle.conref_push.specs.Sight.{Sight, all_seen, id_around, pushing_seen, se
 pub first_or : {X : Type 0} (found : Option X) (more : List X) → cons_option found more ≡ option_to_list found ++ more
 first_or None more = refl
 first_or (Some x) more = refl
-
-first_both : {X : Type 0} (found : Option X) (some more : List X)
-    → cons_option found (some ++ more) ≡ cons_option found some ++ more
-first_both None some more = refl
-first_both (Some x) some more = refl
-
-pub some_both : {X Y : Type 0} (see : X → Option Y) (xs ys : List X)
-    → filter_map see (xs ++ ys) ≡ filter_map see xs ++ filter_map see ys
-some_both see [] ys = refl
-some_both see (x ∷ xs) ys =
-    ap (cons_option (see x)) (some_both see xs ys) ∙ first_both (see x) (filter_map see xs) (filter_map see ys)
 
 -- The walk
 
@@ -64,7 +54,7 @@ module _ (done all : List Sight) (here : ℕ) (around : Option TopicAt) (before 
       let outer = all_seen later in
       let parts : all_seen (standing ∷ (held ++ later)) ≡ option_to_list (seen_at standing) ++ (inner ++ outer) =
       first_or (seen_at standing) (all_seen (held ++ later))
-      ∙ ap (λ more. option_to_list (seen_at standing) ++ more) (some_both seen_at held later) in
+      ∙ ap (λ more. option_to_list (seen_at standing) ++ more) (filter_map-append seen_at held later) in
       ap (λ n. new ++ all_seen (standing_from n around (Some element) more)) at
       ∙ ap (λ l. l ++ outer) (within ∙ ap (λ l. l ++ inner) first)
       ∙ append_assoc (done ++ option_to_list (seen_at standing)) inner outer
@@ -189,7 +179,8 @@ quiet : (place : ℕ) (around : Option TopicAt) (before : Option Element) (nodes
 quiet place around before End none = refl
 quiet place around before (Chars text doc rest) none = quiet (place + 1) around before rest none
 quiet place around before (Node element inside rest) none =
-    let parts = or_none (acts element) (list_any acts_there (elements_below inside ++ elements_below rest)) none in
+    let parts = or_none (has_conaction element)
+    (list_any acts_there (elements_below inside ++ elements_below rest)) none in
     let both = any_both (elements_below inside) (elements_below rest) parts.1 in
     let standing = standing_at place element inside around before rest in
     let held = standing_from (place + 1) (topic_inside place element around) None inside in
@@ -198,7 +189,7 @@ quiet place around before (Node element inside rest) none =
     (kind_of_none (attribute (codes "conaction") element) parts.0) in
     rw (
       here,
-      some_both seen_at held later,
+      filter_map-append seen_at held later,
       quiet (place + 1) (topic_inside place element around) None inside both.0,
       quiet (place + 1 + size inside) around (Some element) rest both.1,
     ) refl

@@ -13,18 +13,21 @@ use Rattle.std.proofs.lemmas.Bool.{false≢true, or_cases}
 use Rattle.dita_doc.specs.Tree.{Content}
 use Rattle.dita_doc.specs.declared.content.Push.{Push}
 use Rattle.dita_doc.specs.declared.doc.Doc.{Doc}
+use Rattle.dita_doc.proofs.Tests.{same_text}
 use Rattle.map_spec.specs.Written.{Whole, element_at, element_in, written_in}
 use Rattle.reader_spec.specs.World.{World}
 use Rattle.plan_nodes.proofs.HomeLaws.{push_of}
 use Rattle.readers.specs.Documents.{AsksOnly, nothing}
 use Rattle.readers.specs.Founded.{Grows, StaysFounded, is_among}
-use Rattle.readers.specs.Told.{Told, tree_found}
+use Rattle.readers.specs.Only.{TellsOnly, is_document_of}
+use Rattle.readers.specs.Told.{Told, document, tree_found}
 use Rattle.readers.proofs.DocumentLaws.{asks_after, asks_among, asks_one, covers_same}
 use Rattle.readers.proofs.FoundedLaws.{among_behind, among_first, stays_after, stays_among, stays_one}
+use Rattle.readers.proofs.OnlyLaws.{document_is_of, documents_among, only_after, only_one, only_told, only_weaker}
 use Rattle.conref_push.specs.Into.{docs_of, froms}
 use Rattle.conref_push.specs.Sources.{AreSources, IsSource}
 use Rattle.conref_push.specs.declared.sources.PushSources.{PushSources}
-use Rattle.conref_push.proofs.AmongLaws.{among_push, same_name}
+use Rattle.conref_push.proofs.AmongLaws.{among_push}
 use Rattle.conref_push.proofs.DocLaws.{IsPut, known_none, known_put, put_here, put_there}
 
 pub sources_none : (world : World) (sources : PushSources) → sources.docs.entries ≡ [] → AreSources world [] sources
@@ -40,7 +43,7 @@ pub sources_more : (world : World) (names : List (List ℕ)) (name : List ℕ) (
 sources_more world names name sources are there = record {
   known = are.known;
   each = λ m among. ⊎_elim (are.each m)
-      (λ same. subst (λ n. IsTrue (is_some (tree.get (slice_cmp nat_cmp) sources.docs n))) (same_name name m same)
+      (λ same. subst (λ n. IsTrue (is_some (tree.get (slice_cmp nat_cmp) sources.docs n))) (same_text name m same)
       there)
       (or_cases (is_among names m) (bytes_eq name m) (subst IsTrue (among_push names name m) among));
 }
@@ -118,3 +121,15 @@ asks_docs name pushes a b c grows first next = asks_after nothing (docs_of name 
     (asks_one nothing name (docs_of name pushes) a b (among_first name (froms pushes)) first)
     (asks_among nothing nothing (froms pushes) (docs_of name pushes) b c (covers_same nothing)
     (among_behind name (froms pushes)) next)
+
+pub only_docs : (name : List ℕ) (pushes : List Push) (a b c : List Told) → TellsOnly (is_document_of (name ∷ [])) a b
+    → TellsOnly (is_document_of (froms pushes)) b c → TellsOnly (is_document_of (docs_of name pushes)) a c
+only_docs name pushes a b c first next = only_after (is_document_of (docs_of name pushes)) a b c
+    (only_one name (docs_of name pushes) a b (among_first name (froms pushes)) first)
+    (only_weaker (is_document_of (froms pushes)) (is_document_of (docs_of name pushes)) b c
+    (documents_among (froms pushes) (docs_of name pushes) (among_behind name (froms pushes))) next)
+
+-- one document was asked for
+pub only_doc : (name : List ℕ) (tree : Option Content) (old new : List Told) → new ≡ document name tree ∷ old
+    → TellsOnly (is_document_of (name ∷ [])) old new
+only_doc name tree old new = only_told _ (document name tree) old new (document_is_of name tree)

@@ -11,6 +11,7 @@ use Rattle.dita_doc.specs.declared.content.Push.{Push}
 use Rattle.dita_doc.specs.declared.content.PushList.{PushList}
 use Rattle.dita_doc.specs.declared.fault.Fault.{Fault}
 use Rattle.dita_doc.specs.declared.fault.FaultCode.TheVariants as codes
+use Rattle.dita_doc.proofs.Orders.{same_at}
 use Rattle.map_spec.specs.Written.{Written}
 use Rattle.map_spec.specs.Pushes.{AllPushes, PushInto, PushTarget, all_pushes, is_into, is_replaced_by, no_pushes, pushes_into, stands_in, with_pushing}
 use Rattle.reader_spec.specs.World.{World}
@@ -21,10 +22,9 @@ use Rattle.conref_push.specs.Table as table
 use Rattle.conref_push.specs.Table.{HasAt, IsChanged, IsPushTable, IsTableOf, acts_among, is_touched, touched_by, entry_at, entry_for, entry_in, no_entry, with_acts, with_push}
 use Rattle.conref_push.specs.Targets.{spot_of, spot_seen}
 use Rattle.conref_push.specs.declared.entries.Entries.{Entries}
-use Rattle.conref_push.specs.declared.entries.Entry.{Entry}
+use Rattle.conref_push.specs.declared.entries.PushEntry.{PushEntry}
 use Rattle.conref_push.specs.declared.table.PushTable.{PushTable}
 use Rattle.conref_push.specs.declared.target_docs.PushTarget as code
-use Rattle.conref_push.proofs.DocLaws.{same_at}
 
 abbrev pub list_of : List Push → List Fault → PushList
 list_of pushes faults = record { pushes = pushes; faults = faults }
@@ -32,10 +32,10 @@ list_of pushes faults = record { pushes = pushes; faults = faults }
 -- Entries
 
 -- an entry was changed in its place
-pub entry_changed : (old new : Entries) (name : List ℕ) (change : Entry → Entry) (entry : Entry)
+pub entry_changed : (old new : Entries) (name : List ℕ) (change : PushEntry → PushEntry) (entry : PushEntry)
     → HasAt old new name entry → entry ≡ change (entry_at old name) → IsChanged old new name change
 entry_changed old new name change entry put is = record {
-  each = λ other. ap (λ (found : Option Entry). unwrap_or found no_entry) (put.each other)
+  each = λ other. ap (λ (found : Option PushEntry). unwrap_or found no_entry) (put.each other)
       ∙ by_test other (tree.is_at (slice_cmp nat_cmp name) other) refl;
 }
   where
@@ -50,7 +50,7 @@ name_test name other = sym (texts_ties name other)
 
 -- The table
 
-abbrev push_in : PushInto → Push
+abbrev pub push_in : PushInto → Push
 push_in into = into.push
 
 pub tabled_none : (table : PushTable) → table.entries.map.entries ≡ [] → table.faults ≡ []
@@ -187,22 +187,22 @@ module _ (world : World) (all : AllPushes) (sight : Sight) where
 
 -- What the table answers
 
-entry_found : (world : World) (documents : List (List ℕ)) (table : PushTable) (name : List ℕ) (found : Option Entry)
+entry_found : (world : World) (documents : List (List ℕ)) (table : PushTable) (name : List ℕ) (found : Option PushEntry)
     → found ≡ entry_in table.entries name → IsPushTable world documents table
     → unwrap_or found no_entry ≡ entry_for (all_pushes world documents) (acts_among world documents name) name
 entry_found world documents table name found is tabled =
     ap (λ f. unwrap_or f no_entry) is ∙ tabled.entries name
 
 pub list_found : (world : World) (documents : List (List ℕ)) (table : PushTable) (name : List ℕ)
-    (found : Option Entry) (pushes : List Push) (faults : List Fault) → found ≡ entry_in table.entries name
+    (found : Option PushEntry) (pushes : List Push) (faults : List Fault) → found ≡ entry_in table.entries name
     → pushes ≡ (unwrap_or found no_entry).pushes → faults ≡ (unwrap_or found no_entry).faults
     → IsPushTable world documents table → list_of pushes faults ≡ pushes_into world documents name
 list_found world documents table name found pushes faults is own other tabled =
     let same = entry_found world documents table name found is tabled in
-    rw (own, other) (ap (λ (entry : Entry). list_of entry.pushes entry.faults) same)
+    rw (own, other) (ap (λ (entry : PushEntry). list_of entry.pushes entry.faults) same)
 
 pub touched_found : (world : World) (documents : List (List ℕ)) (table : PushTable) (name : List ℕ)
-    (found : Option Entry) → found ≡ entry_in table.entries name → IsPushTable world documents table
+    (found : Option PushEntry) → found ≡ entry_in table.entries name → IsPushTable world documents table
     → touched_by (unwrap_or found no_entry) ≡ is_touched world documents name
 touched_found world documents table name found is tabled =
     ap touched_by (entry_found world documents table name found is tabled)

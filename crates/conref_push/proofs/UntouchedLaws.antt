@@ -7,9 +7,9 @@ use Rattle.std.proofs.lemmas.Bool.{false≢true}
 use Rattle.std.proofs.lemmas.Bool.Decides.{nat_tests}
 use Rattle.dita_doc.specs.declared.content.Push.{Push}
 use Rattle.map_spec.specs.Written.{Written, End, Chars, Node, document, elements_below, size}
-use Rattle.map_spec.specs.Pushes.{acts, pushed, pushed_from, pushes_into}
+use Rattle.map_spec.specs.Pushes.{has_conaction, pushed, pushed_from, pushes_into}
 use Rattle.reader_spec.specs.World.{World}
-use Rattle.conref_push.specs.Acting.{acts_in, acts_there, any_acts}
+use Rattle.conref_push.specs.Acting.{has_conaction_in, acts_there, any_acts}
 use Rattle.conref_push.specs.Into.{pushed_by}
 use Rattle.conref_push.specs.Table.{acts_among, is_touched}
 use Rattle.conref_push.proofs.SightLaws.{any_both, or_none}
@@ -20,7 +20,8 @@ nothing_pushed world place End none = refl
 nothing_pushed world place (Chars text doc rest) none =
     ap (Chars text doc) (nothing_pushed world (place + 1) rest none)
 nothing_pushed world place (Node element inside rest) none =
-    let parts = or_none (acts element) (list_any acts_there (elements_below inside ++ elements_below rest)) none in
+    let parts = or_none (has_conaction element)
+    (list_any acts_there (elements_below inside ++ elements_below rest)) none in
     let both = any_both (elements_below inside) (elements_below rest) parts.1 in
     rw (
       parts.0,
@@ -40,7 +41,7 @@ pub pushed_as : (world : World) (documents : List (List ℕ)) (name : List ℕ) 
 pushed_as world documents name pushes same = ap (λ given. pushed_by world given name) (sym same)
 
 pub untouched : (world : World) (documents : List (List ℕ)) (name : List ℕ) → is_touched world documents name ≡ false
-    → acts_in world name ≡ false → pushed world documents name ≡ document world name
+    → has_conaction_in world name ≡ false → pushed world documents name ≡ document world name
 untouched world documents name touched quiet =
     let none = no_pushes (pushes_into world documents name).pushes
     (or_none (acts_among world documents name) (not (length (pushes_into world documents name).pushes == 0))

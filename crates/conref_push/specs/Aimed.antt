@@ -19,8 +19,8 @@ doc_named from conref =
     option_and_then (λ (reference : Reference). if_read (joined from reference.file)) (if_read (reference_of conref))
 
 -- the document that a value names, with the parts of the value
-abbrev pub aim_read : List ℕ → Option (List ℕ) → Option (List ℕ × Reference)
-aim_read from conref = option_and_then (λ value. option_and_then (λ (reference : Reference).
+abbrev pub push_aim_read : List ℕ → Option (List ℕ) → Option (List ℕ × Reference)
+push_aim_read from conref = option_and_then (λ value. option_and_then (λ (reference : Reference).
     option_map (λ name. (name, reference)) (if_read (joined from reference.file))) (if_read (reference_of value)))
     conref
 
@@ -28,11 +28,11 @@ aim_read from conref = option_and_then (λ value. option_and_then (λ (reference
 abbrev pub doc_aimed : Sight → Option (List ℕ)
 doc_aimed sight = option_and_then (doc_named sight.element.doc) sight.conref
 
-abbrev pub aim_of : Standing → Option (List ℕ)
-aim_of standing = option_and_then doc_aimed (seen_at standing)
+abbrev pub push_aim : Standing → Option (List ℕ)
+push_aim standing = option_and_then doc_aimed (seen_at standing)
 
 abbrev pub aims_among : List Standing → List (List ℕ)
-aims_among standings = filter_map aim_of standings
+aims_among standings = filter_map push_aim standings
 
 abbrev pub aims_in : List ℕ → Option Content → List (List ℕ)
 aims_in name None = []

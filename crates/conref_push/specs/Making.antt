@@ -15,7 +15,7 @@ use Rattle.dita_doc.specs.declared.content.PushKind.{PushKind}
 use Rattle.dita_doc.specs.declared.content.PushKind.TheVariants as kinds
 use Rattle.dita_doc.specs.declared.doc.Doc.{Doc}
 use Rattle.map_spec.specs.Written.{Element, Whole, Written, End, Node, element_in}
-use Rattle.map_spec.specs.Pushes.{acts, all_side_by_side, at_place, copy_beside, is_after, is_before, is_replace, pushed_element, pushed_from, with_id_of, without_acting}
+use Rattle.map_spec.specs.Pushes.{has_conaction, all_side_by_side, pushed_at, copy_beside, is_after, is_before, is_replace, pushed_element, pushed_from, with_id_of, without_acting}
 use Rattle.reader_spec.specs.World.{World}
 use Rattle.readers.specs.Founded.{is_among}
 use Rattle.readers.specs.Told.{Told, tree_found}
@@ -98,16 +98,16 @@ abbrev pub replacement : List Push → Option Push
 replacement pushes = find (λ push. true) (of_kind kinds.Replace pushes)
 
 -- a copy of an element that is put instead of this one, or beside one
-abbrev pub copied : Option Element → Element → Element
-copied None element = pushed_element element
-copied (Some replaced) element = with_id_of replaced (pushed_element element)
+abbrev pub pushed_copy : Option Element → Element → Element
+pushed_copy None element = pushed_element element
+pushed_copy (Some replaced) element = with_id_of replaced (pushed_element element)
 
 abbrev pub copy_for : World → Option Element → Push → Written
 copy_for world replaced push = option_map_or
-    (λ (whole : Whole). Node (copied replaced whole.0) (without_acting whole.1) End)
+    (λ (whole : Whole). Node (pushed_copy replaced whole.0) (without_acting whole.1) End)
     (element_in world push.from push.place) End
 
 -- what stands at the place of an element with the pushes to it and below, or nothing if it acts
 abbrev pub at_place_or_none : World → List Push → ℕ → Element → Written → Written
-at_place_or_none world pushes place element inside = if acts element then End
-    else at_place world pushes place element (pushed_from world pushes (place + 1) inside)
+at_place_or_none world pushes place element inside = if has_conaction element then End
+    else pushed_at world pushes place element (pushed_from world pushes (place + 1) inside)

@@ -11,7 +11,7 @@ use dita_doc::{Doc, Node};
 
 /// Whether an element of the document has a `conaction`. If none has, and nothing is pushed into
 /// the document, then its pushed document is the document itself.
-pub fn acts_in(doc: &Doc) -> bool
+pub fn has_conaction_in(doc: &Doc) -> bool
     ensures { (name : List ℕ) → result ≡ acting_spec.any_acts
         (written_spec.written_in name (tree_spec.tree_of doc.now.nodes)) }
 {
@@ -25,7 +25,7 @@ pub fn acts_in(doc: &Doc) -> bool
 
 pub(crate) fn acts(element: &Node) -> bool
     ensures { (name : List ℕ) →
-        result ≡ pushes_spec.acts (walk_spec.element_of name element.now) }
+        result ≡ pushes_spec.has_conaction (walk_spec.element_of name element.now) }
 {
     element.value_of("conaction").is_some()
 }

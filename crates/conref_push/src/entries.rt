@@ -10,20 +10,20 @@ use std::collections::BTreeMap;
 
 // What is pushed into a document, the faults that stand in it, and whether an element of it acts.
 #[derive(Drop)]
-pub(crate) struct Entry {
+pub(crate) struct PushEntry {
     pub pushes: List<Push>,
     pub faults: List<Fault>,
     pub acts: bool,
 }
 
-impl Entry {
+impl PushEntry {
     ghost use Rattle.std.specs.Prelude.{◌≡◌};
     ghost use Rattle.conref_push.specs.Table as spec;
 
-    fn new(alloc: Global) -> Entry
+    fn new(alloc: Global) -> PushEntry
         ensures { result ≡ spec.no_entry }
     {
-        Entry {
+        PushEntry {
             pushes: List::new(alloc),
             faults: List::new(alloc),
             acts: false,
@@ -40,7 +40,7 @@ impl Entry {
 // The entries of documents by their names.
 #[derive(Drop)]
 pub(crate) struct Entries {
-    map: BTreeMap<Name, Entry>,
+    map: BTreeMap<Name, PushEntry>,
 }
 
 impl Entries {
@@ -52,7 +52,7 @@ impl Entries {
         }
     }
 
-    pub fn get(&self, name: &Name) -> Option<&Entry>
+    pub fn get(&self, name: &Name) -> Option<&PushEntry>
         ensures { option_copied result ≡ spec.entry_in self.now name.now }
     {
         self.map.get(name)
@@ -62,7 +62,10 @@ impl Entries {
     pub fn add_push(&mut self, alloc: Global, name: &Name, push: Push) -> Result<(), NoMemory>
         ensures { OnOk result (spec.IsChanged self.old self.new name.now (spec.with_push push)) }
     {
-        let entry = self.map.entry(name.clone()?)?.or_insert(Entry::new(alloc));
+        let entry = self
+            .map
+            .entry(name.clone()?)?
+            .or_insert(PushEntry::new(alloc));
         Ok(entry.pushes.push(push)?)
     }
 
@@ -71,7 +74,10 @@ impl Entries {
         ensures { OnOk result (spec.IsChanged self.old self.new name.now
             (spec.with_fault fault)) }
     {
-        let entry = self.map.entry(name.clone()?)?.or_insert(Entry::new(alloc));
+        let entry = self
+            .map
+            .entry(name.clone()?)?
+            .or_insert(PushEntry::new(alloc));
         Ok(entry.faults.push(fault)?)
     }
 
@@ -79,7 +85,10 @@ impl Entries {
     pub fn set_acts(&mut self, alloc: Global, name: &Name) -> Result<(), NoMemory>
         ensures { OnOk result (spec.IsChanged self.old self.new name.now spec.with_acts) }
     {
-        let entry = self.map.entry(name.clone()?)?.or_insert(Entry::new(alloc));
+        let entry = self
+            .map
+            .entry(name.clone()?)?
+            .or_insert(PushEntry::new(alloc));
         entry.acts = true;
         Ok(())
     }

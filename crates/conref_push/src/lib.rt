@@ -14,6 +14,6 @@ mod sources;
 mod table;
 mod target_docs;
 
-pub use acts::acts_in;
+pub use acts::has_conaction_in;
 pub use pushed_doc::{ask_pushed, pushed};
 pub use table::{PushTable, pushes_into};

@@ -18,6 +18,8 @@ ghost use Rattle.readers.specs.Documents as documents_spec;
 ghost use Rattle.readers.specs.Documents.{AsksOnly, IsGiven};
 ghost use Rattle.readers.specs.Founded.{Grows, StaysFounded};
 ghost use Rattle.readers.specs.Named as named_spec;
+ghost use Rattle.readers.specs.Only as only_spec;
+ghost use Rattle.readers.specs.Only.{TellsOnly};
 ghost use Rattle.readers.specs.Told.{Agrees};
 
 use crate::acts::acts;
@@ -32,7 +34,7 @@ use std::collections::BTreeMap;
 use std::sync::Arc;
 
 /// Asks for what `pushed` asks for, and makes no document.
-#[tactic(auto, using(crate::proofs::Telling::telling))]
+#[tactic(auto, using(readers::proofs::Rules::walking))]
 pub fn ask_pushed<R: Reader>(
     alloc: Global,
     reader: &mut R,
@@ -50,6 +52,9 @@ pub fn ask_pushed<R: Reader>(
         (R.told reader.new) }
     ensures asks { AsksOnly documents_spec.nothing (into_spec.docs_of doc.now pushes.now)
         (R.told reader.old) (R.told reader.new) }
+    ensures only { OnOk result (TellsOnly
+        (only_spec.is_document_of (into_spec.docs_of doc.now pushes.now)) (R.told reader.old)
+        (R.told reader.new)) }
     ensures grows { Grows (R.told reader.old) (R.told reader.new) }
 {
     ask_all(alloc, reader, doc, pushes.as_slice())?;
@@ -58,7 +63,7 @@ pub fn ask_pushed<R: Reader>(
 
 /// The document with these pushes into it, if it is stored, without the elements that act. The
 /// documents that the pushes come from are asked for once each.
-#[tactic(auto, using(crate::proofs::Telling::telling))]
+#[tactic(auto, using(readers::proofs::Rules::walking))]
 pub fn pushed<R: Reader>(
     alloc: Global,
     reader: &mut R,
@@ -77,13 +82,16 @@ pub fn pushed<R: Reader>(
         (R.told reader.new) }
     ensures asks { AsksOnly documents_spec.nothing (into_spec.docs_of doc.now pushes.now)
         (R.told reader.old) (R.told reader.new) }
+    ensures only { OnOk result (TellsOnly
+        (only_spec.is_document_of (into_spec.docs_of doc.now pushes.now)) (R.told reader.old)
+        (R.told reader.new)) }
     ensures grows { Grows (R.told reader.old) (R.told reader.new) }
 {
     pushed_doc(alloc, reader, doc, pushes)
 }
 
 // The same, of which the value is said only of worlds that agree with what was told.
-#[tactic(auto, using(crate::proofs::Telling::telling))]
+#[tactic(auto, using(readers::proofs::Rules::walking))]
 fn pushed_doc<R: Reader>(
     alloc: Global,
     reader: &mut R,
@@ -100,6 +108,9 @@ fn pushed_doc<R: Reader>(
         (R.told reader.new) }
     ensures asks { AsksOnly documents_spec.nothing (into_spec.docs_of doc.now pushes.now)
         (R.told reader.old) (R.told reader.new) }
+    ensures only { OnOk result (TellsOnly
+        (only_spec.is_document_of (into_spec.docs_of doc.now pushes.now)) (R.told reader.old)
+        (R.told reader.new)) }
     ensures grows { Grows (R.told reader.old) (R.told reader.new) }
 {
     let Some((found, sources)) = ask_all(alloc, reader, doc, pushes.as_slice())? else {
@@ -116,7 +127,7 @@ fn pushed_doc<R: Reader>(
 }
 
 // Asks for the document, and if it is stored for those that the pushes come from.
-#[tactic(auto, using(crate::proofs::Telling::telling))]
+#[tactic(auto, using(readers::proofs::Rules::walking))]
 fn ask_all<R: Reader>(
     alloc: Global,
     reader: &mut R,
@@ -131,6 +142,9 @@ fn ask_all<R: Reader>(
         (R.told reader.new) }
     ensures asks { AsksOnly documents_spec.nothing (into_spec.docs_of doc.now pushes.now)
         (R.told reader.old) (R.told reader.new) }
+    ensures only { OnOk result (TellsOnly
+        (only_spec.is_document_of (into_spec.docs_of doc.now pushes.now)) (R.told reader.old)
+        (R.told reader.new)) }
     ensures grows { Grows (R.told reader.old) (R.told reader.new) }
 {
     let Some(found) = reader.doc(alloc, doc)? else {
@@ -210,7 +224,7 @@ impl<'a> PushedInto<'a> {
         place: u32,
     ) -> Result<(), NoMemory>
         requires { place + tree_spec.size_of (siblings_spec.content siblings)
-            < tree_spec.node_limit }
+            < tree_spec.doc_node_limit }
         ensures { (world : World) (pushes : List making_spec.APush)
             → making_spec.IsInto world pushes self.now
             → OnOk result (made_spec.building maker.new
@@ -253,7 +267,7 @@ impl<'a> PushedInto<'a> {
         place: u32,
     ) -> Result<(), NoMemory>
         requires { place + 1 + tree_spec.size_of (siblings_spec.content inside)
-            < tree_spec.node_limit }
+            < tree_spec.doc_node_limit }
         ensures { (world : World) (pushes : List making_spec.APush)
             → making_spec.IsInto world pushes self.now
             → OnOk result (made_spec.building maker.new
@@ -284,7 +298,7 @@ impl<'a> PushedInto<'a> {
         place: u32,
     ) -> Result<(), NoMemory>
         requires { place + 1 + tree_spec.size_of (siblings_spec.content inside)
-            < tree_spec.node_limit }
+            < tree_spec.doc_node_limit }
         ensures { (world : World) (pushes : List making_spec.APush)
             → making_spec.IsInto world pushes self.now
             → making_spec.IsFrom (into_spec.froms pushes) (option_copied other.entry)
@@ -424,7 +438,7 @@ fn attributes_of(
     element: &Node,
     replaced: Option<&Node>,
 ) -> Result<List<Attribute>, AllocError>
-    ensures { (name other : List ℕ) → IfOk result (λ kept. kept ≡ (making_spec.copied
+    ensures { (name other : List ℕ) → IfOk result (λ kept. kept ≡ (making_spec.pushed_copy
         (sight_spec.element_before other replaced.entry)
         (walk_spec.element_of name element.now)).attributes) }
 {

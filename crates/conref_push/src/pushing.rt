@@ -48,7 +48,7 @@ fn append_pushing<'a>(
     topic: &'a str,
 ) -> Result<u32, AllocError>
     requires { place + tree_spec.size_of (siblings_spec.content siblings)
-        < tree_spec.node_limit }
+        < tree_spec.doc_node_limit }
     ensures past { IfOk result (λ past.
         past ≡ place + tree_spec.size_of (siblings_spec.content siblings.entry)) }
     ensures seen { (name : List ℕ) (around : Option TopicAt)

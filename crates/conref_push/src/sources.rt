@@ -11,6 +11,8 @@ ghost use Rattle.readers.specs.Documents as documents_spec;
 ghost use Rattle.readers.specs.Documents.{AsksOnly};
 ghost use Rattle.readers.specs.Founded as founded_spec;
 ghost use Rattle.readers.specs.Founded.{Grows, StaysFounded};
+ghost use Rattle.readers.specs.Only as only_spec;
+ghost use Rattle.readers.specs.Only.{TellsOnly};
 ghost use Rattle.readers.specs.Told as told_spec;
 ghost use Rattle.readers.specs.Told.{Agrees};
 
@@ -28,7 +30,7 @@ pub(crate) struct PushSources {
 
 impl PushSources {
     // Asks for each of them once.
-    #[tactic(auto, using(crate::proofs::Telling::telling))]
+    #[tactic(auto, using(readers::proofs::Rules::walking))]
     pub fn of<R: Reader>(
         alloc: Global,
         reader: &mut R,
@@ -42,6 +44,9 @@ impl PushSources {
             (R.told reader.new) }
         ensures asks { AsksOnly documents_spec.nothing (into_spec.froms pushes.now)
             (R.told reader.old) (R.told reader.new) }
+        ensures only { OnOk result (TellsOnly
+            (only_spec.is_document_of (into_spec.froms pushes.now)) (R.told reader.old)
+            (R.told reader.new)) }
         ensures grows { Grows (R.told reader.old) (R.told reader.new) }
     {
         let mut sources = PushSources {
@@ -54,7 +59,7 @@ impl PushSources {
     }
 
     // Asks for one of them, unless it was asked for.
-    #[tactic(auto, using(crate::proofs::Telling::telling))]
+    #[tactic(auto, using(readers::proofs::Rules::walking))]
     fn ask<R: Reader>(&mut self, alloc: Global, reader: &mut R, name: &Name) -> Result<(), NoMemory>
         ensures known { (world : World) (names : List (List ℕ)) → Agrees world (R.told reader.new)
             → spec.AreSources world names self.old
@@ -65,6 +70,8 @@ impl PushSources {
         ensures founded { StaysFounded (name.now ∷ []) (R.told reader.old) (R.told reader.new) }
         ensures asks { AsksOnly documents_spec.nothing (name.now ∷ []) (R.told reader.old)
             (R.told reader.new) }
+        ensures only { OnOk result (TellsOnly (only_spec.is_document_of (name.now ∷ []))
+            (R.told reader.old) (R.told reader.new)) }
         ensures grows { Grows (R.told reader.old) (R.told reader.new) }
     {
         if self.docs.contains_key(name) {

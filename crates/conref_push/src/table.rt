@@ -16,7 +16,7 @@ ghost use Rattle.readers.specs.Documents.{AsksOnly};
 ghost use Rattle.readers.specs.Founded.{AreAllowed, Grows, IsFounded, StaysFounded};
 ghost use Rattle.readers.specs.Told.{Agrees};
 
-use crate::acts::acts_in;
+use crate::acts::has_conaction_in;
 use crate::entries::Entries;
 use crate::pushing::{Pushing, pushing_in};
 use crate::target_docs::{PushTarget, Targets};
@@ -36,7 +36,7 @@ impl PushTable {
     /// The pushes of these documents, by first use of the document and then in document order. Of
     /// two replacements of one element the second is dropped. Each document is asked for once for
     /// its own pushes, and once more if others push into it.
-    #[tactic(auto, using(crate::proofs::Telling::telling))]
+    #[tactic(auto, using(readers::proofs::Rules::walking))]
     pub fn of<R: Reader>(
         alloc: Global,
         reader: &mut R,
@@ -99,7 +99,7 @@ impl PushTable {
     }
 
     /// Whether something is pushed into a document, or an element of it acts. The second is known
-    /// only of the documents for which the table was made: `acts_in` tells it of any.
+    /// only of the documents for which the table was made: `has_conaction_in` tells it of any.
     pub fn touches(&self, doc: &Name) -> bool
         ensures { (world : World) (documents : List (List ℕ))
             → spec.IsPushTable world documents self.now
@@ -112,7 +112,7 @@ impl PushTable {
     }
 
     // Puts what the elements of the document of this name push, if it is stored.
-    #[tactic(auto, using(crate::proofs::Telling::telling))]
+    #[tactic(auto, using(readers::proofs::Rules::walking))]
     fn put_document<R: Reader>(
         &mut self,
         alloc: Global,
@@ -142,7 +142,7 @@ impl PushTable {
     }
 
     // Puts what the elements of a document push.
-    #[tactic(auto, using(crate::proofs::Telling::telling))]
+    #[tactic(auto, using(readers::proofs::Rules::walking))]
     fn put_all<R: Reader>(
         &mut self,
         alloc: Global,
@@ -167,7 +167,7 @@ impl PushTable {
             (Some (tree_spec.tree_of doc.now.nodes))) (R.told reader.old) (R.told reader.new) }
         ensures grows { Grows (R.told reader.old) (R.told reader.new) }
     {
-        if !acts_in(doc) {
+        if !has_conaction_in(doc) {
             return Ok(());
         }
         self.entries.set_acts(alloc, name)?;
@@ -179,7 +179,7 @@ impl PushTable {
     }
 
     // Puts what an element of the document of this name pushes.
-    #[tactic(auto, using(crate::proofs::Telling::telling))]
+    #[tactic(auto, using(readers::proofs::Rules::walking))]
     fn put_one<R: Reader>(
         &mut self,
         alloc: Global,
@@ -263,7 +263,7 @@ impl PushTable {
 /// The pushes of some documents into one, and the faults of those that stand in it, both in order:
 /// by first use of the document and then in document order. For more than one document a table is
 /// made once.
-#[tactic(auto, using(crate::proofs::Telling::telling))]
+#[tactic(auto, using(readers::proofs::Rules::walking))]
 pub fn pushes_into<R: Reader>(
     alloc: Global,
     reader: &mut R,
@@ -284,7 +284,7 @@ pub fn pushes_into<R: Reader>(
 }
 
 // The same, said of each world that agrees with what the reader was told.
-#[tactic(auto, using(crate::proofs::Telling::telling))]
+#[tactic(auto, using(readers::proofs::Rules::walking))]
 fn pushes_of<R: Reader>(
     alloc: Global,
     reader: &mut R,

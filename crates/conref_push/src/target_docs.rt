@@ -64,7 +64,7 @@ impl Targets {
 
     // The target of an element that stands in the document of this name, if the target is there and
     // the element is of its type.
-    #[tactic(auto, using(crate::proofs::Telling::telling))]
+    #[tactic(auto, using(readers::proofs::Rules::walking))]
     pub fn find<R: Reader>(
         &mut self,
         alloc: Global,
@@ -117,7 +117,7 @@ impl Targets {
     }
 
     // Asks for the document of this name, unless it was asked for.
-    #[tactic(auto, using(crate::proofs::Telling::telling))]
+    #[tactic(auto, using(readers::proofs::Rules::walking))]
     fn ask<R: Reader>(&mut self, alloc: Global, reader: &mut R, name: &Name) -> Result<(), NoMemory>
         ensures docs { (world : World) → Agrees world (R.told reader.new)
             → spec.AreDocs world self.old → OnOk result (spec.AreDocs world self.new) }
@@ -169,7 +169,7 @@ fn replaces(kind: PushKind) -> bool
 }
 
 // What stands under a name.
-#[tactic(auto, using(crate::proofs::Telling::telling))]
+#[tactic(auto, using(readers::proofs::Rules::walking))]
 fn target_doc<R: Reader>(
     alloc: Global,
     reader: &mut R,
@@ -197,7 +197,7 @@ fn read_target(
     conref: Option<&str>,
 ) -> Result<Option<(Name, Reference)>, NoMemory>
     ensures { IfOk result (λ read. read
-        ≡ aimed_spec.aim_read from.now (option_copied conref.entry)) }
+        ≡ aimed_spec.push_aim_read from.now (option_copied conref.entry)) }
 {
     let Some(conref) = conref else {
         return Ok(None);

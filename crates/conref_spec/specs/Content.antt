@@ -29,7 +29,7 @@ use Rattle.map_spec.specs.Pushes.{without_names}
 
 -- Where a page is resolved: its document, the documents with their pushes, the keys of its scope, and the rules by which an
 -- element is judged: those of the build and of each filter of the page
-pub record Setting : Type 0 where
+pub record ResolveInput : Type 0 where
   pub page : List ℕ
   pub pushed : List ℕ → Option Written
   pub key : List ℕ → KeyAnswer
@@ -46,8 +46,8 @@ is_place place other = bytes_eq place.doc other.doc && (place.at == other.at)
 abbrev pub path_limit : ℕ
 path_limit = 32
 
-abbrev pub depth_limit : ℕ
-depth_limit = 256
+abbrev pub resolve_depth_limit : ℕ
+resolve_depth_limit = 256
 
 -- What is made: nodes, for each of them in document order the names of conditional attributes that are declared for it,
 -- how many were resolved, and the faults
@@ -75,17 +75,17 @@ made_with faults made = record made { faults = faults ++ made.faults }
 -- Judging
 
 -- the names of conditional attributes that are declared around the node at a place, counted from the first of these nodes
-abbrev pub declared_around : List (List ℕ) → Written → ℕ → List (List ℕ)
-declared_around around End place = around
-declared_around around (Chars text doc rest) place =
-    if place == 0 then around else declared_around around rest (place - 1)
-declared_around around (Node element inside rest) place =
+abbrev pub declared_around_written : List (List ℕ) → Written → ℕ → List (List ℕ)
+declared_around_written around End place = around
+declared_around_written around (Chars text doc rest) place =
+    if place == 0 then around else declared_around_written around rest (place - 1)
+declared_around_written around (Node element inside rest) place =
     if place == 0 then around
-    else if nat_lt (size inside) place then declared_around around rest (place - (1 + size inside))
-    else declared_around (declared_by around element.attributes) inside (place - 1)
+    else if nat_lt (size inside) place then declared_around_written around rest (place - (1 + size inside))
+    else declared_around_written (declared_by around element.attributes) inside (place - 1)
 
 -- an element goes by the rules and by the names that are declared for it where it was written
-abbrev pub goes : Setting → List (List ℕ) → Element → Bool
+abbrev pub goes : ResolveInput → List (List ℕ) → Element → Bool
 goes setting declared element = list_any (λ rules. excluded rules declared element.attributes) setting.rules
 
 -- Targets
@@ -96,36 +96,36 @@ pub record Found : Type 0 where
   pub nodes : Written
   pub standing : Standing
 
-abbrev pub found_in : Setting → List ℕ → List ℕ → List ℕ → Option Found
+abbrev pub found_in : ResolveInput → List ℕ → List ℕ → List ℕ → Option Found
 found_in setting doc topic element = option_and_then (λ nodes.
     option_map (λ standing. record { doc = doc; nodes = nodes; standing = standing }) (target_in nodes topic element))
     (setting.pushed doc)
 
 -- `#./element` means the page's document, and in it the topic where the element stands now
-abbrev pub conref_named : Setting → List ℕ → Element → Reference → Option Found
+abbrev pub conref_named : ResolveInput → List ℕ → Element → Reference → Option Found
 conref_named setting topic element reference = if is_same_topic reference
     then found_in setting setting.page topic reference.element
     else option_and_then (λ doc. found_in setting doc reference.topic reference.element)
     (if_read (joined element.doc reference.file))
 
-abbrev pub by_conref : Setting → List ℕ → Element → Option (List ℕ) → Option Found
+abbrev pub by_conref : ResolveInput → List ℕ → Element → Option (List ℕ) → Option Found
 by_conref setting topic element None = None
 by_conref setting topic element (Some conref) =
     option_and_then (conref_named setting topic element) (if_read (reference_of conref))
 
 -- the element of a key reference is its id, else the element that the key's reference names
-abbrev pub key_named : Setting → List ℕ → Target → Option Found
+abbrev pub key_named : ResolveInput → List ℕ → Target → Option Found
 key_named setting keyref (targets.Local doc reference) =
     found_in setting doc reference.topic (unwrap_or (id_of_key keyref) reference.element)
 key_named setting keyref _ = None
 
-abbrev pub by_key : Setting → Option (List ℕ) → Option Found
+abbrev pub by_key : ResolveInput → Option (List ℕ) → Option Found
 by_key setting None = None
 by_key setting (Some keyref) = key_named setting keyref (setting.key (key_of keyref)).target
 
-abbrev pub key_faults : Setting → Option (List ℕ) → List Fault
-key_faults setting None = []
-key_faults setting (Some keyref) = (setting.key (key_of keyref)).faults
+abbrev pub conkeyref_faults : ResolveInput → Option (List ℕ) → List Fault
+conkeyref_faults setting None = []
+conkeyref_faults setting (Some keyref) = (setting.key (key_of keyref)).faults
 
 -- A reference of an element: what it names, and the value that does
 
@@ -143,16 +143,16 @@ abbrev pub has_reference : Sought → Bool
 has_reference sought = is_some sought.conref || is_some sought.conkeyref
 
 -- the key comes first, and the value where that fails
-abbrev pub found_by : Setting → List ℕ → Element → Sought → Option Found
+abbrev pub found_by : ResolveInput → List ℕ → Element → Sought → Option Found
 found_by setting topic element sought =
     option_or (by_key setting sought.conkeyref) (by_conref setting topic element sought.conref)
 
-abbrev pub value_used : Setting → Sought → List ℕ
+abbrev pub value_used : ResolveInput → Sought → List ℕ
 value_used setting sought = if is_some (by_key setting sought.conkeyref)
     then unwrap_or sought.conkeyref [] else unwrap_or (option_or sought.conref sought.conkeyref) []
 
 -- without a value beside it, an undefined key is told by its name
-abbrev pub missing_fault : Setting → Element → Sought → Fault
+abbrev pub missing_fault : ResolveInput → Element → Sought → Fault
 missing_fault setting element sought = if is_some sought.conref || is_some
     (option_and_then (λ keyref. (setting.key (key_of keyref)).node) sought.conkeyref)
     then fault_at element faults.ConrefMissing (value_used setting sought)
@@ -203,8 +203,8 @@ names_not_taken =
     codes "id" ∷ codes "conref" ∷ codes "conkeyref" ∷ codes "conrefend" ∷ codes "conaction" ∷ []
 
 -- the element's own attributes, and those of its target that it has not
-abbrev pub merged : List Attribute → List Attribute → List Attribute
-merged own taken = specified own
+abbrev pub merged_attributes : List Attribute → List Attribute → List Attribute
+merged_attributes own taken = specified own
     ++ filter (λ (other : Attribute). not (is_written_in (specified own) other)) (without_names names_not_taken taken)
 
 abbrev pub takes_href : Element → Element → Bool
@@ -212,7 +212,7 @@ takes_href element target = not (has_href (specified element.attributes)) && has
 
 abbrev pub merged_element : Element → Element → Element
 merged_element element target = record element {
-  attributes = merged element.attributes target.attributes;
+  attributes = merged_attributes element.attributes target.attributes;
   href_doc = if takes_href element target then target.href_doc else element.href_doc;
 }
 
@@ -274,7 +274,7 @@ refused_by value depth path element target =
     then Some (fault_at element faults.RangeEnd (unwrap_or (attribute (codes "conrefend") element) []))
     else if list_any (is_place (record { doc = target.doc; at = target.standing.place })) path
     then Some (fault_at element faults.ConrefCycle value)
-    else if nat_le path_limit (length path) || nat_lt depth_limit depth
+    else if nat_le path_limit (length path) || nat_lt resolve_depth_limit depth
     then Some (fault_at element faults.ConrefDepth value)
     else None
 
@@ -283,20 +283,20 @@ abbrev pub taken_or : (List Place → Element → Written → Followed) → List
 taken_or follow path element inside before target (Some fault) = unchanged element inside path (before ++ fault ∷ [])
 taken_or follow path element inside before target None =
     let longer = path ++ record { doc = target.doc; at = target.standing.place } ∷ [] in
-    taken element (declared_around [] target.nodes target.standing.place) target.standing.whole.0
+    taken element (declared_around_written [] target.nodes target.standing.place) target.standing.whole.0
     (unwrap_or (range_by target.standing (attribute (codes "conrefend") element)) End) longer before
     (follow longer target.standing.whole.0 target.standing.whole.1)
 
-abbrev pub followed_to : (List Place → Element → Written → Followed) → Setting → ℕ → List Place → Element → Written → Sought
+abbrev pub followed_to : (List Place → Element → Written → Followed) → ResolveInput → ℕ → List Place → Element → Written → Sought
     → Option Found → Followed
 followed_to follow setting depth path element inside sought None = unchanged element inside path
-    (key_faults setting sought.conkeyref ++ missing_fault setting element sought ∷ [])
+    (conkeyref_faults setting sought.conkeyref ++ missing_fault setting element sought ∷ [])
 followed_to follow setting depth path element inside sought (Some target) =
-    taken_or follow path element inside (key_faults setting sought.conkeyref) target
+    taken_or follow path element inside (conkeyref_faults setting sought.conkeyref) target
     (refused_by (value_used setting sought) depth path element target)
 
 -- a path has at most so many targets, so that one step more is enough
-unfoldable pub followed_from : ℕ → Setting → List ℕ → ℕ → List Place → Element → Written → Followed
+unfoldable pub followed_from : ℕ → ResolveInput → List ℕ → ℕ → List Place → Element → Written → Followed
 followed_from zero setting topic depth path element inside = unchanged element inside path []
 followed_from (suc steps) setting topic depth path element inside =
     let sought = sought_by element in
@@ -305,7 +305,7 @@ followed_from (suc steps) setting topic depth path element inside =
     (found_by setting topic element sought)
     else unchanged element inside path []
 
-abbrev pub followed : Setting → List ℕ → ℕ → List Place → Element → Written → Followed
+abbrev pub followed : ResolveInput → List ℕ → ℕ → List Place → Element → Written → Followed
 followed setting topic depth path element inside =
     followed_from (path_limit + 1) setting topic depth path element inside
 
@@ -313,38 +313,38 @@ followed setting topic depth path element inside =
 
 -- What is around nodes: the id of the nearest topic, where they stand now, and the names of conditional attributes that are
 -- declared around them, where they were written
-pub record Around : Type 0 where
+pub record ContentAround : Type 0 where
   pub topic : List ℕ
   pub declared : List (List ℕ)
 
-abbrev pub nothing_around : Around
+abbrev pub nothing_around : ContentAround
 nothing_around = record { topic = []; declared = [] }
 
 -- the id that a topic's content sees; an element of a range has none
-abbrev pub id_shown : Bool → List ℕ → List ℕ
-id_shown is_range id = if is_range || bytes_eq id use_target then [] else id
+abbrev pub id_seen : Bool → List ℕ → List ℕ
+id_seen is_range id = if is_range || bytes_eq id use_target then [] else id
 
-abbrev pub topic_for : Bool → Element → List ℕ → List ℕ
-topic_for is_range element topic = if is_topic element then id_shown is_range (id_of element) else topic
+abbrev pub topic_before_merge : Bool → Element → List ℕ → List ℕ
+topic_before_merge is_range element topic = if is_topic element then id_seen is_range (id_of element) else topic
 
 -- once it is merged, the id that it has then
-abbrev pub topic_within : Bool → Element → List ℕ → List ℕ
-topic_within is_range element topic =
+abbrev pub topic_after_merge : Bool → Element → List ℕ → List ℕ
+topic_after_merge is_range element topic =
     if is_topic element && not is_range then id_of element else topic
 
 -- what counts for an element itself, as it was written
-abbrev pub around_for : Bool → Element → Around → Around
+abbrev pub around_for : Bool → Element → ContentAround → ContentAround
 around_for is_range element around = record {
-  topic = topic_for is_range element around.topic;
+  topic = topic_before_merge is_range element around.topic;
   declared = declared_by around.declared element.attributes;
 }
 
 -- what is around the nodes that it holds, once it is merged
-abbrev pub around_within : Bool → Element → Around → Around
-around_within is_range element around = record around { topic = topic_within is_range element around.topic }
+abbrev pub around_within : Bool → Element → ContentAround → ContentAround
+around_within is_range element around = record around { topic = topic_after_merge is_range element around.topic }
 
 -- what was written elsewhere has the names that are declared there
-abbrev pub declared_there : List (List ℕ) → Around → Around
+abbrev pub declared_there : List (List ℕ) → ContentAround → ContentAround
 declared_there declared around = record around { declared = declared }
 
 abbrev pub without_id : Bool → Element → Element
@@ -353,9 +353,9 @@ without_id is_range element = if is_range
 
 -- resolves nodes within longer paths: whether they are of a range, what is around them, the depth where they stand, the path
 abbrev pub Resolve : Type 0
-Resolve = Bool → Around → ℕ → List Place → Written → Made
+Resolve = Bool → ContentAround → ℕ → List Place → Written → Made
 
-abbrev pub ranges_made : Resolve → Around → ℕ → List Range → Made
+abbrev pub ranges_made : Resolve → ContentAround → ℕ → List Range → Made
 ranges_made resolve around depth [] = nothing_made
 ranges_made resolve around depth (range ∷ ranges) =
     made_beside (resolve true (declared_there range.declared around) depth range.path range.nodes)
@@ -370,7 +370,7 @@ element_made is_range declared element content = record content {
 }
 
 -- what was taken is judged once more, by the names declared for the element itself; the element counts also if it goes
-abbrev pub made_of : Resolve → Setting → Bool → Around → ℕ → (Around → Made) → Followed → Made
+abbrev pub made_of : Resolve → ResolveInput → Bool → ContentAround → ℕ → (ContentAround → Made) → Followed → Made
 made_of resolve setting is_range here depth own found = if found.has_taken
     then made_with (group_faults here.declared found.element) (if goes setting here.declared found.element
     then record nothing_made { count = 1 }
@@ -380,7 +380,7 @@ made_of resolve setting is_range here depth own found = if found.has_taken
     else element_made is_range here.declared found.element (own (around_within is_range found.element here))
 
 -- `own` resolves the content of the element itself, for what is around that
-abbrev pub element_resolved : Resolve → Setting → Bool → Around → ℕ → List Place → Element → Written → (Around → Made) → Made
+abbrev pub element_resolved : Resolve → ResolveInput → Bool → ContentAround → ℕ → List Place → Element → Written → (ContentAround → Made) → Made
 element_resolved resolve setting is_range around depth path element inside own =
     let here = around_for is_range element around in
     let found = followed setting here.topic depth path element inside in
@@ -392,7 +392,7 @@ element_resolved resolve setting is_range around depth path element inside own =
 abbrev pub text_made : List ℕ → List ℕ → Made
 text_made text doc = record { nodes = Chars text doc End; declared = [] ∷ []; count = 1; faults = [] }
 
-abbrev pub resolved_among : Resolve → Setting → Bool → Around → ℕ → List Place → Written → Made
+abbrev pub resolved_among : Resolve → ResolveInput → Bool → ContentAround → ℕ → List Place → Written → Made
 resolved_among resolve setting is_range around depth path End = nothing_made
 resolved_among resolve setting is_range around depth path (Chars text doc rest) =
     made_beside (text_made text doc) (resolved_among resolve setting is_range around depth path rest)
@@ -402,13 +402,13 @@ resolved_among resolve setting is_range around depth path (Node element inside r
     (resolved_among resolve setting is_range around depth path rest)
 
 -- each step is within a longer path
-unfoldable pub resolved_from : ℕ → Setting → Resolve
+unfoldable pub resolved_from : ℕ → ResolveInput → Resolve
 resolved_from zero setting is_range around depth path nodes = nothing_made
 resolved_from (suc steps) setting is_range around depth path nodes =
     resolved_among (resolved_from steps setting) setting is_range around depth path nodes
 
 -- nodes of the page's document, with this around them and at this depth
-abbrev pub resolved_in : Setting → Around → ℕ → Written → Made
+abbrev pub resolved_in : ResolveInput → ContentAround → ℕ → Written → Made
 resolved_in setting around depth nodes = resolved_from (path_limit + 1) setting false around depth [] nodes
 
 abbrev pub count_limit : ℕ
@@ -420,9 +420,9 @@ within limit fault made =
     if nat_le made.count limit then made
     else record { nodes = End; declared = []; count = limit + 1; faults = fault }
 
-abbrev pub page_root : Setting → Written
+abbrev pub page_root : ResolveInput → Written
 page_root setting = unwrap_or (setting.pushed setting.page) End
 
 -- the whole document of a page; `fault` stands at its root as stored
-abbrev pub resolved_page : ℕ → List Fault → Setting → Made
+abbrev pub resolved_page : ℕ → List Fault → ResolveInput → Made
 resolved_page limit fault setting = within limit fault (resolved_in setting nothing_around 1 (page_root setting))

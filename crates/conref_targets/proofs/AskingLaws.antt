@@ -1,29 +1,24 @@
 -- Which documents are asked about by calls one after another.
-use Rattle.std.specs.Prelude.{◌≡◌, ◌<◌, ◌++◌, ℕ, zero, suc, false, List, [], ◌∷◌, Option, Some, None, Result, Ok, Err, IfOk, IfSome, IsTrue, bytes_eq, length}
-use Rattle.std.specs.Arc.{arc_value}
+use Rattle.std.specs.Prelude.{◌≡◌, ◌++◌, ℕ, false, List, [], ◌∷◌, Some, IsTrue, bytes_eq}
 use Rattle.std.specs.Option.{option_to_list}
-use Rattle.std.specs.declared.alloc.Global.{Global}
-use Rattle.std.specs.declared.sync.Arc.{Arc}
-use Rattle.std.proofs.Common.{arith, get_or, subst, sym}
+use Rattle.std.proofs.Common.{subst}
 use Rattle.std.proofs.Math.Logic.{⊎_elim}
 use Rattle.std.proofs.lemmas.Bool.{false≢true, or_cases, or_left, or_right}
 use Rattle.dita_doc.specs.declared.content.KeyAnswer.{KeyAnswer}
 use Rattle.dita_doc.specs.declared.doc.Doc.{Doc}
 use Rattle.dita_doc.specs.declared.plan.PlanNode.{PlanNode}
-use Rattle.dita_doc.specs.declared.stop.NoMemory.{NoMemory}
 use Rattle.map_spec.specs.Pages.{local_name}
 use Rattle.readers.specs.Documents.{AsksOnly, Covers, IsGiven, may_ask, nothing, of_documents, of_pushes}
 use Rattle.readers.specs.Founded.{Grows, StaysFounded, homes, is_allowed, is_among}
 use Rattle.readers.specs.Named.{named_tree, reused_by, reused_in}
-use Rattle.readers.specs.Told.{Told, document, kind, title, first, key, pushes, page_of, tried, sought}
+use Rattle.readers.specs.Told.{Told, document, kind, title, first, key, pushes, page_of, pending, pending_document}
 use Rattle.readers.proofs.AmongLaws.{among_back, among_either, among_front}
 use Rattle.readers.proofs.DocumentLaws.{asks_after, asks_among, asks_none, asks_same, covers_nothing, covers_same, follows_may}
 use Rattle.readers.proofs.FoundedLaws.{given_allowed, stays_after, stays_among, stays_same}
-use Rattle.readers.proofs.GivenLaws.{given_later, reused_allowed, reused_may}
+use Rattle.readers.proofs.GivenLaws.{reused_allowed, reused_may}
 use Rattle.readers.proofs.GrowthLaws.{growing}
-use Rattle.conref_targets.specs.Asking.{AreAmong, AreGiven, Asks, IsGivenIn, of_content, reused_of_doc, reused_of_whole}
+use Rattle.conref_targets.specs.Asking.{AreAmong, AreGiven, Asks, of_content, reused_of_doc, reused_of_whole}
 use Rattle.conref_targets.specs.Origin.{whole_of}
-use Rattle.conref_targets.specs.declared.find.Found.{Found}
 use Rattle.conref_targets.specs.declared.origin.Whole.{Whole}
 
 -- What follows for content
@@ -41,8 +36,8 @@ covers_reused = record { each = covers }
     covers (key nodes scope text answer) m among = absurd (false≢true among)
     covers (pushes documents name answer) m among = absurd (false≢true among)
     covers (page_of pages name context answer) m among = absurd (false≢true among)
-    covers (tried names) m among = absurd (false≢true among)
-    covers (sought name) m among = absurd (false≢true among)
+    covers (pending names) m among = absurd (false≢true among)
+    covers (pending_document name) m among = absurd (false≢true among)
 
 -- where pushes come from
 pub covers_pushes : Covers of_content of_pushes
@@ -56,8 +51,8 @@ covers_pushes = record { each = covers }
     covers (key nodes scope text answer) m among = absurd (false≢true among)
     covers (pushes documents name answer) m among = among
     covers (page_of pages name context answer) m among = absurd (false≢true among)
-    covers (tried names) m among = absurd (false≢true among)
-    covers (sought name) m among = absurd (false≢true among)
+    covers (pending names) m among = absurd (false≢true among)
+    covers (pending_document name) m among = absurd (false≢true among)
 
 -- What answers name
 

@@ -5,21 +5,21 @@ use Rattle.dita_doc.specs.Tree.{Content, End, Chars, Element, chars_node, elemen
 use Rattle.dita_doc.specs.declared.doc.Doc.{Doc}
 use Rattle.dita_doc.specs.declared.doc.Node.{Node}
 use Rattle.dita_doc.proofs.TreeLaws.{length_nodes}
-use Rattle.readers.specs.Named.{named, named_tree}
-use Rattle.conref_targets.specs.Parts.{IsPart, ends_from, ends_of, past, past_text, within}
+use Rattle.readers.specs.Named.{under_names, named_tree}
+use Rattle.conref_targets.specs.Parts.{AreSiblingsAt, ends_from, ends_of, past, past_text, within}
 use Rattle.conref_targets.proofs.PartLaws.{element_node_there, size_named, text_there}
 
 -- the siblings that are left stand at a place, and their ends are all that is to be put
 pub record Left (doc : Doc) (all ends : List ℕ) (to place counter : ℕ) : Type 0 where
   pub rest : Content
-  pub there : IsPart (tree_of doc.nodes) place rest
+  pub there : AreSiblingsAt (tree_of doc.nodes) place rest
   pub fits : place + size_of rest ≡ to
   pub far : counter ≤ place
-  pub same : ends ++ ends_from to place (named doc.origins rest) ≡ all
+  pub same : ends ++ ends_from to place (under_names doc.origins rest) ≡ all
 
 module _ (doc : Doc) (all ends : List ℕ) (to place counter : ℕ) (left : Left doc all ends to place counter) where
   none_by : (rest : Content) → place + size_of rest ≡ to → to ≤ place
-      → ends ++ ends_from to place (named doc.origins rest) ≡ all → ends ≡ all
+      → ends ++ ends_from to place (under_names doc.origins rest) ≡ all → ends ≡ all
   none_by End fits past_end same = sym (append-nil ends) ∙ same
   none_by (Chars text origin line rest) fits past_end same = absurd (omega arith)
   none_by (Element name attributes origin line inside rest) fits past_end same = absurd (omega arith)
@@ -27,7 +27,7 @@ module _ (doc : Doc) (all ends : List ℕ) (to place counter : ℕ) (left : Left
   pub left_none : to ≤ place → ends ≡ all
   left_none past_end = none_by left.rest left.fits past_end left.same
 
-  missing_by : (rest : Content) → IsPart (tree_of doc.nodes) place rest → place + size_of rest ≡ to → place < to
+  missing_by : (rest : Content) → AreSiblingsAt (tree_of doc.nodes) place rest → place + size_of rest ≡ to → place < to
       → slice_get doc.nodes place ≡ None → ⊥
   missing_by End there fits here none = omega arith
   missing_by (Chars text origin line rest) there fits here none =
@@ -40,8 +40,8 @@ module _ (doc : Doc) (all ends : List ℕ) (to place counter : ℕ) (left : Left
 
   module _ (node : Node) (here : place < to) (is : slice_get doc.nodes place ≡ Some node) where
     -- the first of them is a text
-    text_by : (rest : Content) → IsPart (tree_of doc.nodes) place rest → place + size_of rest ≡ to
-        → ends ++ ends_from to place (named doc.origins rest) ≡ all → is_element node.kind ≡ false
+    text_by : (rest : Content) → AreSiblingsAt (tree_of doc.nodes) place rest → place + size_of rest ≡ to
+        → ends ++ ends_from to place (under_names doc.origins rest) ≡ all → is_element node.kind ≡ false
         → Left doc all (ends ++ to ∷ []) to (max node.end (place + 1)) (counter + 1)
     text_by End there fits same kind = absurd (omega arith)
     text_by (Chars text origin line rest) there fits same kind =
@@ -55,7 +55,7 @@ module _ (doc : Doc) (all ends : List ℕ) (to place counter : ℕ) (left : Left
           there = past_text there;
           fits = omega arith;
           far = (let far = left.far in omega arith);
-          same = append_assoc ends (to ∷ []) (ends_from to (place + 1) (named doc.origins rest)) ∙ same;
+          same = append_assoc ends (to ∷ []) (ends_from to (place + 1) (under_names doc.origins rest)) ∙ same;
         })
     text_by (Element name attributes origin line inside rest) there fits same kind =
         let some = element_node_there doc.nodes doc.tree place name attributes origin line inside rest there in
@@ -67,11 +67,12 @@ module _ (doc : Doc) (all ends : List ℕ) (to place counter : ℕ) (left : Left
     left_text kind = text_by left.rest left.there left.fits left.same kind
 
     -- the first of them is an element, of which the ends of what it holds were put too
-    element_by : (rest : Content) → IsPart (tree_of doc.nodes) place rest → place + size_of rest ≡ to
-        → ends ++ ends_from to place (named doc.origins rest) ≡ all → is_element node.kind ≡ true → (more : List ℕ)
-        → ((part : Content) → IsPart (tree_of doc.nodes) (place + 1) part
+    element_by : (rest : Content) → AreSiblingsAt (tree_of doc.nodes) place rest → place + size_of rest ≡ to
+        → ends ++ ends_from to place (under_names doc.origins rest) ≡ all → is_element node.kind ≡ true
+        → (more : List ℕ)
+        → ((part : Content) → AreSiblingsAt (tree_of doc.nodes) (place + 1) part
         → place + 1 + size_of part ≡ min (max node.end (place + 1)) to
-        → more ≡ (ends ++ to ∷ []) ++ ends_from (min (max node.end (place + 1)) to) (place + 1) (named doc.origins part))
+        → more ≡ (ends ++ to ∷ []) ++ ends_from (min (max node.end (place + 1)) to) (place + 1) (under_names doc.origins part))
         → Left doc all more to (max node.end (place + 1)) (counter + 1)
     element_by End there fits same kind more put = absurd (omega arith)
     element_by (Chars text origin line rest) there fits same kind more put =
@@ -84,8 +85,8 @@ module _ (doc : Doc) (all ends : List ℕ) (to place counter : ℕ) (left : Left
         let end_is = ap (λ (n : Node). n.end) node_is in
         let end : place + 1 + size_of inside ≡ max node.end (place + 1) = omega (arith, end_is) in
         let inner : min (max node.end (place + 1)) to ≡ place + 1 + size_of inside = omega (arith, end_is) in
-        let held = named doc.origins inside in
-        let later = named doc.origins rest in
+        let held = under_names doc.origins inside in
+        let later = under_names doc.origins rest in
         let first : more ≡ (ends ++ to ∷ []) ++ ends_from (place + 1 + size_of inside) (place + 1) held =
         put inside (within there) (sym inner)
         ∙ ap (λ n. (ends ++ to ∷ []) ++ ends_from n (place + 1) held) inner in
@@ -106,9 +107,9 @@ module _ (doc : Doc) (all ends : List ℕ) (to place counter : ℕ) (left : Left
         })
 
     pub left_element : is_element node.kind ≡ true → (more : List ℕ)
-        → ((part : Content) → IsPart (tree_of doc.nodes) (place + 1) part
+        → ((part : Content) → AreSiblingsAt (tree_of doc.nodes) (place + 1) part
         → place + 1 + size_of part ≡ min (max node.end (place + 1)) to
-        → more ≡ (ends ++ to ∷ []) ++ ends_from (min (max node.end (place + 1)) to) (place + 1) (named doc.origins part))
+        → more ≡ (ends ++ to ∷ []) ++ ends_from (min (max node.end (place + 1)) to) (place + 1) (under_names doc.origins part))
         → Left doc all more to (max node.end (place + 1)) (counter + 1)
     left_element kind more put = element_by left.rest left.there left.fits left.same kind more put
 

@@ -14,7 +14,7 @@ use Rattle.map_spec.specs.Keys.{key_of}
 use Rattle.map_spec.specs.Target.{if_read, is_same_topic}
 use Rattle.map_spec.specs.Written.{Element, Written}
 use Rattle.conref_spec.specs.Content as content
-use Rattle.conref_spec.specs.Content.{Setting, Sought, by_conref, by_key, found_by, found_in, key_faults, key_named, missing_fault, has_reference, sought_by, value_used}
+use Rattle.conref_spec.specs.Content.{ResolveInput, Sought, by_conref, by_key, found_by, found_in, conkeyref_faults, key_named, missing_fault, has_reference, sought_by, value_used}
 use Rattle.map_spec.specs.Places.{Standing, target_in}
 use Rattle.readers.specs.Documents.{IsGiven}
 use Rattle.readers.specs.Named.{named_tree}
@@ -26,7 +26,7 @@ use Rattle.dita_doc.specs.declared.plan.Target.{Target}
 use Rattle.reader_spec.specs.World.{World}
 use Rattle.readers.specs.Setting.{Stand}
 use Rattle.readers.specs.Told.{Told}
-use Rattle.conref_targets.specs.Setting.{documents_in, setting_of}
+use Rattle.conref_targets.specs.ResolveInput.{documents_in, setting_of}
 use Rattle.conref_targets.specs.Asking.{IsGivenIn}
 use Rattle.conref_targets.specs.Found.{AreFound, IsKeyed, IsReferenced, IsSearch, missing_by, search_faults}
 use Rattle.conref_targets.specs.Sought.{if_reference, sought_found, sought_shown}
@@ -39,7 +39,7 @@ use Rattle.conref_targets.proofs.StandLaws.{target_stands}
 
 -- In a document
 
-module _ (setting : Setting) (name topic element value : List ℕ) (places : PlaceTables)
+module _ (setting : ResolveInput) (name topic element value : List ℕ) (places : PlaceTables)
     (tables : AreTables setting.pushed places) where
   -- nothing stands under the name
   pub not_stored : setting.pushed name ≡ None
@@ -101,7 +101,7 @@ none_as documents None is = refl
 none_as documents (Some meant) is = absurd is
 
 -- something was found by the key
-pub found_first : (setting : Setting) (topic : List ℕ) (element : Element) (sought : Sought) (places : PlaceTables)
+pub found_first : (setting : ResolveInput) (topic : List ℕ) (element : Element) (sought : Sought) (places : PlaceTables)
     (found : Found) → IsSearch setting.pushed (by_key setting sought.conkeyref) (unwrap_or sought.conkeyref []) places (Some found)
     → IsSearch setting.pushed (found_by setting topic element sought) (value_used setting sought) places (Some found)
 found_first setting topic element sought places found search = by_meant (by_key setting sought.conkeyref) refl search.found
@@ -114,20 +114,21 @@ found_first setting topic element sought places found search = by_meant (by_key 
         record { found = rw e is; named = rw e search.named; tables = search.tables }
 
 -- and its faults are those of the key
-pub first_faults : (setting : Setting) (topic : List ℕ) (element : Element) (sought : Sought) (found : Found)
+pub first_faults : (setting : ResolveInput) (topic : List ℕ) (element : Element) (sought : Sought) (found : Found)
     → AreFound setting.pushed (by_key setting sought.conkeyref) (Some found)
-    → search_faults setting element sought (found_by setting topic element sought) ≡ key_faults setting sought.conkeyref
+    → search_faults setting element sought (found_by setting topic element sought)
+    ≡ conkeyref_faults setting sought.conkeyref
 first_faults setting topic element sought found is = by_meant (by_key setting sought.conkeyref) refl is
   where
     by_meant : (meant : Option content.Found) → by_key setting sought.conkeyref ≡ meant
         → AreFound setting.pushed meant (Some found)
-        → search_faults setting element sought (found_by setting topic element sought) ≡ key_faults setting sought.conkeyref
+        → search_faults setting element sought (found_by setting topic element sought) ≡ conkeyref_faults setting sought.conkeyref
     by_meant None e there = absurd there
     by_meant (Some meant) e there = rw e refl
 
 -- By a key
 
-pub keyed_none : (setting : Setting) (places : PlaceTables) (keyed : Keyed) (faults : List Fault)
+pub keyed_none : (setting : ResolveInput) (places : PlaceTables) (keyed : Keyed) (faults : List Fault)
     → AreTables setting.pushed places → keyed.found ≡ None → keyed.is_defined ≡ false
     → IsKeyed setting None faults faults places keyed
 keyed_none setting places keyed faults tables none undefined = record {
@@ -136,7 +137,7 @@ keyed_none setting places keyed faults tables none undefined = record {
   faults = sym (append-nil faults);
 }
 
-pub keyed_some : (setting : Setting) (keyref : List ℕ) (answer : KeyAnswer) (places : PlaceTables) (keyed : Keyed)
+pub keyed_some : (setting : ResolveInput) (keyref : List ℕ) (answer : KeyAnswer) (places : PlaceTables) (keyed : Keyed)
     (old new : List Fault) → setting.key (key_of keyref) ≡ answer
     → IsSearch setting.pushed (key_named setting keyref answer.target) keyref places keyed.found
     → keyed.is_defined ≡ is_some answer.node → new ≡ old ++ answer.faults
@@ -150,7 +151,7 @@ keyed_some setting keyref answer places keyed old new is found defined faults = 
 
 -- By a value
 
-module _ (setting : Setting) (topic : List ℕ) (element : Element) (conref : List ℕ) where
+module _ (setting : ResolveInput) (topic : List ℕ) (element : Element) (conref : List ℕ) where
   pub unread : if_read (reference_of conref) ≡ None → by_conref setting topic element (Some conref) ≡ None
   unread e = rw e refl
 
@@ -211,7 +212,7 @@ module _ (world : World) (page : PageId) (rules : List (List Rule)) where
 
 -- An element's reference
 
-module _ (setting : Setting) (topic : List ℕ) (element : Element) (sought : Sought) (old new : List Fault) where
+module _ (setting : ResolveInput) (topic : List ℕ) (element : Element) (sought : Sought) (old new : List Fault) where
   -- the key's
   pub sought_first : (places : PlaceTables) (keyed : Keyed)
       → IsKeyed setting sought.conkeyref old new places keyed → is_some keyed.found ≡ true
@@ -289,9 +290,9 @@ module _ (setting : Setting) (topic : List ℕ) (element : Element) (sought : So
           search = record { found = rw found_is tt; named = tt; tables = search.tables };
           faults = later
               ∙ ap (λ (some : List Fault). some ++ missing_by element sought keyed.is_defined ∷ []) keyed_is.faults
-              ∙ append_assoc old (key_faults setting sought.conkeyref)
+              ∙ append_assoc old (conkeyref_faults setting sought.conkeyref)
               (missing_by element sought keyed.is_defined ∷ [])
-              ∙ ap (λ (one : Fault). old ++ (key_faults setting sought.conkeyref ++ one ∷ [])) missing_is
+              ∙ ap (λ (one : Fault). old ++ (conkeyref_faults setting sought.conkeyref ++ one ∷ [])) missing_is
               ∙ ap (λ (meant : Option content.Found). old ++ search_faults setting element sought meant)
               (sym found_is);
         }

@@ -1,36 +1,23 @@
 -- Documents that were given: answers name what their hrefs do.
-use Rattle.std.specs.Prelude.{◌≡◌, ◌++◌, ℕ, true, false, List, [], ◌∷◌, Option, Some, None, IsTrue, bytes_eq, codes}
+use Rattle.std.specs.Prelude.{◌≡◌, ◌++◌, ℕ, true, List, [], ◌∷◌, Option, Some, IsTrue, bytes_eq, codes}
 use Rattle.std.specs.Arc.{arc_value}
-use Rattle.std.specs.List.{cons_option, filter_map, list_any}
+use Rattle.std.specs.List.{filter_map, list_any}
 use Rattle.std.specs.Option.{option_to_list}
 use Rattle.std.specs.declared.alloc.Global.{Global}
 use Rattle.std.specs.declared.sync.Arc.{Arc}
 use Rattle.std.proofs.Common.{refl, ap, subst}
-use Rattle.std.proofs.Math.Logic.{⊎_elim}
-use Rattle.std.proofs.lemmas.Bool.{false≢true, or_cases, or_left, or_right}
 use Rattle.std.proofs.lemmas.Slice.Eq.{bytes_eq-Decides}
 use Rattle.dita_doc.specs.Tree.{Content, End, Chars, Element, tree_of}
 use Rattle.dita_doc.specs.declared.doc.Attribute.{Attribute}
 use Rattle.dita_doc.specs.declared.doc.Doc.{Doc}
 use Rattle.readers.specs.Documents.{IsGiven}
 use Rattle.readers.specs.Founded.{AreAllowed, is_among}
-use Rattle.readers.specs.Named.{name_at, name_joined, name_written, named, named_found, named_tree, names_in, references}
+use Rattle.readers.specs.Named.{name_at, name_joined, name_written, under_names, named_found, named_tree, names_in, references}
 use Rattle.readers.specs.Told.{Told}
 use Rattle.readers.proofs.AmongLaws.{among_back, among_front}
+use Rattle.readers.proofs.FoundedLaws.{cons_behind, cons_first}
 use Rattle.readers.proofs.GivenLaws.{given_allowed_all}
 use Rattle.conref_targets.specs.Hrefs.{AreNamed, HaveNamed}
-
-cons_behind : (first : Option (List ℕ)) (more : List (List ℕ)) (m : List ℕ) → IsTrue (is_among more m)
-    → IsTrue (is_among (cons_option first more) m)
-cons_behind None more m among = among
-cons_behind (Some name) more m among = or_right (bytes_eq name m) _ among
-
-cons_first : (first : Option (List ℕ)) (more : List (List ℕ)) (m : List ℕ)
-    → IsTrue (is_among (option_to_list first) m) → IsTrue (is_among (cons_option first more) m)
-cons_first None more m among = absurd (false≢true among)
-cons_first (Some name) more m among =
-    ⊎_elim (λ here. or_left (bytes_eq name m) _ here) (λ none. absurd (false≢true none))
-    (or_cases (bytes_eq name m) false among)
 
 module _ (told : List Told) where
   some_allowed : (some all : List (List ℕ)) → ((m : List ℕ) → IsTrue (is_among some m) → IsTrue (is_among all m))
@@ -57,15 +44,15 @@ module _ (told : List Told) where
   )
 
   nodes_named : (names : List (List ℕ)) (nodes : Content)
-      → ((roots : List (List ℕ)) → AreAllowed roots told (names_in (named names nodes)))
-      → HaveNamed told (named names nodes)
+      → ((roots : List (List ℕ)) → AreAllowed roots told (names_in (under_names names nodes)))
+      → HaveNamed told (under_names names nodes)
   nodes_named names End given = tt
   nodes_named names (Chars text origin line rest) given = nodes_named names rest given
   nodes_named names (Element name attributes origin line inside rest) given =
       let doc = name_at names origin in
       let first = filter_map (name_written doc) attributes in
-      let held = names_in (named names inside) in
-      let later = names_in (named names rest) in (
+      let held = names_in (under_names names inside) in
+      let later = names_in (under_names names rest) in (
         attributes_named doc attributes
             (some_allowed first _ (λ m here. among_front first (held ++ later) m here) given),
         nodes_named names inside

@@ -2,15 +2,10 @@
 use Rattle.std.specs.Prelude.{◌≡◌, ℕ, Bool, true, false, List, Some, cond}
 use Rattle.std.specs.BTreeMap as tree
 use Rattle.std.specs.BTreeMap.{BTreeMap, is_at}
-use Rattle.std.specs.Ordering.{is_eq}
-use Rattle.std.proofs.Common.{Ordering, Less, Equal, Greater, refl, subst, ◌∙◌}
+use Rattle.std.proofs.Common.{refl, subst, ◌∙◌}
 use Rattle.dita_doc.proofs.NameOrder.{same_from_equal}
+use Rattle.dita_doc.proofs.Orders.{equal_test}
 use Rattle.conref_targets.specs.Rules.{name_cmp}
-
-equal_test : (o : Ordering) → is_eq o ≡ true → o ≡ Equal
-equal_test Equal same = refl
-equal_test Less same = cc
-equal_test Greater same = cc
 
 module _ {X : Type 0} (P : List ℕ → X → Type 0) (old new : BTreeMap (List ℕ) X) (key : List ℕ) (value : X)
     (puts : (q : List ℕ) → tree.get name_cmp new q ≡ cond (is_at (name_cmp key) q) (Some value) (tree.get name_cmp old q))

@@ -6,16 +6,16 @@ use Rattle.std.specs.Option.{option_map_or}
 use Rattle.std.proofs.Common.{refl, sym, ap, subst, ◌∙◌}
 use Rattle.dita_doc.specs.ClassValue.{value_of}
 use Rattle.dita_doc.specs.Tree as tree
-use Rattle.dita_doc.specs.Tree.{Content, size_of}
+use Rattle.dita_doc.specs.Tree.{Content}
 use Rattle.dita_doc.specs.declared.doc.Attribute.{Attribute}
 use Rattle.map_spec.specs.Elements.{is_value, tokens_by}
 use Rattle.map_spec.specs.Written.{Element, size, written_in}
 use Rattle.map_spec.specs.Places.{Standing, TopicAt, first_topic, is_element_meant, is_topic_meant, is_topic_there, is_topic_with, standing_from, target_among, topic_inside}
-use Rattle.readers.specs.Named.{name_at, named}
+use Rattle.map_lemmas.proofs.TreeLaws.{size_written}
+use Rattle.readers.specs.Named.{name_at, under_names}
 use Rattle.topic_find.specs.Table.{IsTableFor, IsTableOf, has_topic_around}
 use Rattle.topic_find.specs.Walk.{place_of}
 use Rattle.topic_find.specs.declared.table.TargetTable.{TargetTable}
-use Rattle.topic_find.proofs.WalkLaws.{size_written}
 use Rattle.conref_targets.proofs.PartLaws.{size_named}
 
 record IsLike (one other : Standing) : Type 0 where
@@ -40,7 +40,7 @@ like_both (one ∷ some) more (other ∷ others) rest first second =
 like_from : (name : List ℕ) (names : List (List ℕ)) (part : Content) (place : ℕ) (topic : Option TopicAt)
     (before other : Option Element)
     → AreLike (standing_from place topic before (written_in name part))
-    (standing_from place topic other (named names part))
+    (standing_from place topic other (under_names names part))
 like_from name names tree.End place topic before other = tt
 like_from name names (tree.Chars text origin line rest) place topic before other =
     like_from name names rest (place + 1) topic before other
@@ -54,14 +54,14 @@ like_from name names (tree.Element label attributes origin line inside rest) pla
       line = line;
       href_doc = name_at names origin;
     } in
-    let same : size (written_in name inside) ≡ size (named names inside) =
+    let same : size (written_in name inside) ≡ size (under_names names inside) =
     size_written name inside ∙ sym (size_named names inside) in (
       record { place = refl; attributes = refl; topic = refl },
       like_both (standing_from (place + 1) (topic_inside place one topic) None (written_in name inside)) _
-          (standing_from (place + 1) (topic_inside place two topic) None (named names inside)) _
+          (standing_from (place + 1) (topic_inside place two topic) None (under_names names inside)) _
           (like_from name names inside (place + 1) (topic_inside place one topic) None None)
           (subst (λ n. AreLike (standing_from (place + 1 + size (written_in name inside)) topic (Some one)
-          (written_in name rest)) (standing_from (place + 1 + n) topic (Some two) (named names rest))) same
+          (written_in name rest)) (standing_from (place + 1 + n) topic (Some two) (under_names names rest))) same
           (like_from name names rest (place + 1 + size (written_in name inside)) topic (Some one) (Some two))),
     )
 
@@ -174,6 +174,6 @@ table_like table some others like is = record {
 }
 
 pub table_named : (table : TargetTable) (name : List ℕ) (names : List (List ℕ)) (part : Content)
-    → IsTableFor table (written_in name part) → IsTableFor table (named names part)
+    → IsTableFor table (written_in name part) → IsTableFor table (under_names names part)
 table_named table name names part is =
     table_like table _ _ (like_from name names part 0 None None None) is

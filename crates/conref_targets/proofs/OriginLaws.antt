@@ -2,7 +2,7 @@
 use Rattle.std.specs.Prelude.{◌≡◌, ◌++◌, ◌<◌, ℕ, zero, suc, true, List, [], ◌∷◌, Option, Some, None, IsTrue, length, nat_lt, slice_get, unwrap_or}
 use Rattle.std.proofs.Common.{sym, ap, subst, ◌∙◌, arith}
 use Rattle.std.proofs.lemmas.Bool.{and_parts, ltb-true}
-use Rattle.dita_doc.specs.Siblings.{IsElementAt, content, document, element_at}
+use Rattle.dita_doc.specs.Siblings.{IsElementAt, content, doc_of_siblings, content_at}
 use Rattle.dita_doc.specs.Tree.{Content, End, Chars, Element, are_placed, tree_of}
 use Rattle.dita_doc.specs.declared.doc.Attribute.{Attribute}
 use Rattle.dita_doc.specs.declared.doc.Doc.{Doc}
@@ -12,17 +12,17 @@ use Rattle.doc_elements.specs.Walk.{element_of}
 use Rattle.map_spec.specs.Written as written
 use Rattle.map_spec.specs.Written.{Whole}
 use Rattle.readers.specs.Founded.{is_among}
-use Rattle.readers.specs.Named.{name_at, named, reused_by, reused_in}
+use Rattle.readers.specs.Named.{name_at, under_names, reused_by, reused_in}
 use Rattle.readers.proofs.AmongLaws.{among_back, among_either, among_front}
 use Rattle.conref_targets.specs.Asking.{AreAmong, element_around, reused_below, reused_of_doc, reused_of_node}
 use Rattle.conref_targets.specs.Origin.{begins_element, first_whole, named_content}
-use Rattle.conref_targets.specs.Parts.{IsPart}
+use Rattle.conref_targets.specs.Parts.{AreSiblingsAt}
 use Rattle.conref_targets.proofs.NameLaws.{below_reused}
 use Rattle.conref_targets.proofs.PartLaws.{element_there}
 
 -- an element stands at its place
-pub whole_none : (doc : Doc) (place : ℕ) (part : Content) → IsPart (tree_of doc.nodes) place part
-    → begins_element part ≡ true → element_at (tree_of doc.nodes) place ≡ None → None ≡ first_whole doc.origins part
+pub whole_none : (doc : Doc) (place : ℕ) (part : Content) → AreSiblingsAt (tree_of doc.nodes) place part
+    → begins_element part ≡ true → content_at (tree_of doc.nodes) place ≡ None → None ≡ first_whole doc.origins part
 whole_none doc place End there begins none = cc
 whole_none doc place (Chars text origin line rest) there begins none = cc
 whole_none doc place (Element name attributes origin line inside rest) there begins none =
@@ -53,10 +53,10 @@ origin_there doc place node here none = name_there doc.origins node.origin
 
 -- it is the element that stands first
 pub whole_there : (doc : Doc) (place : ℕ) (part : Content) (node : Node) (inside : Siblings) (origin : List ℕ)
-    → IsPart (tree_of doc.nodes) place part → begins_element part ≡ true
-    → element_at (tree_of doc.nodes) place
+    → AreSiblingsAt (tree_of doc.nodes) place part → begins_element part ≡ true
+    → content_at (tree_of doc.nodes) place
     ≡ Some (Element node.text node.attributes node.origin node.line (content inside) End)
-    → document inside ≡ doc → Some origin ≡ slice_get doc.origins node.origin
+    → doc_of_siblings inside ≡ doc → Some origin ≡ slice_get doc.origins node.origin
     → ◌≡◌ {A = Option Whole} (Some (element_of origin node, named_content inside)) (first_whole doc.origins part)
 whole_there doc place End node inside origin there begins is within name = cc
 whole_there doc place (Chars text at line rest) node inside origin there begins is within name = cc
@@ -71,12 +71,12 @@ whole_there doc place (Element label attributes at line held rest) node inside o
     ap (λ (found : Option (List ℕ)). unwrap_or found []) (name ∙ ap (slice_get doc.origins) origin_is) in
     let f = λ (t : List ℕ) (a : List Attribute) (d : List ℕ) (l : ℕ) (i : Content) (names : List (List ℕ)).
     (let made : Option Whole =
-    Some (record { name = t; attributes = a; doc = d; line = l; href_doc = d }, named names i) in made) in
-    ap (λ t. f t node.attributes origin node.line (content inside) (document inside).origins) text_is
-    ∙ ap (λ a. f label a origin node.line (content inside) (document inside).origins) attributes_are
-    ∙ ap (λ d. f label attributes d node.line (content inside) (document inside).origins) doc_is
-    ∙ ap (λ l. f label attributes (name_at doc.origins at) l (content inside) (document inside).origins) line_is
-    ∙ ap (λ i. f label attributes (name_at doc.origins at) line i (document inside).origins) inside_is
+    Some (record { name = t; attributes = a; doc = d; line = l; href_doc = d }, under_names names i) in made) in
+    ap (λ t. f t node.attributes origin node.line (content inside) (doc_of_siblings inside).origins) text_is
+    ∙ ap (λ a. f label a origin node.line (content inside) (doc_of_siblings inside).origins) attributes_are
+    ∙ ap (λ d. f label attributes d node.line (content inside) (doc_of_siblings inside).origins) doc_is
+    ∙ ap (λ l. f label attributes (name_at doc.origins at) l (content inside) (doc_of_siblings inside).origins) line_is
+    ∙ ap (λ i. f label attributes (name_at doc.origins at) line i (doc_of_siblings inside).origins) inside_is
     ∙ ap (λ (d : Doc). f label attributes (name_at doc.origins at) line held d.origins) within
 
 -- What content references of an element and of all that it holds name, those of the document name
@@ -91,9 +91,9 @@ whole_reused doc place node inside origin is name = record {
       below_reused doc.origins (tree_of doc.nodes) place node.text node.attributes node.origin node.line
       (content inside) m is.element
       (subst (λ (o : List ℕ). IsTrue (is_among
-      (reused_below (element_of o node) (named doc.origins (content inside))) m)) doc_is
+      (reused_below (element_of o node) (under_names doc.origins (content inside))) m)) doc_is
       (subst (λ (d : Doc). IsTrue (is_among
-      (reused_below (element_of origin node) (named d.origins (content inside))) m)) is.within among)));
+      (reused_below (element_of origin node) (under_names d.origins (content inside))) m)) is.within among)));
 }
 
 pub node_reused : (doc : Doc) (place : ℕ) (node : Node) (inside : Siblings) → IsElementAt doc place node inside
@@ -103,11 +103,11 @@ node_reused doc place node inside is = record {
       below_reused doc.origins (tree_of doc.nodes) place node.text node.attributes node.origin node.line
       (content inside) m is.element
       (subst (λ (d : Doc). IsTrue (is_among (reused_below (element_of (name_at d.origins node.origin) node)
-      (named d.origins (content inside))) m)) is.within among);
+      (under_names d.origins (content inside))) m)) is.within among);
 }
 
 pub around_is : (inside : Siblings) (node : Node) (origin : List ℕ)
-    → Some origin ≡ slice_get (document inside).origins node.origin
+    → Some origin ≡ slice_get (doc_of_siblings inside).origins node.origin
     → element_of origin node ≡ element_around inside node
 around_is inside node origin name =
     ap (λ (o : List ℕ). element_of o node) (ap (λ (found : Option (List ℕ)). unwrap_or found []) name)
@@ -115,14 +115,14 @@ around_is inside node origin name =
 -- and so do siblings: the first of them, and those behind it
 module _ (all : Siblings) (node : Node) (inside rest : Siblings)
     (is : content all ≡ Element node.text node.attributes node.origin node.line (content inside) (content rest))
-    (held : document inside ≡ document all) (behind : document rest ≡ document all) where
+    (held : doc_of_siblings inside ≡ doc_of_siblings all) (behind : doc_of_siblings rest ≡ doc_of_siblings all) where
   pub split_is : named_content all
       ≡ written.Node (element_around inside node) (named_content inside) (named_content rest)
-  split_is = ap (named (document all).origins) is
+  split_is = ap (under_names (doc_of_siblings all).origins) is
       ∙ ap (λ (d : Doc). written.Node (element_of (name_at d.origins node.origin) node)
-      (named d.origins (content inside)) (named (document all).origins (content rest))) (sym held)
+      (under_names d.origins (content inside)) (under_names (doc_of_siblings all).origins (content rest))) (sym held)
       ∙ ap (λ (d : Doc). written.Node (element_around inside node) (named_content inside)
-      (named d.origins (content rest))) (sym behind)
+      (under_names d.origins (content rest))) (sym behind)
 
   pub first_among : AreAmong (reused_of_node inside node) (reused_in (named_content all))
   first_among = record {
@@ -143,18 +143,20 @@ module _ (all : Siblings) (node : Node) (inside rest : Siblings)
   }
 
 pub text_is : (all rest : Siblings) (text : List ℕ) (origin line : ℕ)
-    → content all ≡ Chars text origin line (content rest) → document rest ≡ document all
-    → named_content all ≡ written.Chars text (name_at (document all).origins origin) (named_content rest)
-text_is all rest text origin line is behind = ap (named (document all).origins) is
-    ∙ ap (λ (d : Doc). written.Chars text (name_at (document all).origins origin) (named d.origins (content rest)))
+    → content all ≡ Chars text origin line (content rest) → doc_of_siblings rest ≡ doc_of_siblings all
+    → named_content all ≡ written.Chars text (name_at (doc_of_siblings all).origins origin) (named_content rest)
+text_is all rest text origin line is behind = ap (under_names (doc_of_siblings all).origins) is
+    ∙ ap (λ (d : Doc). written.Chars text (name_at (doc_of_siblings all).origins origin)
+    (under_names d.origins (content rest)))
     (sym behind)
 
 pub text_among : (all rest : Siblings) (text : List ℕ) (origin line : ℕ)
-    → content all ≡ Chars text origin line (content rest) → document rest ≡ document all
+    → content all ≡ Chars text origin line (content rest) → doc_of_siblings rest ≡ doc_of_siblings all
     → AreAmong (reused_in (named_content rest)) (reused_in (named_content all))
 text_among all rest text origin line is behind = record {
-  each = λ m here. subst (λ (c : Content). IsTrue (is_among (reused_in (named (document all).origins c)) m)) (sym is)
-      (subst (λ (d : Doc). IsTrue (is_among (reused_in (named d.origins (content rest))) m)) behind here);
+  each = λ m here. subst
+      (λ (c : Content). IsTrue (is_among (reused_in (under_names (doc_of_siblings all).origins c)) m)) (sym is)
+      (subst (λ (d : Doc). IsTrue (is_among (reused_in (under_names d.origins (content rest))) m)) behind here);
 }
 
 pub inside_among : (inside : Siblings) (node : Node)
@@ -169,7 +171,7 @@ element_among inside node = record { each = λ m here. among_front (reused_by (e
 pub among_then : (a b c : List (List ℕ)) → AreAmong a b → AreAmong b c → AreAmong a c
 among_then a b c first second = record { each = λ m here. second.each m (first.each m here) }
 
-pub origin_among : (inside : Siblings) (node : Node) (origin : List ℕ) (doc : Doc) → doc ≡ document inside
+pub origin_among : (inside : Siblings) (node : Node) (origin : List ℕ) (doc : Doc) → doc ≡ doc_of_siblings inside
     → Some origin ≡ slice_get doc.origins node.origin
     → AreAmong (reused_by (element_of origin node)) (reused_of_node inside node)
 origin_among inside node origin doc same name =
@@ -178,6 +180,6 @@ origin_among inside node origin doc same name =
     (element_among inside node)
 
 pub content_named : (siblings : Siblings) (doc : Doc) → content siblings ≡ tree_of doc.nodes
-    → document siblings ≡ doc → named_content siblings ≡ named doc.origins (tree_of doc.nodes)
-content_named siblings doc is same = ap (λ (d : Doc). named d.origins (content siblings)) same
-    ∙ ap (named doc.origins) is
+    → doc_of_siblings siblings ≡ doc → named_content siblings ≡ under_names doc.origins (tree_of doc.nodes)
+content_named siblings doc is same = ap (λ (d : Doc). under_names d.origins (content siblings)) same
+    ∙ ap (under_names doc.origins) is

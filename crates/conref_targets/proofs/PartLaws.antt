@@ -1,17 +1,17 @@
 -- Siblings of a document where they stand: their nodes, and the element that stands first.
 use Rattle.std.specs.Prelude.{◌≡◌, ◌+◌, ◌≤◌, ℕ, zero, suc, List, [], ◌∷◌, ◌++◌, Some, None, length, drop, slice_get}
 use Rattle.std.proofs.Common.{refl, sym, ap, ◌∙◌, arith, append_assoc, append-nil}
-use Rattle.dita_doc.specs.Siblings.{content_from, element_at, joined}
+use Rattle.dita_doc.specs.Siblings.{content_from, content_at, content_behind}
 use Rattle.dita_doc.specs.Tree.{ArePreorder, Content, End, Chars, Element, chars_node, element_node, nodes_of, size_of, tree_of}
 use Rattle.dita_doc.specs.declared.doc.Attribute.{Attribute}
 use Rattle.dita_doc.specs.declared.doc.Node.{Node}
 use Rattle.dita_doc.proofs.TreeLaws.{length_nodes}
 use Rattle.map_spec.specs.Written.{size}
-use Rattle.readers.specs.Named.{named}
-use Rattle.conref_targets.specs.Parts.{IsPart, whole, past_text, within, past}
+use Rattle.readers.specs.Named.{under_names}
+use Rattle.conref_targets.specs.Parts.{AreSiblingsAt, whole, past_text, within, past}
 
 -- as many nodes as the tree has
-pub size_named : (names : List (List ℕ)) (part : Content) → size (named names part) ≡ size_of part
+pub size_named : (names : List (List ℕ)) (part : Content) → size (under_names names part) ≡ size_of part
 size_named names End = refl
 size_named names (Chars text origin line rest) = ap (λ n. 1 + n) (size_named names rest)
 size_named names (Element name attributes origin line inside rest) =
@@ -37,7 +37,7 @@ pub record Begin (all : Content) (place : ℕ) (part : Content) : Type 0 where
   pub more : List Node
   pub is : drop place (nodes_of all 0) ≡ nodes_of part place ++ more
 
-pub begin_there : (all : Content) {place : ℕ} {part : Content} → IsPart all place part → Begin all place part
+pub begin_there : (all : Content) {place : ℕ} {part : Content} → AreSiblingsAt all place part → Begin all place part
 begin_there all whole = record { more = []; is = sym (append-nil (nodes_of all 0)) }
 begin_there all (past_text {place = place} {rest = rest} there) =
     let before = begin_there all there in
@@ -69,7 +69,7 @@ get_drop (suc n) (y ∷ xs) ys x e = get_drop n xs ys x e
 module _ (nodes : List Node) (tree : ArePreorder nodes 0) where
   -- the node of a text that stands first
   pub text_there : (place : ℕ) (text : List ℕ) (origin line : ℕ) (rest : Content)
-      → IsPart (tree_of nodes) place (Chars text origin line rest)
+      → AreSiblingsAt (tree_of nodes) place (Chars text origin line rest)
       → slice_get nodes place ≡ Some (chars_node text origin line (place + 1))
   text_there place text origin line rest there =
       let front = begin_there (tree_of nodes) there in
@@ -77,7 +77,7 @@ module _ (nodes : List Node) (tree : ArePreorder nodes 0) where
 
   -- and that of an element
   pub element_node_there : (place : ℕ) (name : List ℕ) (attributes : List Attribute) (origin line : ℕ)
-      (inside rest : Content) → IsPart (tree_of nodes) place (Element name attributes origin line inside rest)
+      (inside rest : Content) → AreSiblingsAt (tree_of nodes) place (Element name attributes origin line inside rest)
       → slice_get nodes place ≡ Some (element_node name attributes origin line (place + 1 + size_of inside))
   element_node_there place name attributes origin line inside rest there =
       let front = begin_there (tree_of nodes) there in
@@ -85,7 +85,7 @@ module _ (nodes : List Node) (tree : ArePreorder nodes 0) where
       (ap (drop place) tree ∙ front.is)
 
 -- siblings end within the document
-pub part_fits : (all : Content) {place : ℕ} {part : Content} → IsPart all place part
+pub part_fits : (all : Content) {place : ℕ} {part : Content} → AreSiblingsAt all place part
     → place + size_of part ≤ size_of all
 part_fits all whole = omega arith
 part_fits all (past_text there) = let before = part_fits all there in omega arith
@@ -96,15 +96,16 @@ part_fits all (past there) = let before = part_fits all there in omega arith
 
 pub record From (all : Content) (place : ℕ) (part : Content) : Type 0 where
   pub more : Content
-  pub is : content_from place all ≡ joined part more
+  pub is : content_from place all ≡ content_behind part more
 
-joined_none : (part : Content) → part ≡ joined part End
+joined_none : (part : Content) → part ≡ content_behind part End
 joined_none End = refl
 joined_none (Chars text origin line rest) = ap (Chars text origin line) (joined_none rest)
 joined_none (Element name attributes origin line inside rest) =
     ap (Element name attributes origin line inside) (joined_none rest)
 
-joined_both : (part more behind : Content) → joined (joined part more) behind ≡ joined part (joined more behind)
+joined_both : (part more behind : Content)
+    → content_behind (content_behind part more) behind ≡ content_behind part (content_behind more behind)
 joined_both End more behind = refl
 joined_both (Chars text origin line rest) more behind = ap (Chars text origin line) (joined_both rest more behind)
 joined_both (Element name attributes origin line inside rest) more behind =
@@ -120,18 +121,18 @@ from_more (suc n) k End = let e : suc n + k ≡ suc (n + k) = omega arith in rw 
 from_more (suc n) k (Chars text origin line rest) =
     let e : suc n + k ≡ suc (n + k) = omega arith in rw e (from_more n k rest)
 from_more (suc n) k (Element name attributes origin line inside rest) =
-    let e : suc n + k ≡ suc (n + k) = omega arith in rw e (from_more n k (joined inside rest))
+    let e : suc n + k ≡ suc (n + k) = omega arith in rw e (from_more n k (content_behind inside rest))
 
-from_behind : (part more : Content) → content_from (size_of part) (joined part more) ≡ more
+from_behind : (part more : Content) → content_from (size_of part) (content_behind part more) ≡ more
 from_behind End more = refl
 from_behind (Chars text origin line rest) more =
     let e : 1 + size_of rest ≡ suc (size_of rest) = omega arith in rw e (from_behind rest more)
 from_behind (Element name attributes origin line inside rest) more =
     let e : 1 + (size_of inside + size_of rest) ≡ suc (size_of inside + size_of rest) = omega arith in
-    rw e (from_more (size_of inside) (size_of rest) (joined inside (joined rest more))
-    ∙ ap (content_from (size_of rest)) (from_behind inside (joined rest more)) ∙ from_behind rest more)
+    rw e (from_more (size_of inside) (size_of rest) (content_behind inside (content_behind rest more))
+    ∙ ap (content_from (size_of rest)) (from_behind inside (content_behind rest more)) ∙ from_behind rest more)
 
-pub from_there : (all : Content) {place : ℕ} {part : Content} → IsPart all place part → From all place part
+pub from_there : (all : Content) {place : ℕ} {part : Content} → AreSiblingsAt all place part → From all place part
 from_there all whole = record { more = End; is = joined_none all }
 from_there all (past_text {place = place} there) =
     let before = from_there all there in
@@ -139,7 +140,7 @@ from_there all (past_text {place = place} there) =
 from_there all (within {place = place} {inside = inside} {rest = rest} there) =
     let before = from_there all there in
     record {
-      more = joined rest before.more;
+      more = content_behind rest before.more;
       is = from_more place 1 all ∙ ap (content_from 1) before.is;
     }
 from_there all (past {place = place} {inside = inside} {rest = rest} there) =
@@ -148,15 +149,15 @@ from_there all (past {place = place} {inside = inside} {rest = rest} there) =
       more = before.more;
       is = from_more (place + 1) (size_of inside) all
           ∙ ap (content_from (size_of inside)) (from_more place 1 all ∙ ap (content_from 1) before.is)
-          ∙ from_behind inside (joined rest before.more);
+          ∙ from_behind inside (content_behind rest before.more);
     }
 
 -- an element that stands first is the element at its place
 pub element_there : (all : Content) (place : ℕ) (name : List ℕ) (attributes : List Attribute) (origin line : ℕ)
-    (inside rest : Content) → IsPart all place (Element name attributes origin line inside rest)
-    → element_at all place ≡ Some (Element name attributes origin line inside End)
+    (inside rest : Content) → AreSiblingsAt all place (Element name attributes origin line inside rest)
+    → content_at all place ≡ Some (Element name attributes origin line inside End)
 element_there all place name attributes origin line inside rest there = rw (from_there all there).is refl
 
 pub no_element_there : (all : Content) (place : ℕ) (text : List ℕ) (origin line : ℕ) (rest : Content)
-    → IsPart all place (Chars text origin line rest) → element_at all place ≡ None
+    → AreSiblingsAt all place (Chars text origin line rest) → content_at all place ≡ None
 no_element_there all place text origin line rest there = rw (from_there all there).is refl

@@ -12,12 +12,12 @@ use Rattle.doc_elements.specs.Walk.{element_of}
 use Rattle.map_spec.specs.Elements.{is_value}
 use Rattle.map_spec.specs.Written.{Whole, Written, End}
 use Rattle.conref_spec.specs.Content as content
-use Rattle.conref_spec.specs.Content.{declared_around, end_id, has_end_id, range_by, range_from, up_to_end}
+use Rattle.conref_spec.specs.Content.{declared_around_written, end_id, has_end_id, range_by, range_from, up_to_end}
 use Rattle.map_spec.specs.Places.{Standing}
-use Rattle.readers.specs.Named.{named, named_tree}
+use Rattle.readers.specs.Named.{under_names, named_tree}
 use Rattle.conref_targets.specs.Ranges.{IsRangeEnd}
 use Rattle.conref_targets.specs.Found.{IsFound}
-use Rattle.conref_targets.specs.Parts.{IsPart, end_place, ends_of, past}
+use Rattle.conref_targets.specs.Parts.{AreSiblingsAt, end_place, ends_of, past}
 use Rattle.conref_targets.specs.Tables.{Documents}
 use Rattle.conref_targets.specs.declared.find.Found.{Found}
 use Rattle.conref_targets.proofs.PartLaws.{element_node_there}
@@ -91,9 +91,9 @@ module _ (documents : Documents) (meant : content.Found) (found : Found) (is : I
       pub ends_behind : (doc : Doc) (end : Option ℕ) (to : Option ℕ) → doc ≡ arc_value found.doc
           → has_end_id id (element_of [] target) ≡ false
           → end ≡ slice_get (ends_of (named_tree doc)) found.place
-          → ((part : Content) → IsPart (tree_of doc.nodes) target.end part
+          → ((part : Content) → AreSiblingsAt (tree_of doc.nodes) target.end part
           → target.end + size_of part ≡ unwrap_or end target.end
-          → to ≡ end_place id target.end (named doc.origins part))
+          → to ≡ end_place id target.end (under_names doc.origins part))
           → IsRangeEnd target.end meant.standing.behind (range_by meant.standing (Some value)) to
       ends_behind doc end to same test siblings ends = by_test false to (sym (end_same id) ∙ test)
           (subst (λ (found : Option ℕ). IsRangeEnd target.end meant.standing.behind
@@ -103,9 +103,9 @@ module _ (documents : Documents) (meant : content.Found) (found : Found) (is : I
           end_is = siblings ∙ ap (λ (d : Doc). slice_get (ends_of (named_tree d)) found.place) same
               ∙ ap (slice_get (ends_of (named_tree (arc_value found.doc)))) is.place ∙ is.stands.ends
 
-          there : IsPart (tree_of doc.nodes) target.end is.stands.rest
-          there = subst (λ n. IsPart (tree_of doc.nodes) n is.stands.rest) (sym end_there)
-              (subst (λ (d : Doc). IsPart (tree_of d.nodes) (meant.standing.place + 1 + size_of is.stands.inside) is.stands.rest)
+          there : AreSiblingsAt (tree_of doc.nodes) target.end is.stands.rest
+          there = subst (λ n. AreSiblingsAt (tree_of doc.nodes) n is.stands.rest) (sym end_there)
+              (subst (λ (d : Doc). AreSiblingsAt (tree_of d.nodes) (meant.standing.place + 1 + size_of is.stands.inside) is.stands.rest)
               (sym same) (past is.stands.part))
 
           fits : target.end + size_of is.stands.rest ≡ unwrap_or end target.end
@@ -114,12 +114,12 @@ module _ (documents : Documents) (meant : content.Found) (found : Found) (is : I
 
           to_is : to ≡ end_place id target.end meant.standing.behind
           to_is = ends is.stands.rest there fits
-              ∙ ap (λ (d : Doc). end_place id target.end (named d.origins is.stands.rest)) same
+              ∙ ap (λ (d : Doc). end_place id target.end (under_names d.origins is.stands.rest)) same
               ∙ ap (end_place id target.end) (sym is.stands.behind)
 
 -- the names that are declared around it, in a document that is the same
 pub around_as : (meant : content.Found) {nodes : Written} {place : ℕ} {names : List (List ℕ)} → nodes ≡ meant.nodes
-    → place ≡ meant.standing.place → names ≡ declared_around [] nodes place
-    → names ≡ declared_around [] meant.nodes meant.standing.place
-around_as meant {place = place} same at is = is ∙ ap (λ (all : Written). declared_around [] all place) same
-    ∙ ap (declared_around [] meant.nodes) at
+    → place ≡ meant.standing.place → names ≡ declared_around_written [] nodes place
+    → names ≡ declared_around_written [] meant.nodes meant.standing.place
+around_as meant {place = place} same at is = is ∙ ap (λ (all : Written). declared_around_written [] all place) same
+    ∙ ap (declared_around_written [] meant.nodes) at

@@ -7,7 +7,7 @@ use Rattle.std.proofs.lemmas.List.{take_more}
 use Rattle.dita_doc.specs.declared.content.Rule.{Rule}
 use Rattle.dita_doc.specs.declared.stop.NoMemory.{NoMemory}
 use Rattle.reader_spec.specs.World.{World}
-use Rattle.conref_targets.specs.Rules.{AreRules, HasAll, HasRead, Keeps, all_kept, kept, name_cmp, page_rules, rules_under}
+use Rattle.conref_targets.specs.Rules.{AreRules, HasAll, HasRead, Keeps, all_kept, kept_under, name_cmp, page_rules, rules_under}
 use Rattle.conref_targets.specs.declared.rules.RuleLists.{RuleLists}
 use Rattle.conref_targets.proofs.KnownLaws.{put_found}
 
@@ -23,7 +23,7 @@ all_keep old new [] keeps has = tt
 all_keep old new (name ∷ names) keeps has = (keeps.each name has.0, all_keep old new names keeps has.1)
 
 pub has_one_more : (lists : RuleLists) (names : List (List ℕ)) (name : List ℕ) → HasAll lists names
-    → is_some (kept lists name) ≡ true → HasAll lists (names ++ name ∷ [])
+    → is_some (kept_under lists name) ≡ true → HasAll lists (names ++ name ∷ [])
 has_one_more lists [] name has one = (one, tt)
 has_one_more lists (first ∷ names) name has one = (has.0, has_one_more lists names name has.1 one)
 
@@ -35,7 +35,7 @@ read_one_more old new names name has read =
 
 -- the rules that are kept are those of the DITAVALs
 rules_as_kept : (world : World) (lists : RuleLists) (name : List ℕ) (found : Option (Option (List Rule)))
-    → AreRules world lists → kept lists name ≡ found → is_some found ≡ true
+    → AreRules world lists → kept_under lists name ≡ found → is_some found ≡ true
     → option_to_list (option_and_then (λ (rules : Option (List Rule)). rules) found)
     ≡ option_to_list (rules_under world name)
 rules_as_kept world lists name None are is there = cc
@@ -46,7 +46,7 @@ pub rules_of_page : (world : World) (lists : RuleLists) (names : List (List ℕ)
 rules_of_page world lists [] are has = refl
 rules_of_page world lists (name ∷ names) are has =
     ap (λ (first : List (List Rule)). first ++ all_kept lists names)
-    (rules_as_kept world lists name (kept lists name) are refl has.0)
+    (rules_as_kept world lists name (kept_under lists name) are refl has.0)
     ∙ ap (λ (more : List (List Rule)). option_to_list (rules_under world name) ++ more)
     (rules_of_page world lists names are has.1)
 
@@ -64,7 +64,7 @@ read_next old new names at name within is has read =
     (subst (λ n. HasAll new (take at names ++ n ∷ [])) is (read_one_more old new (take at names) name has read))
 
 module _ (old new : RuleLists) (key name : List ℕ) (rules : Option (List Rule)) (same : key ≡ name)
-    (puts : (q : List ℕ) → kept new q ≡ cond (is_at (name_cmp key) q) (Some rules) (kept old q)) where
+    (puts : (q : List ℕ) → kept_under new q ≡ cond (is_at (name_cmp key) q) (Some rules) (kept_under old q)) where
   -- the rules of a DITAVAL are put under its name
   pub rules_put : (world : World) → rules ≡ rules_under world name → AreRules world old → AreRules world new
   rules_put world is are = record {
@@ -78,10 +78,10 @@ module _ (old new : RuleLists) (key name : List ℕ) (rules : Option (List Rule)
   put_some false before has = has
 
   -- and then they are there, as all that was
-  pub rules_there : kept new key ≡ Some rules → HasRead new old name
+  pub rules_there : kept_under new key ≡ Some rules → HasRead new old name
   rules_there put = record {
-    keeps = record { each = λ n has. rw (puts n) (put_some (is_at (name_cmp key) n) (kept old n) has) };
-    has = subst (λ n. is_some (kept new n) ≡ true) same (rw put refl);
+    keeps = record { each = λ n has. rw (puts n) (put_some (is_at (name_cmp key) n) (kept_under old n) has) };
+    has = subst (λ n. is_some (kept_under new n) ≡ true) same (rw put refl);
   }
 
 pub on_ok_have : (old new : RuleLists) (names more : List (List ℕ)) (result : Result (Unit {0}) NoMemory)

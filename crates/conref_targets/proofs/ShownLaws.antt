@@ -3,8 +3,8 @@ use Rattle.std.specs.Prelude.{◌≡◌, ◌+◌, ◌<◌, ℕ, List, [], ◌∷
 use Rattle.std.specs.Borrow.{Bor}
 use Rattle.std.proofs.Common.{refl, sym, ap, ◌∙◌}
 use Rattle.std.proofs.lemmas.List.{take_more, take-map}
+use Rattle.dita_doc.specs.Shown.{shown}
 use Rattle.dita_doc.specs.declared.content.Rule.{Rule}
-use Rattle.conref_targets.specs.Shown.{shown}
 
 shown_one_more : (some : List (Bor (List Rule))) (item : Bor (List Rule))
     → shown (some ++ item ∷ []) ≡ shown some ++ item.now ∷ []

@@ -7,9 +7,9 @@ use Rattle.dita_doc.specs.declared.doc.Attribute.{Attribute}
 use Rattle.dita_doc.specs.declared.doc.Doc.{Doc}
 use Rattle.map_spec.specs.Written.{Element, Written, size}
 use Rattle.map_spec.specs.Places.{Standing, TopicAt, all_standing, first_topic, is_element_meant, is_topic_there, is_topic_with, standing_from, target_in, topic_inside, topic_meant}
-use Rattle.readers.specs.Named.{name_at, named, named_tree}
+use Rattle.readers.specs.Named.{name_at, under_names, named_tree}
 use Rattle.conref_targets.specs.Found.{StandsIn}
-use Rattle.conref_targets.specs.Parts.{IsPart, whole, past_text, within, past, ends_from, ends_of}
+use Rattle.conref_targets.specs.Parts.{AreSiblingsAt, whole, past_text, within, past, ends_from, ends_of}
 use Rattle.conref_targets.proofs.PartLaws.{drop_front, drop_more, get_drop, size_named}
 
 -- Where siblings end
@@ -20,15 +20,15 @@ pub record Ends (all : Written) (end place : ℕ) (part : Written) : Type 0 wher
   pub is : drop place (ends_of all) ≡ ends_from end place part ++ more
 
 length_ends : (end place : ℕ) (names : List (List ℕ)) (part : Content)
-    → length (ends_from end place (named names part)) ≡ size_of part
+    → length (ends_from end place (under_names names part)) ≡ size_of part
 length_ends end place names tree.End = refl
 length_ends end place names (tree.Chars text origin line rest) =
     let behind = length_ends end (place + 1) names rest in omega arith
 length_ends end place names (tree.Element name attributes origin line inside rest) =
-    let first = ends_from (place + 1 + size (named names inside)) (place + 1) (named names inside) in
-    let second = ends_from end (place + 1 + size (named names inside)) (named names rest) in
-    let held = length_ends (place + 1 + size (named names inside)) (place + 1) names inside in
-    let behind = length_ends end (place + 1 + size (named names inside)) names rest in
+    let first = ends_from (place + 1 + size (under_names names inside)) (place + 1) (under_names names inside) in
+    let second = ends_from end (place + 1 + size (under_names names inside)) (under_names names rest) in
+    let held = length_ends (place + 1 + size (under_names names inside)) (place + 1) names inside in
+    let behind = length_ends end (place + 1 + size (under_names names inside)) names rest in
     omega (arith, length-append first second)
 
 abbrev AllStand : Doc → List Standing → Type 0
@@ -42,36 +42,37 @@ stand_both doc (one ∷ some) more first second = (first.0, stand_both doc some 
 
 module _ (doc : Doc) where
   ends_text : (end place : ℕ) (text : List ℕ) (origin line : ℕ) (rest : Content)
-      → Ends (named_tree doc) end place (named doc.origins (tree.Chars text origin line rest))
-      → Ends (named_tree doc) end (place + 1) (named doc.origins rest)
+      → Ends (named_tree doc) end place (under_names doc.origins (tree.Chars text origin line rest))
+      → Ends (named_tree doc) end (place + 1) (under_names doc.origins rest)
   ends_text end place text origin line rest is = record {
     more = is.more;
     is = drop_more place 1 (ends_of (named_tree doc)) ∙ ap (drop 1) is.is;
   }
 
   module _ (end place : ℕ) (name : List ℕ) (attributes : List Attribute) (origin line : ℕ) (inside rest : Content)
-      (is : Ends (named_tree doc) end place (named doc.origins (tree.Element name attributes origin line inside rest)))
+      (is : Ends (named_tree doc) end place
+      (under_names doc.origins (tree.Element name attributes origin line inside rest)))
     where
       ends_both : drop (place + 1) (ends_of (named_tree doc))
-          ≡ ends_from (place + 1 + size_of inside) (place + 1) (named doc.origins inside)
-          ++ (ends_from end (place + 1 + size_of inside) (named doc.origins rest) ++ is.more)
+          ≡ ends_from (place + 1 + size_of inside) (place + 1) (under_names doc.origins inside)
+          ++ (ends_from end (place + 1 + size_of inside) (under_names doc.origins rest) ++ is.more)
       ends_both =
           drop_more place 1 (ends_of (named_tree doc)) ∙ ap (drop 1) is.is
-          ∙ append_assoc (ends_from (place + 1 + size (named doc.origins inside)) (place + 1) (named doc.origins inside))
-          (ends_from end (place + 1 + size (named doc.origins inside)) (named doc.origins rest)) is.more
-          ∙ ap (λ (n : ℕ). ends_from (place + 1 + n) (place + 1) (named doc.origins inside)
-          ++ (ends_from end (place + 1 + n) (named doc.origins rest) ++ is.more)) (size_named doc.origins inside)
+          ∙ append_assoc (ends_from (place + 1 + size (under_names doc.origins inside)) (place + 1) (under_names doc.origins inside))
+          (ends_from end (place + 1 + size (under_names doc.origins inside)) (under_names doc.origins rest)) is.more
+          ∙ ap (λ (n : ℕ). ends_from (place + 1 + n) (place + 1) (under_names doc.origins inside)
+          ++ (ends_from end (place + 1 + n) (under_names doc.origins rest) ++ is.more)) (size_named doc.origins inside)
 
-      ends_within : Ends (named_tree doc) (place + 1 + size_of inside) (place + 1) (named doc.origins inside)
-      ends_within = record { more = ends_from end (place + 1 + size_of inside) (named doc.origins rest) ++ is.more; is = ends_both }
+      ends_within : Ends (named_tree doc) (place + 1 + size_of inside) (place + 1) (under_names doc.origins inside)
+      ends_within = record { more = ends_from end (place + 1 + size_of inside) (under_names doc.origins rest) ++ is.more; is = ends_both }
 
-      ends_past : Ends (named_tree doc) end (place + 1 + size_of inside) (named doc.origins rest)
+      ends_past : Ends (named_tree doc) end (place + 1 + size_of inside) (under_names doc.origins rest)
       ends_past = record {
         more = is.more;
         is = drop_more (place + 1) (size_of inside) (ends_of (named_tree doc))
             ∙ ap (drop (size_of inside)) ends_both
-            ∙ drop_front (ends_from (place + 1 + size_of inside) (place + 1) (named doc.origins inside))
-            (ends_from end (place + 1 + size_of inside) (named doc.origins rest) ++ is.more) (size_of inside)
+            ∙ drop_front (ends_from (place + 1 + size_of inside) (place + 1) (under_names doc.origins inside))
+            (ends_from end (place + 1 + size_of inside) (under_names doc.origins rest) ++ is.more) (size_of inside)
             (sym (length_ends (place + 1 + size_of inside) (place + 1) doc.origins inside));
       }
 
@@ -80,9 +81,9 @@ module _ (doc : Doc) where
 
   -- the elements among siblings and below stand there
   stand_from : (part : Content) (end place : ℕ) (topic : Option TopicAt) (before : Option Element)
-      → IsPart (tree_of doc.nodes) place part → Ends (named_tree doc) end place (named doc.origins part)
+      → AreSiblingsAt (tree_of doc.nodes) place part → Ends (named_tree doc) end place (under_names doc.origins part)
       → end ≡ place + size_of part
-      → AllStand doc (standing_from place topic before (named doc.origins part))
+      → AllStand doc (standing_from place topic before (under_names doc.origins part))
   stand_from tree.End end place topic before there is at = tt
   stand_from (tree.Chars text origin line rest) end place topic before there is at =
       stand_from rest end (place + 1) topic before (past_text there) (ends_text end place text origin line rest is)
@@ -109,10 +110,11 @@ module _ (doc : Doc) where
           behind = refl;
           ends = ends_here end place name attributes origin line inside rest is ∙ ap Some end_is;
         },
-        stand_both doc (standing_from (place + 1) (topic_inside place label topic) None (named doc.origins inside)) _
+        stand_both doc (standing_from (place + 1) (topic_inside place label topic) None
+            (under_names doc.origins inside)) _
             (stand_from inside (place + 1 + size_of inside) (place + 1) (topic_inside place label topic) None (within there)
             (ends_within end place name attributes origin line inside rest is) refl)
-            (subst (λ n. AllStand doc (standing_from (place + 1 + n) topic (Some label) (named doc.origins rest)))
+            (subst (λ n. AllStand doc (standing_from (place + 1 + n) topic (Some label) (under_names doc.origins rest)))
             (sym size_is)
             (stand_from rest end (place + 1 + size_of inside) topic (Some label) (past there)
             (ends_past end place name attributes origin line inside rest is) (omega arith))),

@@ -10,8 +10,8 @@ use Rattle.dita_doc.specs.Tree.{Content, End, Chars, Element, size_of, tree_of}
 use Rattle.ditaval_rules.specs.Declarations.{AreDeclarations, Declaring}
 use Rattle.ditaval_rules.specs.Domains.{declared_around as by_tree, declared_by}
 use Rattle.map_spec.specs.Written.{Written}
-use Rattle.conref_spec.specs.Content.{declared_around}
-use Rattle.readers.specs.Named.{named, named_tree}
+use Rattle.conref_spec.specs.Content.{declared_around_written}
+use Rattle.readers.specs.Named.{under_names, named_tree}
 use Rattle.topic_find.specs.Table.{IsTableFor}
 use Rattle.topic_find.specs.declared.table.TargetTable.{TargetTable}
 use Rattle.conref_targets.specs.Parts.{ends_of}
@@ -82,7 +82,7 @@ by_past true far near = far
 by_past false far near = near
 
 around_named : (around names : List (List ℕ)) (content : Content) (place : ℕ)
-    → by_tree around content place ≡ declared_around around (named names content) place
+    → by_tree around content place ≡ declared_around_written around (under_names names content) place
 around_named around names End place = refl
 around_named around names (Chars text origin line rest) place =
     by_place around (place == 0) (around_named around names rest (place - 1))
@@ -91,15 +91,15 @@ around_named around names (Element name attributes origin line inside rest) plac
     (around_named around names rest (place - (1 + size_of inside)))
     (around_named (declared_by around attributes) names inside (place - 1)))
     ∙ ap (λ n. if place == 0 then around
-    else if nat_lt n place then declared_around around (named names rest) (place - (1 + n))
-    else declared_around (declared_by around attributes) (named names inside) (place - 1)) (sym (size_named names inside))
+    else if nat_lt n place then declared_around_written around (under_names names rest) (place - (1 + n))
+    else declared_around_written (declared_by around attributes) (under_names names inside) (place - 1)) (sym (size_named names inside))
 
 pub names_there : {declared : List Declaring} {nodes : Written} {found : List (List ℕ)} (place : ℕ)
     → (are : AreDeclared declared nodes)
     → ((tree : Content) → AreDeclarations tree declared → found ≡ by_tree [] tree place)
-    → found ≡ declared_around [] nodes place
+    → found ≡ declared_around_written [] nodes place
 names_there place are is = is are.tree are.are ∙ around_named [] are.names are.tree place
-    ∙ ap (λ (all : Written). declared_around [] all place) are.is
+    ∙ ap (λ (all : Written). declared_around_written [] all place) are.is
 
 pub declared_of : (doc : Doc) (declared : List Declaring) → AreDeclarations (tree_of doc.nodes) declared
     → AreDeclared declared (named_tree doc)

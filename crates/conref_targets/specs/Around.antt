@@ -7,17 +7,17 @@ use Rattle.map_spec.specs.Titles.{id_of}
 use Rattle.map_spec.specs.Written.{Element, Written, End, Chars, Node, size}
 use Rattle.map_spec.specs.Places.{is_topic}
 use Rattle.conref_spec.specs.Content as content
-use Rattle.conref_spec.specs.Content.{Around}
-use Rattle.conref_targets.specs.declared.standing.Standing.{Standing}
+use Rattle.conref_spec.specs.Content.{ContentAround}
+use Rattle.conref_targets.specs.declared.standing.NodeStanding.{NodeStanding}
 
-pub record Stands : Type 0 where
-  pub around : Around
+pub record StandsAround : Type 0 where
+  pub around : ContentAround
   pub depth : ℕ
 
-abbrev pub nothing_around : Stands
+abbrev pub nothing_around : StandsAround
 nothing_around = record { around = content.nothing_around; depth = 0 }
 
-abbrev pub within_element : Element → Stands → Stands
+abbrev pub within_element : Element → StandsAround → StandsAround
 within_element element stands = record {
   around = record {
     topic = if is_topic element then id_of element else stands.around.topic;
@@ -27,7 +27,7 @@ within_element element stands = record {
 }
 
 -- where the node at a place stands, counted from the first of these nodes
-abbrev pub around_at : Stands → Written → ℕ → Stands
+abbrev pub around_at : StandsAround → Written → ℕ → StandsAround
 around_at around End place = around
 around_at around (Chars text doc rest) place = if place == 0 then around else around_at around rest (place - 1)
 around_at around (Node element inside rest) place =
@@ -45,13 +45,13 @@ alone_at (Node element inside rest) place =
 
 -- The same by the nodes in front of the place: those that end behind it are around it
 
-abbrev pub entered : ℕ → doc.Node → Stands → Stands
+abbrev pub entered : ℕ → doc.Node → StandsAround → StandsAround
 entered place node around = if nat_lt place node.end then within_element (element_of [] node) around else around
 
-abbrev pub entered_all : ℕ → List doc.Node → Stands → Stands
+abbrev pub entered_all : ℕ → List doc.Node → StandsAround → StandsAround
 entered_all place [] around = around
 entered_all place (node ∷ nodes) around = entered_all place nodes (entered place node around)
 
-abbrev pub standing_shown : Standing → Stands
+abbrev pub standing_shown : NodeStanding → StandsAround
 standing_shown standing =
     record { around = record { topic = standing.topic.now; declared = standing.declared }; depth = standing.depth }

@@ -1,6 +1,6 @@
 -- Which documents are asked about where references are followed (own): those of a list, and those that answers name
 -- which were told before. Of the references of a document's elements each `conref` counts, and no `href`.
-use Rattle.std.specs.Prelude.{ℕ, List, [], ◌∷◌, ◌++◌, Option, Some, None, IsTrue, map, option_map}
+use Rattle.std.specs.Prelude.{ℕ, List, [], ◌++◌, Option, Some, None, IsTrue, map, option_map}
 use Rattle.std.specs.Arc.{arc_value}
 use Rattle.std.specs.Option.{option_and_then, option_to_list}
 use Rattle.dita_doc.specs.Siblings as siblings
@@ -15,7 +15,7 @@ use Rattle.map_spec.specs.Written.{Element, Written, written_in}
 use Rattle.readers.specs.Documents.{AsksOnly, Covers, Follows, IsGiven, MayAsk}
 use Rattle.readers.specs.Founded.{AreAllowed, StaysFounded, homes, is_among}
 use Rattle.readers.specs.Named.{name_at, name_joined, named_tree, reused_by, reused_in, reused_of_found}
-use Rattle.readers.specs.Told.{Told, document, kind, title, first, key, pushes, page_of, tried, sought}
+use Rattle.readers.specs.Told.{Told, document, kind, title, first, key, pushes, page_of, pending, pending_document}
 use Rattle.conref_targets.specs.Origin.{named_content, whole_of}
 use Rattle.conref_targets.specs.declared.find.Found.{Found}
 use Rattle.conref_targets.specs.declared.origin.Whole.{Whole}
@@ -30,8 +30,8 @@ of_content (first name id) = []
 of_content (key nodes scope text answer) = option_to_list (local_name answer.target)
 of_content (pushes documents name answer) = map (λ (push : Push). push.from) answer.pushes
 of_content (page_of pages name context answer) = []
-of_content (tried names) = []
-of_content (sought name) = []
+of_content (pending names) = []
+of_content (pending_document name) = []
 
 -- answers that were told name all of these: they may be asked about, and asked for by each rule that gives what follows
 -- for content
@@ -55,7 +55,7 @@ reused_below element inside = reused_by element ++ reused_in inside
 
 -- the element of a node that holds these siblings
 abbrev pub element_around : Siblings → Node → Element
-element_around inside node = element_of (name_at (siblings.document inside).origins node.origin) node
+element_around inside node = element_of (name_at (siblings.doc_of_siblings inside).origins node.origin) node
 
 abbrev pub reused_of_node : Siblings → Node → List (List ℕ)
 reused_of_node inside node = reused_below (element_around inside node) (named_content inside)

@@ -12,11 +12,11 @@ use Rattle.map_spec.specs.Elements.{fault_at}
 use Rattle.map_spec.specs.Keys.{key_of}
 use Rattle.map_spec.specs.Written.{Element}
 use Rattle.conref_spec.specs.Content as content
-use Rattle.conref_spec.specs.Content.{Setting, Sought, by_key, found_by, key_faults, missing_fault, value_used}
+use Rattle.conref_spec.specs.Content.{ResolveInput, Sought, by_key, found_by, conkeyref_faults, missing_fault, value_used}
 use Rattle.map_spec.specs.Places.{Standing}
-use Rattle.readers.specs.Named.{named, named_tree}
+use Rattle.readers.specs.Named.{under_names, named_tree}
 use Rattle.conref_targets.specs.Origin.{first_whole}
-use Rattle.conref_targets.specs.Parts.{IsPart, ends_of}
+use Rattle.conref_targets.specs.Parts.{AreSiblingsAt, ends_of}
 use Rattle.conref_targets.specs.Tables.{AreTables, Documents}
 use Rattle.conref_targets.specs.declared.find.Found.{Found}
 use Rattle.conref_targets.specs.declared.find.Keyed.{Keyed}
@@ -30,10 +30,10 @@ pub record StandsIn (doc : Doc) (standing : Standing) : Type 0 where
   pub line : ℕ
   pub inside : Content
   pub rest : Content
-  pub part : IsPart (tree_of doc.nodes) standing.place (tree.Element name attributes origin line inside rest)
+  pub part : AreSiblingsAt (tree_of doc.nodes) standing.place (tree.Element name attributes origin line inside rest)
   pub whole :
       first_whole doc.origins (tree.Element name attributes origin line inside rest) ≡ Some standing.whole
-  pub behind : standing.behind ≡ named doc.origins rest
+  pub behind : standing.behind ≡ under_names doc.origins rest
   pub ends :
       slice_get (ends_of (named_tree doc)) standing.place ≡
       Some (standing.place + 1 + size_of inside + size_of rest)
@@ -64,15 +64,15 @@ pub record IsSearch (documents : Documents) (meant : Option content.Found) (valu
   pub tables : AreTables documents places
 
 -- the node that defines the key of a key reference
-abbrev pub node_of_key : Setting → Option (List ℕ) → Option ℕ
+abbrev pub node_of_key : ResolveInput → Option (List ℕ) → Option ℕ
 node_of_key setting keyref = option_and_then (λ key. (setting.key (key_of key)).node) keyref
 
 -- what a key reference names, whether its key is defined, and its faults
-pub record IsKeyed (setting : Setting) (keyref : Option (List ℕ)) (old new : List Fault) (places : PlaceTables)
+pub record IsKeyed (setting : ResolveInput) (keyref : Option (List ℕ)) (old new : List Fault) (places : PlaceTables)
     (keyed : Keyed) : Type 0 where
   pub search : IsSearch setting.pushed (by_key setting keyref) (unwrap_or keyref []) places keyed.found
   pub defined : keyed.is_defined ≡ is_some (node_of_key setting keyref)
-  pub faults : new ≡ old ++ key_faults setting keyref
+  pub faults : new ≡ old ++ conkeyref_faults setting keyref
 
 -- the fault of a reference that names nothing, by whether its key is defined
 abbrev pub missing_by : Element → Sought → Bool → Fault
@@ -81,13 +81,13 @@ missing_by element sought defined = if is_some sought.conref || defined
     else fault_at element faults.KeyUndefined (key_of (unwrap_or sought.conkeyref []))
 
 -- the faults of a reference: those of its key, and its own if it names nothing
-abbrev pub search_faults : Setting → Element → Sought → Option content.Found → List Fault
+abbrev pub search_faults : ResolveInput → Element → Sought → Option content.Found → List Fault
 search_faults setting element sought None =
-    key_faults setting sought.conkeyref ++ missing_fault setting element sought ∷ []
-search_faults setting element sought (Some target) = key_faults setting sought.conkeyref
+    conkeyref_faults setting sought.conkeyref ++ missing_fault setting element sought ∷ []
+search_faults setting element sought (Some target) = conkeyref_faults setting sought.conkeyref
 
 -- what an element's reference names was looked for, and its faults were appended
-pub record IsReferenced (setting : Setting) (topic : List ℕ) (element : Element) (sought : Sought)
+pub record IsReferenced (setting : ResolveInput) (topic : List ℕ) (element : Element) (sought : Sought)
     (old new : List Fault) (places : PlaceTables) (result : Option Found) : Type 0 where
   pub search :
       IsSearch setting.pushed (found_by setting topic element sought) (value_used setting sought) places result

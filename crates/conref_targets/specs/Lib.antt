@@ -7,7 +7,6 @@ pub mod Origin
 pub mod Parts
 pub mod Ranges
 pub mod Rules
-pub mod Setting
-pub mod Shown
+pub mod ResolveInput
 pub mod Sought
 pub mod Tables

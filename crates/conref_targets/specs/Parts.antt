@@ -9,20 +9,21 @@ use Rattle.map_spec.specs.Written.{Written, End, Chars, Node, size}
 use Rattle.conref_spec.specs.Content.{has_end_id}
 
 -- these siblings of the tree stand at this place
-pub data IsPart (all : Content) : ℕ → Content → Type 0 where
-  whole : IsPart all 0 all
+pub data AreSiblingsAt (all : Content) : ℕ → Content → Type 0 where
+  whole : AreSiblingsAt all 0 all
   past_text : {place : ℕ} {text : List ℕ} {origin line : ℕ} {rest : Content}
-      → IsPart all place (tree.Chars text origin line rest) → IsPart all (place + 1) rest
+      → AreSiblingsAt all place (tree.Chars text origin line rest) → AreSiblingsAt all (place + 1) rest
   within : {place : ℕ} {name : List ℕ} {attributes : List Attribute} {origin line : ℕ} {inside rest : Content}
-      → IsPart all place (tree.Element name attributes origin line inside rest) → IsPart all (place + 1) inside
+      → AreSiblingsAt all place (tree.Element name attributes origin line inside rest)
+      → AreSiblingsAt all (place + 1) inside
   past : {place : ℕ} {name : List ℕ} {attributes : List Attribute} {origin line : ℕ} {inside rest : Content}
-      → IsPart all place (tree.Element name attributes origin line inside rest)
-      → IsPart all (place + 1 + size_of inside) rest
+      → AreSiblingsAt all place (tree.Element name attributes origin line inside rest)
+      → AreSiblingsAt all (place + 1 + size_of inside) rest
 
 -- siblings stand from one place to another
 pub record StandWithin (doc : Doc) (from to : ℕ) : Type 0 where
   pub part : Content
-  pub is : IsPart (tree_of doc.nodes) from part
+  pub is : AreSiblingsAt (tree_of doc.nodes) from part
   pub ends : from + size_of part ≡ to
 
 -- for each of these siblings and each node below, the place behind the last of its own siblings

@@ -23,30 +23,30 @@ abbrev pub rules_under : World → List ℕ → Option (List Rule)
 rules_under world name = option_map (λ (read : RulesRead). read.rules) (ditaval_in world name)
 
 -- what is kept under a name
-abbrev pub kept : RuleLists → List ℕ → Option (Option (List Rule))
-kept lists name = tree.get name_cmp lists.lists name
+abbrev pub kept_under : RuleLists → List ℕ → Option (Option (List Rule))
+kept_under lists name = tree.get name_cmp lists.lists name
 
 -- each name under which something is kept has the rules of its DITAVAL
 pub record AreRules (world : World) (lists : RuleLists) : Type 0 where
-  pub each : (name : List ℕ) (rules : Option (List Rule)) → Some rules ≡ kept lists name
+  pub each : (name : List ℕ) (rules : Option (List Rule)) → Some rules ≡ kept_under lists name
       → rules ≡ rules_under world name
 
 -- something is kept under each of these names
 abbrev pub HasAll : RuleLists → List (List ℕ) → Type 0
 HasAll lists [] = Unit {0}
-HasAll lists (name ∷ names) = (is_some (kept lists name) ≡ true) × HasAll lists names
+HasAll lists (name ∷ names) = (is_some (kept_under lists name) ≡ true) × HasAll lists names
 
 -- nothing that was kept is gone
 pub record Keeps (old new : RuleLists) : Type 0 where
-  pub each : (name : List ℕ) → is_some (kept old name) ≡ true → is_some (kept new name) ≡ true
+  pub each : (name : List ℕ) → is_some (kept_under old name) ≡ true → is_some (kept_under new name) ≡ true
 
 -- one more was read
 pub record HasRead (lists : RuleLists) (old : RuleLists) (name : List ℕ) : Type 0 where
   pub keeps : Keeps old lists
-  pub has : is_some (kept lists name) ≡ true
+  pub has : is_some (kept_under lists name) ≡ true
 
 abbrev pub rules_kept : RuleLists → List ℕ → List (List Rule)
-rules_kept lists name = option_to_list (option_and_then (λ rules. rules) (kept lists name))
+rules_kept lists name = option_to_list (option_and_then (λ rules. rules) (kept_under lists name))
 
 -- the DITAVALs of a page: the build's and its filters
 abbrev pub ditavals : Option (List ℕ) → List (List ℕ) → List (List ℕ)

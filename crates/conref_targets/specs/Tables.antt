@@ -7,7 +7,7 @@ use Rattle.std.specs.declared.vec.Vec.{Vec}
 use Rattle.dita_doc.specs.Tree.{Content}
 use Rattle.ditaval_rules.specs.Declarations.{AreDeclarations, Declaring}
 use Rattle.map_spec.specs.Written.{Written}
-use Rattle.readers.specs.Named.{named}
+use Rattle.readers.specs.Named.{under_names}
 use Rattle.topic_find.specs.Table.{IsTableFor}
 use Rattle.topic_find.specs.declared.table.TargetTable.{TargetTable}
 use Rattle.conref_targets.specs.Parts.{ends_of}
@@ -22,7 +22,7 @@ Documents = List ℕ → Option Written
 pub record AreDeclared (declared : List Declaring) (nodes : Written) : Type 0 where
   pub names : List (List ℕ)
   pub tree : Content
-  pub is : named names tree ≡ nodes
+  pub is : under_names names tree ≡ nodes
   pub are : AreDeclarations tree declared
 
 -- what is kept under a name is that of the document which stands under it

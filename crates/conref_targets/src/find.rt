@@ -11,14 +11,14 @@ ghost use Rattle.map_spec.specs.Keys as keys_spec;
 ghost use Rattle.map_spec.specs.Pages.{local_name};
 ghost use Rattle.map_spec.specs.Written.{Element};
 ghost use Rattle.conref_spec.specs.Content as content_spec;
-ghost use Rattle.conref_spec.specs.Content.{Setting};
+ghost use Rattle.conref_spec.specs.Content.{ResolveInput};
 ghost use Rattle.reader_spec.specs.World.{World};
 ghost use Rattle.readers.specs.Founded.{Grows};
 ghost use Rattle.readers.specs.Named as named_spec;
 ghost use Rattle.readers.specs.Told.{Agrees};
 ghost use Rattle.conref_targets.specs.Asking.{AreGiven, Asks, IsGivenIn, names_of_value};
 ghost use Rattle.conref_targets.specs.Found as found_spec;
-ghost use Rattle.conref_targets.specs.Setting as setting_spec;
+ghost use Rattle.conref_targets.specs.ResolveInput as setting_spec;
 ghost use Rattle.conref_targets.specs.Sought as sought_spec;
 ghost use Rattle.conref_targets.specs.Tables.{AreTables, Documents};
 
@@ -303,7 +303,7 @@ fn found_in<'b>(
     element: &Text,
     value: &'b str,
 ) -> Result<Option<Found<'b>>, NoMemory>
-    ensures known { (setting : Setting) → AreTables setting.pushed places.old
+    ensures known { (setting : ResolveInput) → AreTables setting.pushed places.old
         → setting.pushed name ≡ Some (named_spec.named_tree (arc_value doc))
         → IfOk result (λ found. found_spec.IsSearch setting.pushed
         (content_spec.found_in setting name topic.now element.now) value.now places.new found) }
@@ -331,7 +331,7 @@ pub fn around_found(
     ensures names { (documents : Documents) (meant : content_spec.Found)
         → AreTables documents places.old → found_spec.IsFound documents meant found.now
         → IfOk result (λ names. names
-        ≡ content_spec.declared_around [] meant.nodes meant.standing.place) }
+        ≡ content_spec.declared_around_written [] meant.nodes meant.standing.place) }
     ensures tables { (documents : Documents) (meant : content_spec.Found)
         → AreTables documents places.old → found_spec.IsFound documents meant found.now
         → OnOk result (AreTables documents places.new) }

@@ -90,7 +90,7 @@ fn is_judged(declared: &List<Text>, attribute: &Attribute) -> bool
 // The name is looked at first: its length tells most names apart, while a value is searched to its
 // end.
 fn is_group(declared: &List<Text>, attribute: &Attribute) -> bool
-    ensures { result ≡ judged_spec.is_group declared.now attribute.now }
+    ensures { result ≡ judged_spec.has_groups declared.now attribute.now }
 {
     is_conditional_among(declared, attribute.name.as_str()) && is_grouped(attribute)
 }

@@ -20,5 +20,5 @@ pub use origin::{Whole, node_of, origin_of, whole_at};
 pub use ranges::range_end;
 pub use reference::Sought;
 pub use rules::{PageRules, RuleLists};
-pub use standing::Standing;
+pub use standing::NodeStanding;
 pub use tables::PlaceTables;

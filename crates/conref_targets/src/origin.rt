@@ -25,7 +25,7 @@ pub struct Whole<'a> {
 
 /// The element at this place of a document; none if a text or nothing stands there.
 pub fn whole_at(doc: &Doc, place: u32) -> Option<Whole<'_>>
-    ensures whole { (part : Content) → parts_spec.IsPart (tree_spec.tree_of doc.now.nodes) place part
+    ensures whole { (part : Content) → parts_spec.AreSiblingsAt (tree_spec.tree_of doc.now.nodes) place part
         → origin_spec.begins_element part ≡ true
         → origin_spec.whole_shown result ≡ origin_spec.first_whole doc.now.origins part }
     ensures here { IfSome result (λ whole. slice_get doc.now.nodes place ≡ Some whole.node.now) }
@@ -43,7 +43,7 @@ pub fn whole_at(doc: &Doc, place: u32) -> Option<Whole<'_>>
 // An element of a document with the name of its origin.
 fn whole_of<'a>(doc: &'a Doc, node: &'a Node, inside: Siblings<'a>) -> Option<Whole<'a>>
     ensures whole { (place : ℕ) (part : Content) → siblings_spec.IsElementAt doc.now place node.now inside.entry
-        → parts_spec.IsPart (tree_spec.tree_of doc.now.nodes) place part
+        → parts_spec.AreSiblingsAt (tree_spec.tree_of doc.now.nodes) place part
         → origin_spec.begins_element part ≡ true
         → origin_spec.whole_shown result ≡ origin_spec.first_whole doc.now.origins part }
     ensures node { IfSome result (λ whole. whole.node.now ≡ node.now) }

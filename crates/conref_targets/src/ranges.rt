@@ -80,9 +80,9 @@ fn end_id(alloc: Global, value: &str) -> Result<Option<Text>, NoMemory>
 
 // Among the siblings from one place to another, the place behind the first element of this id.
 fn end_of_range(doc: &Doc, from: u32, to: u32, id: &str) -> Option<u32>
-    ensures { (part : Content) → parts_spec.IsPart (tree_spec.tree_of doc.now.nodes) from part
+    ensures { (part : Content) → parts_spec.AreSiblingsAt (tree_spec.tree_of doc.now.nodes) from part
         → from + tree_spec.size_of part ≡ to → result ≡ parts_spec.end_place id.now from
-        (named_spec.named doc.now.origins part) }
+        (named_spec.under_names doc.now.origins part) }
 {
     let mut place = from;
     for _ in from..to {

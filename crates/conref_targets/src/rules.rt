@@ -9,7 +9,7 @@ ghost use Rattle.readers.specs.Documents.{AsksOnly};
 ghost use Rattle.readers.specs.Founded.{Grows, StaysFounded};
 ghost use Rattle.readers.specs.Told.{Agrees, tree_found};
 ghost use Rattle.conref_targets.specs.Rules as rules_spec;
-ghost use Rattle.conref_targets.specs.Shown.{shown};
+ghost use Rattle.dita_doc.specs.Shown.{shown};
 
 use dita_doc::{Attribute, Context, Doc, List, Name, NoMemory, Rule, Stop, Text};
 use ditaval_rules::{NotDitaval, RuleTable, read_rules};
@@ -178,7 +178,7 @@ pub struct PageRules<'a> {
 impl<'a> Model for PageRules<'a> {
     ghost use Rattle.std.specs.Prelude.{◌≡◌, List, take, length};
     ghost use Rattle.dita_doc.specs.declared.content.Rule.{Rule};
-    ghost use Rattle.conref_targets.specs.Shown.{shown};
+    ghost use Rattle.dita_doc.specs.Shown.{shown};
 
     ghost Value = { List (List Rule) };
 

@@ -13,19 +13,19 @@ use std::alloc::Global;
 /// Where a node stands: the id of the nearest topic around it, the names of conditional attributes
 /// that are declared around it, and how many elements are around it.
 #[derive(Drop)]
-pub struct Standing<'a> {
+pub struct NodeStanding<'a> {
     pub topic: &'a str,
     pub declared: List<Text>,
     pub depth: usize,
 }
 
-impl<'a> Standing<'a> {
+impl<'a> NodeStanding<'a> {
     ghost use Rattle.std.specs.Prelude.{◌≡◌, ◌<◌, IfOk};
     ghost use Rattle.readers.specs.Named.{named_tree};
     ghost use Rattle.conref_targets.specs.Around as around_spec;
 
     /// Where the node at this place stands, by a walk over the nodes before it.
-    pub fn at(alloc: Global, doc: &'a Doc, place: u32) -> Result<Standing<'a>, NoMemory>
+    pub fn at(alloc: Global, doc: &'a Doc, place: u32) -> Result<NodeStanding<'a>, NoMemory>
         ensures { IfOk result (λ standing. around_spec.standing_shown standing
             ≡ around_spec.around_at around_spec.nothing_around (named_tree doc.now) place) }
     {
@@ -35,7 +35,7 @@ impl<'a> Standing<'a> {
     }
 
     // The same once a node was passed that stands in front of the place.
-    fn passed(self, alloc: Global, node: &'a Node, place: u32) -> Result<Standing<'a>, NoMemory>
+    fn passed(self, alloc: Global, node: &'a Node, place: u32) -> Result<NodeStanding<'a>, NoMemory>
         requires { self.depth < 4294967296 }
         ensures { IfOk result (λ standing. around_spec.standing_shown standing
             ≡ around_spec.entered place node.now (around_spec.standing_shown self.entry)) }
@@ -44,12 +44,12 @@ impl<'a> Standing<'a> {
             return Ok(self);
         }
         let own = own_names(alloc, node)?;
-        let Standing {
+        let NodeStanding {
             topic,
             declared,
             depth,
         } = self;
-        Ok(Standing {
+        Ok(NodeStanding {
             topic: topic_inside(node, topic),
             declared: own.unwrap_or(declared),
             depth: depth + 1,
@@ -58,12 +58,12 @@ impl<'a> Standing<'a> {
 }
 
 // Where the node at this place stands, behind these nodes.
-fn behind<'a>(alloc: Global, nodes: &'a [Node], place: u32) -> Result<Standing<'a>, NoMemory>
+fn behind<'a>(alloc: Global, nodes: &'a [Node], place: u32) -> Result<NodeStanding<'a>, NoMemory>
     requires { length nodes.now < 4294967296 }
     ensures { IfOk result (λ standing. around_spec.standing_shown standing
         ≡ around_spec.entered_all place nodes.now around_spec.nothing_around) }
 {
-    let mut standing = Standing {
+    let mut standing = NodeStanding {
         topic: "",
         declared: List::new(alloc),
         depth: 0,

@@ -3,7 +3,7 @@
 ghost use Rattle.std.specs.Prelude.{◌≡◌, ◌+◌, ◌++◌, [], Some, IfOk, OnOk, slice_get};
 ghost use Rattle.dita_doc.specs.Tree as tree_spec;
 ghost use Rattle.dita_doc.specs.Tree.{Content};
-ghost use Rattle.conref_spec.specs.Content.{declared_around};
+ghost use Rattle.conref_spec.specs.Content.{declared_around_written};
 ghost use Rattle.readers.specs.Named as named_spec;
 ghost use Rattle.topic_find.specs.Walk as walk_spec;
 ghost use Rattle.conref_targets.specs.Parts as parts_spec;
@@ -103,7 +103,7 @@ impl PlaceTables {
         ensures names { (documents : Documents) → tables_spec.AreTables documents self.old
             → documents name.now ≡ Some (named_spec.named_tree doc.now)
             → IfOk result (λ names. names
-            ≡ declared_around [] (named_spec.named_tree doc.now) place) }
+            ≡ declared_around_written [] (named_spec.named_tree doc.now) place) }
         ensures known { (documents : Documents) → tables_spec.AreTables documents self.old
             → documents name.now ≡ Some (named_spec.named_tree doc.now)
             → OnOk result (tables_spec.AreTables documents self.new) }
@@ -135,10 +135,10 @@ fn ends_in(alloc: Global, doc: &Doc) -> Result<Vec<u32>, NoMemory>
 
 // Puts the place where these siblings end, for each of them, and so for all that they hold.
 fn put_ends(ends: &mut Vec<u32>, doc: &Doc, from: u32, to: u32) -> Result<(), NoMemory>
-    ensures { (part : Content) → parts_spec.IsPart (tree_spec.tree_of doc.now.nodes) from part
+    ensures { (part : Content) → parts_spec.AreSiblingsAt (tree_spec.tree_of doc.now.nodes) from part
         → from + tree_spec.size_of part ≡ to
         → OnOk result (ends.new.items ≡ ends.old.items ++ parts_spec.ends_from to from
-        (named_spec.named doc.now.origins part)) }
+        (named_spec.under_names doc.now.origins part)) }
 {
     let mut place = from;
     for _ in from..to {

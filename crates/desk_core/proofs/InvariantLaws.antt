@@ -3,7 +3,7 @@ use Rattle.std.proofs.Common.{◌≡◌, ◌+◌, ◌<◌, ◌≤◌, ◌⊎◌,
 use Rattle.std.specs.Arc.{arc_value}
 use Rattle.std.proofs.lemmas.List.{take_all}
 use Rattle.std.proofs.lemmas.Option.{none-some, same_Some}
-use Rattle.dita_doc.specs.Desk.{State, Stored, found, reply}
+use Rattle.dita_doc.specs.Desk.{State, Stored, stored_under, reply}
 use Rattle.dita_doc.specs.History.{Entry, replay, sources}
 use Rattle.dita_doc.specs.Request.{Request, Build}
 use Rattle.dita_doc.specs.declared.fact.FactKey.{FactKey}
@@ -27,7 +27,7 @@ use Rattle.version_store.specs.Kept.{Fits, Kept, answered, next_entry, nothing_k
 -- The store
 
 versions_of : (history : List Entry) (name : List ℕ) (stored : Stored)
-    → found (sources history (length history)) name ≡ Some stored → ComesFrom history stored
+    → stored_under (sources history (length history)) name ≡ Some stored → ComesFrom history stored
 versions_of history name stored is = subst (λ (h : List Entry). ComesFrom h stored)
     (take_all (length history) history (omega arith)) (from_sources history (length history) name stored is)
 

@@ -1,17 +1,18 @@
 -- The stamp of a history: what was stored after as many entries as it says is what is stored after all.
-use Rattle.std.proofs.Common.{◌≡◌, ◌+◌, ◌≤◌, ℕ, Bool, true, false, List, [], ◌∷◌, ◌++◌, Option, Some, None, refl, sym, ap, subst, ◌∙◌, length, reverse, slice_get, take, if◌then◌else◌, arith, length-append}
+use Rattle.std.proofs.Common.{◌≡◌, ◌+◌, ◌≤◌, ℕ, Bool, true, false, List, [], ◌∷◌, ◌++◌, Option, Some, None, refl, sym, ap, subst, ◌∙◌, length, reverse, take, if◌then◌else◌, arith, length-append}
 use Rattle.std.proofs.lemmas.List.{length-reverse, reverse-append, reverse-reverse, take-append-le, take_all}
 use Rattle.std.proofs.lemmas.Bool.Decides.{nat_tests}
 use Rattle.dita_doc.specs.Desk.{Halt, Reply, State, IsStored, IsRemoved, IsGrouped, after_edit, after_edits, edit_reply, group_reply, halt_of, next, reply, unless_halted}
 use Rattle.dita_doc.specs.History.{Entry, IsLegal, replay, sources}
 use Rattle.dita_doc.specs.Request.{Edit, Put, PutIf, Remove, Request, Single, Get, Names, Build, Group}
+use Rattle.dita_doc.proofs.Lists.{get_pushed}
 use Rattle.desk_core.specs.Book.{is_change, snapshot_of, stamp_newest, stamp_of}
 use Rattle.desk_core.specs.Invariant.{IsStore}
 use Rattle.desk_core.specs.Steps.{IsSnapshotOf}
 use Rattle.version_store.proofs.HistoryLaws.{legal_at, legal_take, replay_push, sources_all, sources_prefix}
 use Rattle.version_store.specs.Kept.{Kept}
 
-abbrev IsFalse : Bool → Type 0
+abbrev pub IsFalse : Bool → Type 0
 IsFalse true = ⊥
 IsFalse false = Unit {0}
 
@@ -49,10 +50,6 @@ request_leaves state place (Group edits) none_changed =
 
 -- The last entry of a legal history
 
-slice_get-last : {X : Type 0} (xs : List X) (x : X) → slice_get (xs ++ x ∷ []) (length xs) ≡ Some x
-slice_get-last [] x = refl
-slice_get-last (y ∷ xs) x = slice_get-last xs x
-
 first_ones : (history : List Entry) (entry : Entry) → take (length history) (history ++ entry ∷ []) ≡ history
 first_ones history entry = take-append-le (length history) history (entry ∷ []) (omega arith)
     ∙ take_all (length history) history (omega arith)
@@ -61,7 +58,7 @@ entry_leaves : (history : List Entry) (entry : Entry) → IsLegal (history ++ en
     → is_change entry.reply ≡ false → replay [] 0 (history ++ entry ∷ []) ≡ replay [] 0 history
 entry_leaves history entry legal none_changed =
     let answered : entry.reply ≡ reply (replay [] 0 history) (0 + length history) entry.request =
-    legal_at [] 0 (history ++ entry ∷ []) (length history) entry legal (slice_get-last history entry)
+    legal_at [] 0 (history ++ entry ∷ []) (length history) entry legal (get_pushed history entry)
     ∙ ap (λ (first : List Entry). reply (replay [] 0 first) (0 + length history) entry.request) (first_ones history entry) in
     replay_push [] 0 history entry
     ∙ request_leaves (replay [] 0 history) (0 + length history) entry.request

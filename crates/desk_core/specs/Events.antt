@@ -18,13 +18,13 @@ pub data Event : Type 0 where
   Publish : (claim : rows.Claim) (fact : Fact) → Event
   Release : (claim : rows.Claim) → Event
 
-pub data Answer : Type 0 where
-  Placed : (place : ℕ) (reply : Reply) → Answer
-  Begun : (place : ℕ) (snapshot : SnapshotData) → Answer
-  Claimed : (answer : ClaimAnswer) → Answer
-  Published : (row : rows.RowData) → Answer
-  Released : Answer
+pub data EventAnswer : Type 0 where
+  Placed : (place : ℕ) (reply : Reply) → EventAnswer
+  Begun : (place : ℕ) (snapshot : SnapshotData) → EventAnswer
+  Claimed : (answer : ClaimAnswer) → EventAnswer
+  Published : (row : rows.RowData) → EventAnswer
+  Released : EventAnswer
 
 -- how an event ends: with an answer, with no room for one more request, or out of memory
 abbrev pub Ending : Type 0
-Ending = Result Answer (Stop Full)
+Ending = Result EventAnswer (Stop Full)

@@ -1,6 +1,6 @@
 -- What holds of a book between any two events (own).
 use Rattle.std.specs.Prelude.{◌≡◌, ◌+◌, ◌<◌, ◌≤◌, ℕ, List, Some, length, slice_get}
-use Rattle.dita_doc.specs.Desk.{Stored, found}
+use Rattle.dita_doc.specs.Desk.{Stored, stored_under}
 use Rattle.dita_doc.specs.History.{Entry, IsLegal, history_size, sources}
 use Rattle.desk_core.specs.Book.{BookData}
 use Rattle.facts.specs.Latest.{Agrees, FactAgrees}
@@ -16,7 +16,7 @@ use Rattle.version_store.specs.Kept.{Kept, stored_now}
 -- than the place of the entry that stored it.
 pub record IsStore (store : Kept) : Type 0 where
   pub legal : IsLegal store.history
-  pub versions : (name : List ℕ) (stored : Stored) → found (stored_now store) name ≡ Some stored
+  pub versions : (name : List ℕ) (stored : Stored) → stored_under (stored_now store) name ≡ Some stored
       → ComesFrom store.history stored
   pub entries : length store.history ≤ store.entry_limit
   pub text : history_size store.history ≤ store.text_limit

@@ -15,7 +15,7 @@ use Rattle.dita_doc.specs.declared.fact.FactKey.{FactKey}
 use Rattle.dita_doc.specs.declared.fact.Part.TheVariants as parts
 use Rattle.dita_doc.specs.declared.plan.PlanStop.TheVariants as stops
 use Rattle.desk_core.specs.Book.{BookData, SnapshotData, new_book, snapshot_of}
-use Rattle.desk_core.specs.Events.{Begin, Begun, Claim, Claimed, Commit, Event, Answer, Placed, Publish, Published}
+use Rattle.desk_core.specs.Events.{Begin, Begun, Claim, Claimed, Commit, Event, EventAnswer, Placed, Publish, Published}
 use Rattle.desk_core.specs.Steps.{AreSteps, EventDone, IsSnapshotOf, IsStep}
 use Rattle.facts.specs.Latest.{FactAgrees, Have, IsClaimAnswer, Taken, Yours}
 use Rattle.facts.specs.Rows as rows
@@ -107,7 +107,7 @@ four_entries any = refl
 
 -- The events
 
-abbrev done : Event → Answer → EventDone
+abbrev done : Event → EventAnswer → EventDone
 done event answer = record { event = event; ending = Ok answer }
 
 abbrev plan_key : FactKey

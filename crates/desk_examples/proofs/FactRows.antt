@@ -23,6 +23,7 @@ use Rattle.map_spec.specs.Included.{root_in}
 use Rattle.map_spec.specs.PlanOf.{limits, plan_of, plan_of_root}
 use Rattle.reader_spec.specs.World.{World}
 use Rattle.readers.specs.Founded.{is_among}
+use Rattle.desk_core.proofs.StampLaws.{IsFalse}
 use Rattle.desk_examples.proofs.Small.{Share, key_of}
 
 abbrev m : List ℕ
@@ -43,12 +44,8 @@ stop any asked = record {
 abbrev absent : List ℕ → Asked
 absent name = record { question = questions.Document name; answered = answers.Document None }
 
-abbrev IsNot : Bool → Type 0
-IsNot true = ⊥
-IsNot false = Unit {0}
-
 false_is_true : false ≡ true → ⊥
-false_is_true same = subst IsNot same tt
+false_is_true same = subst IsFalse same tt
 
 first_of_two : (b c : Bool) → IsTrue (b || false) → IsTrue (b || c)
 first_of_two true c is = refl

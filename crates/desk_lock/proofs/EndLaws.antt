@@ -14,7 +14,7 @@ use Rattle.desk_core.specs.Book.{BookData}
 use Rattle.desk_lock.specs.Knows.{ends, let_go, row_serials, serials}
 use Rattle.desk_lock.specs.Lists.{Each, IsNoneOf}
 use Rattle.desk_lock.specs.Past.{IsDrawn, Past}
-use Rattle.desk_lock.specs.Rule.{Fits, Stocked, running_serials}
+use Rattle.desk_lock.specs.Rule.{IsOfPast, Stocked, running_serials}
 use Rattle.desk_lock.specs.declared.view.View.{View}
 use Rattle.desk_lock.proofs.EventLaws.{stamps_seen}
 use Rattle.desk_lock.proofs.LearnsLaws.{drawn_once, none_ended}
@@ -158,7 +158,7 @@ module _ (past : Past) (book : BookData) (views : List View) (by : ℕ) (v : Vie
       let b = sum_by-append weight (row_serials v.published) v.released in
       let p = sum_by_push weight v.released claim.serial in omega arith
 
-  fits_let_go : Fits past (let_go v past.log claim.serial)
+  fits_let_go : IsOfPast past (let_go v past.log claim.serial)
   fits_let_go = let fits = ruled.fits by v at in record {
     seen = ([], sym (append-nil past.log));
     also = fits.also;

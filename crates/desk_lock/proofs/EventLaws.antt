@@ -1,5 +1,5 @@
 -- Opening the gate after no event, after an entry and after a claim keeps the rule.
-use Rattle.std.proofs.Common.{◌≡◌, ◌≢◌, ℕ, zero, suc, ◌+◌, ◌<◌, ◌≤◌, ◌⊎◌, List, [], ◌∷◌, ◌++◌, Option, Some, None, refl, sym, ap, ◌∙◌, subst, inl, inr, ⊎_elim, arith, length, map, set, get_or-set_same, length-append, length-set, append_assoc, sum_by}
+use Rattle.std.proofs.Common.{◌≡◌, ℕ, zero, suc, ◌<◌, ◌≤◌, ◌⊎◌, List, [], ◌∷◌, ◌++◌, Option, Some, None, refl, sym, ap, ◌∙◌, subst, inl, inr, ⊎_elim, arith, length, map, set, get_or-set_same, length-append, length-set, append_assoc, sum_by}
 use Rattle.std.specs.List.{slice_get}
 use Rattle.std.proofs.lemmas.List.{append-nil}
 use Rattle.std.proofs.lemmas.List.Sums.{sum_by-append, sum_by-cons, sum_by_push}
@@ -16,7 +16,7 @@ use Rattle.desk_core.specs.Book.{BookData}
 use Rattle.desk_lock.specs.Knows.{drew, ends, given, has_met, known, looked, made, serials, spent_view, with_session}
 use Rattle.desk_lock.specs.Lists.{Each, StartsWith}
 use Rattle.desk_lock.specs.Past.{IsCounted, IsDrawn, IsMade, IsPrinted, Past, placed}
-use Rattle.desk_lock.specs.Rule.{Fits, IsOpen, IsShut, Kept, Stocked, running_serials}
+use Rattle.desk_lock.specs.Rule.{IsOfPast, IsOpen, IsShut, RuleKept, Stocked, running_serials}
 use Rattle.desk_lock.specs.declared.view.View.{View}
 use Rattle.desk_lock.proofs.GateLaws.{kept_of, ruled_of}
 use Rattle.desk_lock.proofs.RuledLaws.{Ruled, Shifts, ruled_set}
@@ -31,16 +31,6 @@ each_with P (y ∷ ys) x each last = (each.0, each_with P ys x each.1 last)
 pub each_map : {X : Type 0} (P Q : X → Type 0) (xs : List X) → ((x : X) → P x → Q x) → Each P xs → Each Q xs
 each_map P Q [] onward each = tt
 each_map P Q (x ∷ xs) onward each = (onward x each.0, each_map P Q xs onward each.1)
-
-pub get_before : {X : Type 0} (xs more : List X) (k : ℕ) (x : X) → slice_get xs k ≡ Some x
-    → slice_get (xs ++ more) k ≡ Some x
-get_before [] more k x e = absurd (none-some x e)
-get_before (y ∷ ys) more zero x e = e
-get_before (y ∷ ys) more (suc k) x e = get_before ys more k x e
-
-pub get_last : {X : Type 0} (xs : List X) (x : X) → slice_get (xs ++ x ∷ []) (length xs) ≡ Some x
-get_last [] x = refl
-get_last (y ∷ ys) x = get_last ys x
 
 pub get_either : {X : Type 0} (xs : List X) (last : X) (k : ℕ) (x : X) → slice_get (xs ++ last ∷ []) k ≡ Some x
     → (slice_get xs k ≡ Some x) ⊎ ((k ≡ length xs) × (last ≡ x))
@@ -63,10 +53,10 @@ starts_length xs first starts =
 
 module _ {B : Type 0} (shown : B → BookData) where
   -- who holds the gate opens it with a book, of which the rule but for the gate holds
-  pub opens_gate : (s : State (Option B) View) (h : Kept shown s) (by : ℕ) (v : View) (taken : BookData)
+  pub opens_gate : (s : State (Option B) View) (h : RuleKept shown s) (by : ℕ) (v : View) (taken : BookData)
       → get_elem? s.views by ≡ some v → v.held ≡ Some taken → (inside : B) (w : View) (then : Past) → w.held ≡ None
       → length s.homes ≡ 1 → (h.book ≡ taken → Ruled then (shown inside) (set s.views by w))
-      → Kept shown (record {
+      → RuleKept shown (record {
         words = set s.words 0 0;
         homes = set s.homes 0 (some (Some inside));
         views = set s.views by w;
@@ -78,11 +68,11 @@ module _ {B : Type 0} (shown : B → BookData) where
       (λ differ. absurd (none-some taken (sym (shut_gate.others by v differ at) ∙ held))))
       h.gate
     where
-      opened : (s : State (Option B) View) (h : Kept shown s) (by : ℕ) (v : View) (taken : BookData)
+      opened : (s : State (Option B) View) (h : RuleKept shown s) (by : ℕ) (v : View) (taken : BookData)
           → get_elem? s.views by ≡ some v → v.held ≡ Some taken → (inside : B) (w : View) (then : Past) → w.held ≡ None
           → length s.homes ≡ 1 → (h.book ≡ taken → Ruled then (shown inside) (set s.views by w))
           → (shut_gate : IsShut shown s h.book) → by ≡ shut_gate.holder
-          → Kept shown (record {
+          → RuleKept shown (record {
             words = set s.words 0 0;
             homes = set s.homes 0 (some (Some inside));
             views = set s.views by w;
@@ -108,14 +98,14 @@ module _ {B : Type 0} (shown : B → BookData) where
 
 -- A party that has seen the whole history
 
-module _ (past : Past) (v : View) (fits : Fits past v) where
+module _ (past : Past) (v : View) (fits : IsOfPast past v) where
   pub stamps_seen : (log : List Entry) → StartsWith log v.seen
       → Each (λ (claim : Claim). claim.stamp ≤ length log) v.drawn
   stamps_seen log starts = each_map (λ (claim : Claim). claim.stamp ≤ length v.seen)
       (λ (claim : Claim). claim.stamp ≤ length log) v.drawn
       (λ claim below. let l = starts_length log v.seen starts in omega arith) fits.stamps
 
-  fits_looked : Fits past (looked v past.log)
+  fits_looked : IsOfPast past (looked v past.log)
   fits_looked = record {
     seen = ([], sym (append-nil past.log));
     also = fits.also;
@@ -130,7 +120,7 @@ module _ (past : Past) (v : View) (fits : Fits past v) where
     own = fits.own;
   }
 
-  fits_given : (row : RowData) → IsPrinted past.prints row → Fits past (given v past.log row)
+  fits_given : (row : RowData) → IsPrinted past.prints row → IsOfPast past (given v past.log row)
   fits_given row print = record {
     seen = ([], sym (append-nil past.log));
     also = fits.also;
@@ -145,7 +135,7 @@ module _ (past : Past) (v : View) (fits : Fits past v) where
     own = fits.own;
   }
 
-  fits_met : (claim : Claim) → IsDrawn past.draws claim → Fits past (has_met v past.log claim)
+  fits_met : (claim : Claim) → IsDrawn past.draws claim → IsOfPast past (has_met v past.log claim)
   fits_met claim drawn = record {
     seen = ([], sym (append-nil past.log));
     also = fits.also;

@@ -11,7 +11,7 @@ use Rattle.desk_core.specs.Book.{BookData}
 use Rattle.desk_lock.specs.Knows.{holding}
 use Rattle.desk_lock.specs.Learns.{Learns}
 use Rattle.desk_lock.specs.Past.{Past}
-use Rattle.desk_lock.specs.Rule.{Fits, IsOpen, IsShut, Kept}
+use Rattle.desk_lock.specs.Rule.{IsOfPast, IsOpen, IsShut, RuleKept}
 use Rattle.desk_lock.specs.Steps.{Tries}
 use Rattle.desk_lock.specs.declared.view.View.{View}
 use Rattle.desk_lock.proofs.LearnsLaws.{learns}
@@ -19,7 +19,7 @@ use Rattle.desk_lock.proofs.RuledLaws.{Ruled, ruled_set}
 use Rattle.desk_lock.proofs.Weights.{at_within}
 
 module _ {B : Type 0} (shown : B → BookData) where
-  pub ruled_of : (s : State (Option B) View) (h : Kept shown s) → Ruled h.past h.book s.views
+  pub ruled_of : (s : State (Option B) View) (h : RuleKept shown s) → Ruled h.past h.book s.views
   ruled_of s h = record {
     counted = h.counted;
     stock = h.stock;
@@ -30,7 +30,7 @@ module _ {B : Type 0} (shown : B → BookData) where
   }
 
   pub kept_of : (s : State (Option B) View) (past : Past) (book : BookData) → length s.words ≡ 1
-      → IsOpen shown s book ⊎ IsShut shown s book → Ruled past book s.views → Kept shown s
+      → IsOpen shown s book ⊎ IsShut shown s book → Ruled past book s.views → RuleKept shown s
   kept_of s past book one gate ruled = record {
     past = past;
     book = book;
@@ -44,7 +44,7 @@ module _ {B : Type 0} (shown : B → BookData) where
     spent = ruled.spent;
   }
 
-  fits_holding : (past : Past) (v : View) (book : BookData) → Fits past v → Fits past (holding v book)
+  fits_holding : (past : Past) (v : View) (book : BookData) → IsOfPast past v → IsOfPast past (holding v book)
   fits_holding past v book f = record {
     seen = f.seen;
     also = f.also;
@@ -75,9 +75,9 @@ module _ {B : Type 0} (shown : B → BookData) where
       (fits_holding past v held (ruled.fits by v at)) (λ u f. f) (inr (refl, refl)) some_part
 
   -- if the gate is open, the party shuts it and has the book
-  takes_gate : (s : State (Option B) View) (h : Kept shown s) (by : ℕ) (v : View) → get_elem? s.views by ≡ some v
+  takes_gate : (s : State (Option B) View) (h : RuleKept shown s) (by : ℕ) (v : View) → get_elem? s.views by ≡ some v
       → 0 < v.parts → (open_gate : IsOpen shown s h.book)
-      → Kept shown (record {
+      → RuleKept shown (record {
         words = set s.words 0 1;
         homes = set s.homes 0 none;
         views = set s.views by (holding v (shown open_gate.inside));
@@ -99,14 +99,14 @@ module _ {B : Type 0} (shown : B → BookData) where
 
   -- a try keeps the rule, and tells what it says
   pub tries : (slots by : ℕ) (v : View) → 0 < v.parts
-      → Allows (Kept shown) slots by (v, []) 0 (λ n. either (eqb n 0) 1 n) (Tries shown (v, []))
+      → Allows (RuleKept shown) slots by (v, []) 0 (λ n. either (eqb n 0) 1 n) (Tries shown (v, []))
   tries slots by v some_part s h wide at bound = dite (ℕ_discrete (get_or s.words 0 0) 0)
       (λ is_open. ⊎_elim
       (λ open_gate. (
         holding v (shown open_gate.inside),
         takes 0 (Some open_gate.inside),
         open_gate.home,
-        subst (λ (n : ℕ). Kept shown (record {
+        subst (λ (n : ℕ). RuleKept shown (record {
           words = set s.words 0 n;
           homes = set s.homes 0 none;
           views = set s.views by (holding v (shown open_gate.inside));
@@ -129,12 +129,13 @@ module _ {B : Type 0} (shown : B → BookData) where
         v,
         keeps,
         tt,
-        subst (λ (n : ℕ). Kept shown (record { words = set s.words 0 n; homes = s.homes; views = set s.views by v }))
+        subst (λ (n : ℕ). RuleKept shown
+            (record { words = set s.words 0 n; homes = s.homes; views = set s.views by v }))
             (sym (ap (λ b. either b 1 (get_or s.words 0 0)) (ne_eqb (get_or s.words 0 0) 0 is_shut)))
-            (subst (λ (words : List ℕ). Kept shown
+            (subst (λ (words : List ℕ). RuleKept shown
             (record { words = words; homes = s.homes; views = set s.views by v }))
             (same_words s.words h.one)
-            (subst (λ (views : List View). Kept shown (record { words = s.words; homes = s.homes; views = views }))
+            (subst (λ (views : List View). RuleKept shown (record { words = s.words; homes = s.homes; views = views }))
             (sym (set_again s.views by v at)) h)),
         ((λ zero. absurd (is_shut zero)), (λ other. refl)),
       ))

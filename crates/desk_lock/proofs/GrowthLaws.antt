@@ -6,14 +6,15 @@ use Rattle.std.proofs.lemmas.List.Sums.{sum_by-append, sum_by-cons, sum_by_push}
 use mathlib.Core.Option.{some}
 use lib.ListN.{get_elem?}
 use Rattle.dita_doc.specs.History.{Entry}
+use Rattle.dita_doc.proofs.Lists.{get_front, get_pushed}
 use Rattle.facts.specs.Rows.{Claim, RowData, Running, claim_of}
 use Rattle.desk_core.specs.Book.{BookData}
 use Rattle.desk_lock.specs.Knows.{drew, ends, known, made, serials, with_session}
 use Rattle.desk_lock.specs.Lists.{Each, StartsWith}
 use Rattle.desk_lock.specs.Past.{IsCounted, IsDrawn, IsMade, IsPrinted, Past, placed, row_claim}
-use Rattle.desk_lock.specs.Rule.{Fits, Stocked, running_serials}
+use Rattle.desk_lock.specs.Rule.{IsOfPast, Stocked, running_serials}
 use Rattle.desk_lock.specs.declared.view.View.{View}
-use Rattle.desk_lock.proofs.EventLaws.{each_map, each_with, get_before, get_either, get_last, stamps_seen, starts_longer}
+use Rattle.desk_lock.proofs.EventLaws.{each_map, each_with, get_either, stamps_seen, starts_longer}
 use Rattle.desk_lock.proofs.RuledLaws.{Ruled, Shifts, ruled_set}
 use Rattle.desk_lock.proofs.Weights.{sum_by-map}
 
@@ -50,13 +51,13 @@ module _ (past : Past) (entry : Entry) where
   logged = record past { log = past.log ++ entry ∷ [] }
 
   made_longer : (place session : ℕ) → IsMade past.log place session → IsMade logged.log place session
-  made_longer place session made = (made.0, get_before past.log (entry ∷ []) place made.0 made.1, made.2)
+  made_longer place session made = (made.0, get_front past.log (entry ∷ []) place made.0 made.1, made.2)
 
   counted_logged : IsCounted past → IsCounted logged
   counted_logged counted =
       record { draws = counted.draws; ranks = counted.ranks; marks = counted.marks; plans = counted.plans }
 
-  fits_logged : (u : View) → Fits past u → Fits logged u
+  fits_logged : (u : View) → IsOfPast past u → IsOfPast logged u
   fits_logged u fits = record {
     seen = starts_longer past.log u.seen (entry ∷ []) fits.seen;
     also = starts_longer past.log u.also (entry ∷ []) fits.also;
@@ -73,14 +74,14 @@ module _ (past : Past) (entry : Entry) where
     own = fits.own;
   }
 
-  fits_made : (v : View) (place : ℕ) → place ≡ length past.log → entry.session ≡ v.session → Fits past v
-      → Fits logged (made v logged.log place)
+  fits_made : (v : View) (place : ℕ) → place ≡ length past.log → entry.session ≡ v.session → IsOfPast past v
+      → IsOfPast logged (made v logged.log place)
   fits_made v place at session fits = let longer = fits_logged v fits in record {
     seen = ([], sym (append-nil logged.log));
     also = longer.also;
     limits = fits.limits;
     mine = each_with (λ place. IsMade logged.log place v.session) v.mine place longer.mine
-        (entry, ap (λ (n : ℕ). slice_get logged.log n) at ∙ get_last past.log entry, session);
+        (entry, ap (λ (n : ℕ). slice_get logged.log n) at ∙ get_pushed past.log entry, session);
     theirs = longer.theirs;
     drawn = fits.drawn;
     stamps = stamps_seen past v fits logged.log longer.seen;
@@ -133,7 +134,7 @@ module _ (past : Past) (claim : Claim) where
   granted = record past { draws = past.draws ++ claim ∷ [] }
 
   drawn_longer : (other : Claim) → IsDrawn past.draws other → IsDrawn granted.draws other
-  drawn_longer other drawn = (drawn.0, get_before past.draws (claim ∷ []) drawn.0 other drawn.1, drawn.2)
+  drawn_longer other drawn = (drawn.0, get_front past.draws (claim ∷ []) drawn.0 other drawn.1, drawn.2)
 
   counted_granted : claim.serial ≡ suc (length past.draws) → IsCounted past → IsCounted granted
   counted_granted serial counted = record {
@@ -151,7 +152,7 @@ module _ (past : Past) (claim : Claim) where
       → IsPrinted granted.prints row × IsDrawn granted.draws (row_claim row)
   published_longer row both = (both.0, drawn_longer (row_claim row) both.1)
 
-  fits_granted : (u : View) → Fits past u → Fits granted u
+  fits_granted : (u : View) → IsOfPast past u → IsOfPast granted u
   fits_granted u fits = record {
     seen = fits.seen;
     also = fits.also;
@@ -169,10 +170,10 @@ module _ (past : Past) (claim : Claim) where
   }
 
   claim_is_drawn : claim.serial ≡ suc (length past.draws) → IsDrawn granted.draws claim
-  claim_is_drawn serial = (length past.draws, get_last past.draws claim, serial)
+  claim_is_drawn serial = (length past.draws, get_pushed past.draws claim, serial)
 
-  fits_drew : (v : View) → claim.serial ≡ suc (length past.draws) → claim.stamp ≤ length past.log → Fits past v
-      → Fits granted (drew v past.log claim)
+  fits_drew : (v : View) → claim.serial ≡ suc (length past.draws) → claim.stamp ≤ length past.log → IsOfPast past v
+      → IsOfPast granted (drew v past.log claim)
   fits_drew v serial stamp fits = let longer = fits_granted v fits in record {
     seen = ([], sym (append-nil past.log));
     also = fits.also;

@@ -17,7 +17,7 @@ use Rattle.desk_core.specs.Book.{BookData}
 use Rattle.desk_lock.specs.Knows.{both, ends, known, longer, row_serials, serials, settled, shorter, spent_view, with_session}
 use Rattle.desk_lock.specs.Lists.{Each, StartsWith}
 use Rattle.desk_lock.specs.Past.{IsDrawn, IsMade, IsPrinted, Past, placed, row_claim}
-use Rattle.desk_lock.specs.Rule.{Counts, Fits, IsOpen, IsShut, Kept}
+use Rattle.desk_lock.specs.Rule.{Counts, IsOfPast, IsOpen, IsShut, RuleKept}
 use Rattle.desk_lock.specs.Steps.{Compares}
 use Rattle.desk_lock.specs.declared.view.View.{View}
 use Rattle.desk_lock.proofs.EventLaws.{each_map, starts_length}
@@ -105,7 +105,7 @@ module _ (v w : View) where
       let g = sum_by-append weight (row_serials v.published) v.released in
       let h = sum_by-append weight (row_serials w.published) w.released in omega arith
 
-  fits_both : (past : Past) → 0 < v.parts → Fits past v → Fits past w → Fits past (both v w)
+  fits_both : (past : Past) → 0 < v.parts → IsOfPast past v → IsOfPast past w → IsOfPast past (both v w)
   fits_both past some_part first second =
       let l = longer_cases v.seen w.seen in
       let long : (length v.seen ≤ length (longer v.seen w.seen)) × (length w.seen ≤ length (longer v.seen w.seen)) =
@@ -179,7 +179,7 @@ module _ (past : Past) (book : BookData) (views : List View) (by : ℕ) (v : Vie
       (at_set views by third (both v w) u left.1))
       (at_set (set views by (both v w)) other third spent_view u e)
 
-  spent_fits : Fits past spent_view
+  spent_fits : IsOfPast past spent_view
   spent_fits = record {
     seen = (past.log, refl);
     also = (past.log, refl);
@@ -198,7 +198,7 @@ module _ (past : Past) (book : BookData) (views : List View) (by : ℕ) (v : Vie
   joined_here = set_else (set views by (both v w)) other by spent_view (λ same. differ (sym same))
       ∙ set_here views by (both v w) (at_within views by v at)
 
-  seen_all : Fits past v → Fits past w → (v.seen ≡ past.log) ⊎ (w.seen ≡ past.log) → (both v w).seen ≡ past.log
+  seen_all : IsOfPast past v → IsOfPast past w → (v.seen ≡ past.log) ⊎ (w.seen ≡ past.log) → (both v w).seen ≡ past.log
   seen_all first second all = let l = longer_cases v.seen w.seen in ⊎_elim
       (λ t. ⊎_elim (λ mine. t.0 ∙ mine)
       (λ theirs. t.0 ∙ whole_beginning past.log v.seen first.seen
@@ -218,8 +218,8 @@ module _ (past : Past) (book : BookData) (views : List View) (by : ℕ) (v : Vie
     counts = joined_counts ruled.counts;
     fits = λ third u e. ⊎_elim
         (λ changed. ⊎_elim
-        (λ gone. subst (λ (x : View). Fits past x) gone spent_fits)
-        (λ here. subst (λ (x : View). Fits past x) here (fits_both v w past some_part first second)) changed)
+        (λ gone. subst (λ (x : View). IsOfPast past x) gone spent_fits)
+        (λ here. subst (λ (x : View). IsOfPast past x) here (fits_both v w past some_part first second)) changed)
         (λ old. ruled.fits third u old.2)
         (joined_cases third u e);
     longest = (let l = ruled.longest in dite (ℕ_discrete l.0 by)
@@ -257,7 +257,7 @@ module _ (past : Past) (book : BookData) (views : List View) (by : ℕ) (v : Vie
 module _ {B : Type 0} (shown : B → BookData) where
   -- a party takes in another, neither of which holds the gate
   pub joins : (by : ℕ) (v : View) (other : ℕ) (w : View) → 0 < v.parts → v.held ≡ None → w.held ≡ None
-      → Joins (Kept shown) by v other w (both v w) spent_view
+      → Joins (RuleKept shown) by v other w (both v w) spent_view
   joins by v other w some_part free free_other s h at differ there_set =
       let there : get_elem? s.views other ≡ some w = sym (set_else s.views by other (both v w) differ) ∙ there_set in
       let no_holder : (n : ℕ) (u : View) → u.held ≡ None → get_elem? s.views n ≡ some u → (shut : IsShut shown s h.book)
@@ -294,7 +294,7 @@ module _ {B : Type 0} (shown : B → BookData) where
       h.gate)
       (joined_ruled h.past h.book s.views by v other w at differ there some_part (ruled_of shown s h))
 
-  fits_settled : (past : Past) (v : View) → Fits past v → Fits past (settled v)
+  fits_settled : (past : Past) (v : View) → IsOfPast past v → IsOfPast past (settled v)
   fits_settled past v fits = record {
     seen = fits.seen;
     also = (past.log, refl);
@@ -324,13 +324,13 @@ module _ {B : Type 0} (shown : B → BookData) where
 
   -- the look at the gate behind a join
   pub compares : (slots by : ℕ) (v : View) → 0 < v.parts → v.held ≡ None → length v.also ≤ length v.seen
-      → Allows (Kept shown) slots by (v, []) 0 (λ n. n) (Compares {B = B} (v, []))
+      → Allows (RuleKept shown) slots by (v, []) 0 (λ n. n) (Compares {B = B} (v, []))
   compares slots by v some_part free short s h wide at bound =
       let fits = h.fits by v at in (
         settled v,
         keeps,
         tt,
-        subst (λ (words : List ℕ). Kept shown (record {
+        subst (λ (words : List ℕ). RuleKept shown (record {
           words = words;
           homes = s.homes;
           views =
@@ -346,7 +346,7 @@ module _ {B : Type 0} (shown : B → BookData) where
       one_word [] one = refl
       one_word (word ∷ words) one = refl
 
-      gate_settled : (s : State (Option B) View) (h : Kept shown s) (by : ℕ) (v : View) → v.held ≡ None
+      gate_settled : (s : State (Option B) View) (h : RuleKept shown s) (by : ℕ) (v : View) → v.held ≡ None
           → get_elem? s.views by ≡ some v
           → IsOpen shown (record { words = s.words; homes = s.homes; views = set s.views by (settled v) }) h.book
           ⊎ IsShut shown (record { words = s.words; homes = s.homes; views = set s.views by (settled v) }) h.book

@@ -16,7 +16,7 @@ use Rattle.desk_lock.specs.Knows.{all_parts, ends, known, row_serials, serials, 
 use Rattle.desk_lock.specs.Learns.{AreLeft, KnowsAll, Learns}
 use Rattle.desk_lock.specs.Lists.{Each, IsNoneOf, IsReordered, StartsWith, counted as counted_from}
 use Rattle.desk_lock.specs.Past.{IsCounted, IsDrawn, IsPrinted, Past, placed, row_claim}
-use Rattle.desk_lock.specs.Rule.{Counts, Fits, Stocked, running_serials}
+use Rattle.desk_lock.specs.Rule.{Counts, IsOfPast, Stocked, running_serials}
 use Rattle.desk_lock.specs.declared.view.View.{View}
 use Rattle.desk_lock.proofs.Weights.{at_weighs, but_one, each_below, each_stands, heavy_stands, none_weighs, none_of_map, numbered_counted, numbered_once, only_one, drop_stands, stands_drop, stands_each, stands_weighs, sum_by-map, tick, tick_is, tick_other, two_at_weigh, two_weigh, weighs_none}
 
@@ -30,7 +30,7 @@ ends_of serial v = sum_by (tick serial) (ends v)
 -- the rule, of a past, a book and the views of all parties
 module _ (past : Past) (book : BookData) (views : List View) (counted : IsCounted past) (stock : Stocked book past)
     (counts : Counts views book past)
-    (fits : (by : ℕ) (v : View) → get_elem? views by ≡ some v → Fits past v) where
+    (fits : (by : ℕ) (v : View) → get_elem? views by ≡ some v → IsOfPast past v) where
   -- a claim is drawn at most once, by all parties together
   pub drawn_once : (serial : ℕ) → sum_by (draws_of serial) views ≤ 1
   drawn_once serial =

@@ -12,7 +12,7 @@ use Rattle.desk_core.specs.Book.{BookData}
 use Rattle.desk_lock.specs.Knows.{drew, ends, given, has_met, holding, let_go, looked, made, printed}
 use Rattle.desk_lock.specs.Lists.{IsNoneOf}
 use Rattle.desk_lock.specs.Past.{HasPlanAmong, IsDrawn, IsPrinted, Past, row_claim}
-use Rattle.desk_lock.specs.Rule.{Kept}
+use Rattle.desk_lock.specs.Rule.{RuleKept}
 use Rattle.desk_lock.specs.Steps.{Commits, Had, IsGranted, LetsGo, Met, Prints, Sees}
 use Rattle.desk_lock.specs.declared.view.View.{View}
 use Rattle.desk_lock.proofs.EndLaws.{ruled_let_go}
@@ -63,7 +63,7 @@ module _ {B : Type 0} (shown : B → BookData) (by : ℕ) (v : View) (taken : Bo
   opens : (grown : Past → Past) (w : View) → w.held ≡ None → (Then : Me (Option B) View → Type 0) → Then (w, [])
       → ((past : Past) (book : BookData) (views : List View) → get_elem? views by ≡ some holder → Ruled past book views
       → book ≡ taken → Ruled (grown past) (shown inside) (set views by w))
-      → (slots : ℕ) → slots ≡ 1 → Allows (Kept shown) slots by me 0 (λ _. 0) (λ _. Then)
+      → (slots : ℕ) → slots ≡ 1 → Allows (RuleKept shown) slots by me 0 (λ _. 0) (λ _. Then)
   opens grown w free Then told ruled slots one s h wide at bound = (
     w,
     gives,
@@ -82,13 +82,13 @@ module _ {B : Type 0} (shown : B → BookData) (by : ℕ) (v : View) (taken : Bo
       (subst (λ (l : List Entry). Ruled past book (set views by (W l))) (sym ruled.stock.history) there)
 
   pub sees : shown inside ≡ taken → (slots : ℕ) → slots ≡ 1
-      → Allows (Kept shown) slots by me 0 (λ _. 0) (λ _. Sees shown me 0)
+      → Allows (RuleKept shown) slots by me 0 (λ _. 0) (λ _. Sees shown me 0)
   sees same = opens (λ past. past) (looked holder log) refl (Sees shown me 0) refl
       (λ past book views at ruled is. unchanged past book views (looked holder) same is ruled
       (ruled_looked past book views by holder at some_part ruled))
 
   pub has : (row : RowData) → Stands taken.table.rows row → shown inside ≡ taken → (slots : ℕ) → slots ≡ 1
-      → Allows (Kept shown) slots by me 0 (λ _. 0) (λ _. Had shown row me 0)
+      → Allows (RuleKept shown) slots by me 0 (λ _. 0) (λ _. Had shown row me 0)
   has row stands same = opens (λ past. past) (given holder log row) refl (Had shown row me 0) refl
       (λ past book views at ruled is.
       let kept = kept_print past book views ruled.counted ruled.stock ruled.counts ruled.fits row
@@ -99,7 +99,7 @@ module _ {B : Type 0} (shown : B → BookData) (by : ℕ) (v : View) (taken : Bo
 
   pub meets : (claim : Claim) (one : Running) → Stands taken.table.running one → claim_of one ≡ claim
       → shown inside ≡ taken → (slots : ℕ) → slots ≡ 1
-      → Allows (Kept shown) slots by me 0 (λ _. 0) (λ _. Met shown claim me 0)
+      → Allows (RuleKept shown) slots by me 0 (λ _. 0) (λ _. Met shown claim me 0)
   meets claim one stands claims same = opens (λ past. past) (has_met holder log claim) refl (Met shown claim me 0) refl
       (λ past book views at ruled is.
       let here = subst (λ (b : BookData). Stands b.table.running one) (sym is) stands in
@@ -111,7 +111,7 @@ module _ {B : Type 0} (shown : B → BookData) (by : ℕ) (v : View) (taken : Bo
 
   -- after an entry
   pub commits : (entry : Entry) → entry.session ≡ v.session → shown inside ≡ after_entry taken entry → (slots : ℕ)
-      → slots ≡ 1 → Allows (Kept shown) slots by me 0 (λ _. 0) (λ _. Commits shown me 0)
+      → slots ≡ 1 → Allows (RuleKept shown) slots by me 0 (λ _. 0) (λ _. Commits shown me 0)
   commits entry session after = opens (λ past. logged past entry) (made holder log (length taken.store.history)) refl
       (Commits shown me 0) refl
       (λ past book views at ruled is.
@@ -126,7 +126,7 @@ module _ {B : Type 0} (shown : B → BookData) (by : ℕ) (v : View) (taken : Bo
   -- after a claim that is granted
   pub grants : (claim : Claim) (one : Running) → claim_of one ≡ claim → claim.serial ≡ suc taken.table.drawn
       → claim.stamp ≤ length taken.store.history → shown inside ≡ after_claim taken one → (slots : ℕ) → slots ≡ 1
-      → Allows (Kept shown) slots by me 0 (λ _. 0) (λ _. IsGranted shown claim me 0)
+      → Allows (RuleKept shown) slots by me 0 (λ _. 0) (λ _. IsGranted shown claim me 0)
   grants claim one claims serial stamp after = opens (λ past. granted past claim) (drew holder log claim) refl
       (IsGranted shown claim me 0) refl
       (λ past book views at ruled is.
@@ -147,7 +147,7 @@ module _ {B : Type 0} (shown : B → BookData) (by : ℕ) (v : View) (taken : Bo
   -- after a claim is released
   pub lets_go : (claim : Claim) → Stands v.drawn claim → IsNoneOf (ends v) claim.serial
       → shown inside ≡ after_release taken claim.serial → (slots : ℕ) → slots ≡ 1
-      → Allows (Kept shown) slots by me 0 (λ _. 0) (λ _. LetsGo shown claim.serial me 0)
+      → Allows (RuleKept shown) slots by me 0 (λ _. 0) (λ _. LetsGo shown claim.serial me 0)
   lets_go claim stands none after = opens (λ past. past) (let_go holder log claim.serial) refl
       (LetsGo shown claim.serial me 0) refl
       (λ past book views at ruled is.
@@ -167,7 +167,7 @@ module _ {B : Type 0} (shown : B → BookData) (by : ℕ) (v : View) (taken : Bo
   pub prints : (claim : Claim) (row : RowData) → Stands v.drawn claim → IsNoneOf (ends v) claim.serial
       → row_claim row ≡ claim → row.rank ≡ suc (table_spec.made taken.table) → row.mark ≡ taken.table.drawn
       → KnowsPlan row → shown inside ≡ after_row taken claim.serial row → (slots : ℕ) → slots ≡ 1
-      → Allows (Kept shown) slots by me 0 (λ _. 0) (λ _. Prints shown row me 0)
+      → Allows (RuleKept shown) slots by me 0 (λ _. 0) (λ _. Prints shown row me 0)
   prints claim row stands none claims rank mark plan after = opens (λ past. with_print past row) (printed holder log row)
       refl (Prints shown row me 0) refl
       (λ past book views at ruled is.

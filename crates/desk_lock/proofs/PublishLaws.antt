@@ -6,6 +6,7 @@ use Rattle.std.proofs.lemmas.Bool.Decides.{leb_tells}
 use Rattle.std.proofs.lemmas.List.{append-nil, length-drop}
 use Rattle.std.proofs.lemmas.List.Sums.{sum_by-append, sum_by-cons, sum_by_push}
 use Rattle.std.proofs.lemmas.Option.{slice_get_within}
+use Rattle.dita_doc.proofs.Lists.{get_front, get_pushed}
 use mathlib.Core.Logic.{dite}
 use mathlib.Core.Option.{some}
 use native.Mathlib.Decide.{dec_lt}
@@ -16,10 +17,10 @@ use Rattle.desk_core.specs.Book.{BookData}
 use Rattle.desk_lock.specs.Knows.{ends, printed, row_serials, serials}
 use Rattle.desk_lock.specs.Lists.{Each, IsNoneOf}
 use Rattle.desk_lock.specs.Past.{HasPlanAmong, IsCounted, IsDrawn, IsPrinted, Past, limits_of, row_claim}
-use Rattle.desk_lock.specs.Rule.{Fits, Stocked, running_serials}
+use Rattle.desk_lock.specs.Rule.{IsOfPast, Stocked, running_serials}
 use Rattle.desk_lock.specs.declared.view.View.{View}
 use Rattle.desk_lock.proofs.EndLaws.{below_more, each_others, others_one, runs_once, serial_stands}
-use Rattle.desk_lock.proofs.EventLaws.{each_map, each_with, get_before, get_either, get_last, stamps_seen}
+use Rattle.desk_lock.proofs.EventLaws.{each_map, each_with, get_either, stamps_seen}
 use Rattle.desk_lock.proofs.RuledLaws.{Ruled, Shifts, ruled_set}
 use Rattle.desk_lock.proofs.Weights.{each_stands, sum_by-map}
 
@@ -82,7 +83,7 @@ module _ (past : Past) (row : RowData) where
   with_print = record past { prints = past.prints ++ row ∷ [] }
 
   printed_longer : (other : RowData) → IsPrinted past.prints other → IsPrinted with_print.prints other
-  printed_longer other print = (print.0, get_before past.prints (row ∷ []) print.0 other print.1, print.2)
+  printed_longer other print = (print.0, get_front past.prints (row ∷ []) print.0 other print.1, print.2)
 
   plan_longer : (other : RowData) → HasPlanAmong past.prints other → HasPlanAmong with_print.prints other
   plan_longer other plan = ⊎_elim (λ none. inl none)
@@ -90,7 +91,7 @@ module _ (past : Past) (row : RowData) where
         there.0,
         (
           there.1.0,
-          get_before past.prints
+          get_front past.prints
               (row ∷ []) there.1.0 there.0 there.1.1,
         ),
         there.2,
@@ -120,7 +121,7 @@ module _ (past : Past) (row : RowData) where
       → IsPrinted with_print.prints other × IsDrawn past.draws (row_claim other)
   both_longer other both = (printed_longer other both.0, both.1)
 
-  fits_printed : (u : View) → Fits past u → Fits with_print u
+  fits_printed : (u : View) → IsOfPast past u → IsOfPast with_print u
   fits_printed u fits = record {
     seen = fits.seen;
     also = fits.also;
@@ -206,9 +207,9 @@ module _ (past : Past) (book : BookData) (views : List View) (by : ℕ) (v : Vie
       let s : weight row.serial ≡ weight claim.serial = ap weight same_serial in omega arith
 
   print_here : IsPrinted (with_print past row).prints row
-  print_here = (length past.prints, get_last past.prints row, rank)
+  print_here = (length past.prints, get_pushed past.prints row, rank)
 
-  fits_here : Fits (with_print past row) (printed v past.log row)
+  fits_here : IsOfPast (with_print past row) (printed v past.log row)
   fits_here = let fits = ruled.fits by v at in let longer = fits_printed past row v fits in record {
     seen = ([], sym (append-nil past.log));
     also = fits.also;

@@ -8,7 +8,7 @@ use Rattle.atomic_table.proofs.Lists.{at_set, set_else, set_here}
 use Rattle.desk_core.specs.Book.{BookData}
 use Rattle.desk_lock.specs.Knows.{ends, known, serials, spent_view}
 use Rattle.desk_lock.specs.Past.{IsCounted, Past, placed}
-use Rattle.desk_lock.specs.Rule.{Counts, Fits, Stocked, running_serials}
+use Rattle.desk_lock.specs.Rule.{Counts, IsOfPast, Stocked, running_serials}
 use Rattle.desk_lock.specs.declared.view.View.{View}
 use Rattle.desk_lock.proofs.Weights.{at_within, total_set}
 
@@ -16,7 +16,7 @@ pub record Ruled (past : Past) (book : BookData) (views : List View) : Type 0 wh
   pub counted : IsCounted past
   pub stock : Stocked book past
   pub counts : Counts views book past
-  pub fits : (by : ℕ) (v : View) → get_elem? views by ≡ some v → Fits past v
+  pub fits : (by : ℕ) (v : View) → get_elem? views by ≡ some v → IsOfPast past v
   pub longest : (by : ℕ) × (v : View) × (get_elem? views by ≡ some v) × (v.seen ≡ past.log)
   pub spent : (by : ℕ) (v : View) → get_elem? views by ≡ some v → v.parts ≡ 0 → v ≡ spent_view
 
@@ -75,14 +75,14 @@ longest_set past then book views by v w at ruled (inr stays) =
 -- one party changes, and with it the book and the past
 pub ruled_set : (past then : Past) (book new : BookData) (views : List View) (by : ℕ) (v w : View)
     → get_elem? views by ≡ some v → Ruled past book views → IsCounted then → Stocked new then
-    → Shifts v w book new past then → Fits then w → ((u : View) → Fits past u → Fits then u)
+    → Shifts v w book new past then → IsOfPast then w → ((u : View) → IsOfPast past u → IsOfPast then u)
     → LongestStays v w past then → 0 < w.parts → Ruled then new (set views by w)
 ruled_set past then book new views by v w at ruled counted stock shifts fits others stays some_part = record {
   counted = counted;
   stock = stock;
   counts = counts_set past then book new views by v w at shifts ruled.counts;
   fits = λ other u e. ⊎_elim
-      (λ here. subst (λ (x : View). Fits then x) here.1 fits)
+      (λ here. subst (λ (x : View). IsOfPast then x) here.1 fits)
       (λ there. others u (ruled.fits other u there.1))
       (at_set views by other w u e);
   longest = longest_set past then book views by v w at ruled stays;

@@ -17,7 +17,7 @@ use Rattle.desk_core.specs.Book.{BookData}
 use Rattle.desk_lock.specs.Knows.{arrived, both, ends, known, longer, parted, serials, shorter, spent_view, with_session}
 use Rattle.desk_lock.specs.Lists.{Each, StartsWith}
 use Rattle.desk_lock.specs.Past.{IsCounted, IsDrawn, IsMade, IsPrinted, Past, placed, row_claim}
-use Rattle.desk_lock.specs.Rule.{Counts, Fits, IsOpen, IsShut, Kept, Stocked, running_serials}
+use Rattle.desk_lock.specs.Rule.{Counts, IsOfPast, IsOpen, IsShut, RuleKept, Stocked, running_serials}
 use Rattle.desk_lock.specs.declared.view.View.{View}
 use Rattle.desk_lock.proofs.EventLaws.{each_map, starts_length}
 use Rattle.desk_lock.proofs.GateLaws.{kept_of, ruled_of}
@@ -59,7 +59,7 @@ module _ (past : Past) (book : BookData) (views : List View) (by : ℕ) (v : Vie
         let c = counts.parts in omega arith);
   }
 
-  fits_parted : Fits past v → Fits past (parted v parts)
+  fits_parted : IsOfPast past v → IsOfPast past (parted v parts)
   fits_parted fits = record {
     seen = fits.seen;
     also = fits.also;
@@ -74,7 +74,7 @@ module _ (past : Past) (book : BookData) (views : List View) (by : ℕ) (v : Vie
     own = fits.own;
   }
 
-  fits_arrived : Fits past v → Fits past (arrived v session parts)
+  fits_arrived : IsOfPast past v → IsOfPast past (arrived v session parts)
   fits_arrived fits = record {
     seen = fits.seen;
     also = (past.log, refl);
@@ -96,8 +96,8 @@ module _ (past : Past) (book : BookData) (views : List View) (by : ℕ) (v : Vie
     counts = split_counts ruled.counts;
     fits = λ other u e. ⊎_elim
         (λ changed. ⊎_elim
-        (λ left. subst (λ (x : View). Fits past x) left (fits_parted fits))
-        (λ new. subst (λ (x : View). Fits past x) new (fits_arrived fits)) changed)
+        (λ left. subst (λ (x : View). IsOfPast past x) left (fits_parted fits))
+        (λ new. subst (λ (x : View). IsOfPast past x) new (fits_arrived fits)) changed)
         (λ old. ruled.fits other u old.1)
         (split_cases other u e);
     longest = (let l = ruled.longest in dite (ℕ_discrete l.0 by)
@@ -137,7 +137,7 @@ module _ (past : Past) (book : BookData) (views : List View) (by : ℕ) (v : Vie
 module _ {B : Type 0} (shown : B → BookData) where
   -- a party that does not hold the gate gives parts to a new one
   pub splits : (by : ℕ) (v : View) (session parts : ℕ) → parts < v.parts → 0 < parts → v.held ≡ None
-      → Splits (Kept shown) by v (parted v parts) (arrived v session parts)
+      → Splits (RuleKept shown) by v (parted v parts) (arrived v session parts)
   splits by v session parts enough some_part free s h at =
       kept_of shown _ h.past h.book h.one
       (⊎_elim

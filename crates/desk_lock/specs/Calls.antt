@@ -18,7 +18,7 @@ use Rattle.desk_core.specs.Book.{SnapshotData, stamp_of}
 use Rattle.desk_core.specs.Steps.{IsSnapshotOf}
 use Rattle.desk_lock.specs.Knows.{arrived, both, drew, ends, first_view, given, has_met, let_go, looked, made, parted, printed, row_serials, serials, settled}
 use Rattle.desk_lock.specs.Lists.{Each, IsNoneOf, StartsWith}
-use Rattle.desk_lock.specs.Meaning.{IsRight, Meaning, NoLaterAgrees}
+use Rattle.desk_lock.specs.Meaning.{IsRightRow, Meaning, NoLaterAgrees}
 use Rattle.desk_lock.specs.Past.{row_claim}
 use Rattle.desk_core.specs.declared.limits.Limits.{Limits}
 use Rattle.desk_lock.specs.declared.view.View.{View}
@@ -69,7 +69,7 @@ IsStopped v asked NoMemory w = Looks v w
 pub record Gives (means : Meaning) (v : View) (part : FactKey) (state : State) (row : RowData) (w : View) : Type 0 where
   pub knows : w ≡ given v w.seen row
   pub later : StartsWith w.seen v.seen
-  pub right : IsRight means row part state
+  pub right : IsRightRow means row part state
   pub latest : NoLaterAgrees means v.rows row part state
 
 -- what a hand must have of a claim to end it: it drew it, and did not end it
@@ -103,8 +103,8 @@ Answers means v part snapshot (Yours claim) w = Draws v part snapshot.stamp clai
 -- Rows
 
 -- a part that rests on a plan rests on that of a row which is known
-abbrev pub HasPlan : View → Fact → Type 0
-HasPlan v fact = (fact.planned ≡ 0) ⊎ ((row : RowData) × Stands v.rows row × (row.serial ≡ fact.planned)
+abbrev pub RestsOnPlan : View → Fact → Type 0
+RestsOnPlan v fact = (fact.planned ≡ 0) ⊎ ((row : RowData) × Stands v.rows row × (row.serial ≡ fact.planned)
     × (plan_in row ≡ arc_value fact.plan))
 
 -- what publishing takes: the claim may be ended, and the part is its own and right over its snapshot
@@ -113,7 +113,7 @@ pub record HandMayPublish (means : Meaning) (v : View) (claim : Claim) (fact : F
   pub key : fact.key ≡ claim.key
   pub sound : means.is_sound fact
   pub agrees : means.agrees fact (sources v.seen claim.stamp)
-  pub plan : HasPlan v fact
+  pub plan : RestsOnPlan v fact
 
 -- the claim ended with this row
 pub record Publishes (v : View) (claim : Claim) (part : Fact) (row : RowData) (w : View) : Type 0 where

@@ -15,7 +15,7 @@ pub record Meaning : Type 1 where
   pub is_sound : Fact → Type 0
 
 -- the row keeps this part, and is right over these sources
-pub record IsRight (means : Meaning) (row : RowData) (part : FactKey) (state : State) : Type 0 where
+pub record IsRightRow (means : Meaning) (row : RowData) (part : FactKey) (state : State) : Type 0 where
   pub key : row.fact.key ≡ part
   pub agrees : means.agrees row.fact state
   pub sound : means.is_sound row.fact

@@ -16,7 +16,7 @@ use Rattle.desk_lock.specs.declared.view.View.{View}
 
 -- What one party knows is so
 
-pub record Fits (past : Past) (v : View) : Type 0 where
+pub record IsOfPast (past : Past) (v : View) : Type 0 where
   pub seen : StartsWith past.log v.seen
   pub also : StartsWith past.log v.also
   pub limits : 0 < v.parts → v.limits ≡ past.limits
@@ -83,7 +83,7 @@ module _ {B : Type 0} (shown : B → BookData) where
 
   -- The rule
 
-  pub record Kept (s : State (Option B) View) : Type 0 where
+  pub record RuleKept (s : State (Option B) View) : Type 0 where
     pub past : Past
     pub book : BookData
     pub one : length s.words ≡ 1
@@ -91,7 +91,7 @@ module _ {B : Type 0} (shown : B → BookData) where
     pub counted : IsCounted past
     pub stock : Stocked book past
     pub counts : Counts s.views book past
-    pub fits : (by : ℕ) (v : View) → get_elem? s.views by ≡ some v → Fits past v
+    pub fits : (by : ℕ) (v : View) → get_elem? s.views by ≡ some v → IsOfPast past v
     -- the history is the longest that a party has seen
     pub longest : (by : ℕ) × (v : View) × (get_elem? s.views by ≡ some v) × (v.seen ≡ past.log)
     -- a party without parts was joined away

@@ -17,7 +17,7 @@ pub trait Shown {
 pub struct Order;
 
 impl<B: Shown> TableRule<Option<B>, View, Limits> for Order {
-    ghost holds = { λ limits. rule_spec.Kept B.shown };
+    ghost holds = { λ limits. rule_spec.RuleKept B.shown };
 
     ghost first = { knows_spec.first_view };
 }

@@ -6,15 +6,16 @@ use Rattle.std.specs.Option.{option_and_then, option_copied, option_to_list}
 use Rattle.std.specs.Str.{is_utf8}
 use Rattle.std.proofs.lemmas.List.{map-append}
 use Rattle.std.proofs.lemmas.Option.{same_Some, slice_get_within, get_or_from_slice_get}
-use Rattle.build_spec.specs.Built.{Built}
+use Rattle.build_spec.specs.Built.{BuildOutcome}
 use Rattle.dita_doc.specs.Bytes.{Bytes}
-use Rattle.dita_doc.specs.Desk.{State, Stored, Halt, Reply, IsStored, Conflict, TooManyNames, reply, next, found, store_reply, unless_refused, get_reply, remove_reply, edit_reply, halt_of, group_reply, version_at, stored_limit}
+use Rattle.dita_doc.specs.Desk.{State, Stored, Halt, Reply, IsStored, Conflict, TooManyNames, reply, next, stored_under, store_reply, unless_refused, get_reply, remove_reply, edit_reply, halt_of, group_reply, version_at, stored_limit}
 use Rattle.dita_doc.specs.History.{Entry, sources}
 use Rattle.dita_doc.specs.Pyx.{document_of}
 use Rattle.dita_doc.specs.Request.{Edit, Put, PutIf, Remove, Request, Single, Get, Names, Build, Group, IsUtf8Edit, IsUtf8Request}
 use Rattle.dita_doc.specs.Tree.{Content}
 use Rattle.dita_doc.specs.declared.fact.Html.{Html}
 use Rattle.dita_doc.specs.declared.fault.PyxFault.{PyxFault}
+use Rattle.dita_doc.proofs.Lists.{get_pushed}
 use Rattle.dita_outside.specs.Pages.{Pages, TakesPages, TakesPagesFront}
 use Rattle.part_spec.specs.Parts.{clean_build, clean_terms}
 use Rattle.reader_spec.specs.World.{world_of}
@@ -26,7 +27,7 @@ use Rattle.transcript_text.specs.Written.{IsText, IsTextOfEntry, is_begun}
 use Rattle.version_store.specs.Entries.{EditPuts, Puts}
 use Rattle.version_store.proofs.EditLaws.{last_among}
 use Rattle.version_store.specs.Kept.{Kept, answered, stored_now}
-use Rattle.version_store.proofs.HistoryLaws.{from_sources, slice_get-end, slice_get-take}
+use Rattle.version_store.proofs.HistoryLaws.{from_sources, slice_get-take}
 use Rattle.desk_top.specs.Builds.{built_at, pages_put_at, pages_put_by, terms_at, terms_put}
 use Rattle.desk_top.specs.Runs.{Answers, IsUtf8Entry, TellsBehind, answer_behind}
 use Rattle.desk_top.proofs.RunLaws.{state_push}
@@ -56,7 +57,7 @@ entry_there : (old new : Kept) (step : Step) (place number : ℕ) → HasKept ol
 entry_there old new step place number kept =
     let entry = (answer_behind old.history step).entry in
     ap (λ history. slice_get history place) (new_history old new step place number kept)
-    ∙ ap (λ n. slice_get (old.history ++ entry ∷ []) n) kept.at ∙ slice_get-end old.history entry
+    ∙ ap (λ n. slice_get (old.history ++ entry ∷ []) n) kept.at ∙ get_pushed old.history entry
 
 pub entry_is : (old new : Kept) (step : Step) (place number : ℕ) (entry : Entry) → HasKept old new step place number
     → slice_get new.history place ≡ Some entry
@@ -155,7 +156,7 @@ puts_utf8 (Group edits) name bytes puts utf8 =
 
 -- what is stored behind a history of UTF-8 is UTF-8
 found_utf8 : (history : List Entry) (name : List ℕ) (hit : Option Stored) → All IsUtf8Entry history
-    → found (sources history (length history)) name ≡ hit → IsText (get_reply hit)
+    → stored_under (sources history (length history)) name ≡ hit → IsText (get_reply hit)
 found_utf8 history name None utf8 is = tt
 found_utf8 history name (Some stored) utf8 is =
     let from = from_sources history (length history) name stored is in
@@ -177,7 +178,7 @@ remove_text None = tt
 remove_text (Some stored) = tt
 
 store_text : (state : State) (place : ℕ) (name : List ℕ) → IsText (store_reply state place name)
-store_text state place name = if_text (nat_le stored_limit (length state) && not (is_some (found state name)))
+store_text state place name = if_text (nat_le stored_limit (length state) && not (is_some (stored_under state name)))
     (TooManyNames stored_limit) (IsStored (place + 1)) tt tt
 
 edit_text : (state : State) (place : ℕ) (edit : Edit) → IsText (edit_reply state place edit)
@@ -185,7 +186,7 @@ edit_text state place (Put name body) = refused_text (document_of body) _ (store
 edit_text state place (PutIf version name body) =
     refused_text (document_of body) _ (if_text (version_at state name == version)
     (store_reply state place name) (Conflict (version_at state name)) (store_text state place name) tt)
-edit_text state place (Remove name) = remove_text (found state name)
+edit_text state place (Remove name) = remove_text (stored_under state name)
 
 group_text : (count : ℕ) (halt : Option Halt) → IsText (group_reply count halt)
 group_text count None = tt
@@ -194,7 +195,8 @@ group_text count (Some halt) = tt
 pub reply_text : (history : List Entry) (request : Request) → All IsUtf8Entry history
     → IsText (reply (sources history (length history)) (length history) request)
 reply_text history (Single edit) utf8 = edit_text (sources history (length history)) (length history) edit
-reply_text history (Get name) utf8 = found_utf8 history name (found (sources history (length history)) name) utf8 refl
+reply_text history (Get name) utf8 = found_utf8 history name
+    (stored_under (sources history (length history)) name) utf8 refl
 reply_text history Names utf8 = tt
 reply_text history (Build root val) utf8 = tt
 reply_text history (Group edits) utf8 =
@@ -231,7 +233,7 @@ answers_whole old new step place number entry built told before after kept there
 
 -- an entry that is a build, over the sources that a store has
 pub built_is : (kept : Kept) (place : ℕ) (entry : Entry) (state : State) (map : List ℕ) (val given : Option (List ℕ))
-    (built : Built) → slice_get kept.history place ≡ Some entry → entry.request ≡ Build map val
+    (built : BuildOutcome) → slice_get kept.history place ≡ Some entry → entry.request ≡ Build map val
     → state ≡ stored_now kept → given ≡ val → built ≡ clean_build (world_of state) map given
     → built_at kept place ≡ Some built
 built_is kept place entry state map val given built there asks stored same is =
@@ -252,7 +254,7 @@ terms_is kept place entry state map val given there asks stored same =
     ∙ ap (clean_terms (world_of (stored_now kept)) map) same))
 
 -- the pages of a build, and behind them the page of its terms, if pages of terms are wanted
-pub put_is : (with_terms : Bool) (kept : Kept) (place number : ℕ) (built : Built) (of terms : Option Html)
+pub put_is : (with_terms : Bool) (kept : Kept) (place number : ℕ) (built : BuildOutcome) (of terms : Option Html)
     → built_at kept place ≡ Some built → terms_at kept place ≡ option_map page_of_terms of
     → terms ≡ (if with_terms then of else None)
     → pages_put_by number (Some built) ++ terms_put number terms ≡ pages_put_at with_terms number kept place
@@ -268,7 +270,7 @@ put_is true kept place number built of terms is there wanted =
 
 -- the same of what was made of the sources that a store has
 pub put_whole : (with_terms : Bool) (kept : Kept) (place number : ℕ) (entry : Entry) (state : State) (map : List ℕ)
-    (val given : Option (List ℕ)) (built : Built) (terms : Option Html)
+    (val given : Option (List ℕ)) (built : BuildOutcome) (terms : Option Html)
     → slice_get kept.history place ≡ Some entry → entry.request ≡ Build map val
     → state ≡ stored_now kept → given ≡ val → built ≡ clean_build (world_of state) map given
     → terms ≡ (if with_terms then clean_terms (world_of state) map given else None)

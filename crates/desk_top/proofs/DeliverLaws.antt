@@ -3,18 +3,18 @@ use Rattle.std.proofs.Common.{◌≡◌, ℕ, List, [], ◌∷◌, ◌++◌, Opt
 use Rattle.std.proofs.lemmas.List.{take-append-drop, map-append}
 use Rattle.build_spec.specs.Built.{Page}
 use Rattle.dita_outside.specs.Pages.{Pages, PutsPage, PutsPages, TakesPages, TakesPagesFront}
-use Rattle.clean_build.specs.Clean.{Made, page_seen}
+use Rattle.clean_build.specs.Clean.{MadePage, page_seen}
 use Rattle.run_spec.specs.Answers.{delivered}
 use Rattle.desk_top.specs.Builds.{pages_put}
 use Rattle.desk_top.proofs.TakesLaws.{takes_then, takes_front}
 
-pub pages_put-append : (number : ℕ) (front back : List Made)
+pub pages_put-append : (number : ℕ) (front back : List MadePage)
     → pages_put number (front ++ back) ≡ pages_put number front ++ pages_put number back
 pages_put-append number front back = ap (map (delivered number)) (map-append page_seen front back)
     ∙ map-append (delivered number) (map page_seen front) (map page_seen back)
 
 -- the first pages, where one that was to come was not taken
-pub put_front : (number i : ℕ) (pages : List Made) (a b c : Option Pages)
+pub put_front : (number i : ℕ) (pages : List MadePage) (a b c : Option Pages)
     → TakesPages a b (pages_put number (take i pages)) → TakesPages b c []
     → TakesPagesFront a c (pages_put number pages)
 put_front number i pages a b c before none =

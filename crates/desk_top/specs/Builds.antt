@@ -2,14 +2,14 @@
 use Rattle.std.specs.Prelude.{ℕ, Bool, List, Option, map}
 use Rattle.std.specs.List.{slice_get}
 use Rattle.std.specs.Option.{option_and_then, option_map, option_to_list}
-use Rattle.build_spec.specs.Built.{Built, Page}
-use Rattle.clean_build.specs.Clean.{Made, page_seen}
+use Rattle.build_spec.specs.Built.{BuildOutcome, Page}
+use Rattle.clean_build.specs.Clean.{MadePage, page_seen}
 use Rattle.dita_doc.specs.declared.fact.Html.{Html}
 use Rattle.run_spec.specs.Answers.{built_by, delivered, pages_built, pages_wanted, page_of_terms, terms_for}
 use Rattle.version_store.specs.Kept.{Kept, stored_now}
 
 -- what the entry at a place builds over what is stored now
-abbrev pub built_at : Kept → ℕ → Option Built
+abbrev pub built_at : Kept → ℕ → Option BuildOutcome
 built_at kept place = option_and_then (λ entry. built_by (stored_now kept) entry.request) (slice_get kept.history place)
 
 -- the page of the terms of that
@@ -23,11 +23,11 @@ pages_put_at with_terms number kept place =
     map (delivered number) (pages_wanted with_terms (built_at kept place) (terms_at kept place))
 
 -- the pages of a build, under the number of its request
-abbrev pub pages_put_by : ℕ → Option Built → List Page
+abbrev pub pages_put_by : ℕ → Option BuildOutcome → List Page
 pages_put_by number built = map (delivered number) (pages_built built)
 
 -- pages that were made, under the number of their request
-abbrev pub pages_put : ℕ → List Made → List Page
+abbrev pub pages_put : ℕ → List MadePage → List Page
 pages_put number pages = map (delivered number) (map page_seen pages)
 
 -- the page of terms, under that number

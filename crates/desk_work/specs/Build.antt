@@ -27,7 +27,7 @@ use Rattle.desk_work.specs.declared.built.Outcome.TheVariants.{Done, Stopped, To
 use Rattle.desk_work.specs.declared.built.PageRow.{PageRow}
 
 -- what is asked for: a map with a DITAVAL or without, by the request of this number
-pub record Order : Type 0 where
+pub record BuildOrder : Type 0 where
   pub number : ℕ
   pub root : List ℕ
   pub val : Option (List ℕ)
@@ -41,7 +41,7 @@ html_in (Some html) = (arc_value html).bytes
 abbrev pub page_seen : PageRow → clean_spec.Page
 page_seen page = (page.name, html_in (row_data page.row).fact.html)
 
-abbrev pub outcome_seen : Outcome → clean_spec.Built
+abbrev pub outcome_seen : Outcome → clean_spec.BuildOutcome
 outcome_seen (Done pages faults) = clean_spec.Done (map page_seen pages) faults
 outcome_seen (Stopped stop) = clean_spec.Stopped stop
 outcome_seen (TooLarge total) = clean_spec.TooLarge total
@@ -55,7 +55,7 @@ NamesCited (TooLarge total) jobs = Unit {0}
 
 -- The build stands at its place, and its workers came so far
 
-pub record Stood (means : Meaning) (language : Language) (v : View) (order : Order) (place : ℕ) (state : State)
+pub record Stood (means : Meaning) (language : Language) (v : View) (order : BuildOrder) (place : ℕ) (state : State)
     (jobs : List Job) (w : View) : Type 0 where
   pub stamp : ℕ
   pub between : View
@@ -68,17 +68,17 @@ pub record Stood (means : Meaning) (language : Language) (v : View) (order : Ord
   pub parts : w.parts ≡ v.parts
 
 -- each part of the build was done
-pub record Whole (language : Language) (order : Order) (state : State) (jobs : List Job) : Type 0 where
+pub record Whole (language : Language) (order : BuildOrder) (state : State) (jobs : List Job) : Type 0 where
   pub all : map (λ (job : Job). job.key) jobs ≡ parts_of language state order.root order.val
   pub done : Each (λ (job : Job). IsSome job.row) jobs
 
 -- the pages of the clean build of the sources at the build's place
-abbrev pub clean_pages : Language → Order → State → Pages
-clean_pages language order state = clean_spec.pages_of (language.clean state order.root order.val)
+abbrev pub clean_pages : Language → BuildOrder → State → Pages
+clean_pages language order state = clean_spec.built_pages (language.clean state order.root order.val)
 
 -- How it ends
 
-pub record EndsBuilt (means : Meaning) (language : Language) (v : View) (order : Order) (built : Built) (w : View)
+pub record EndsBuilt (means : Meaning) (language : Language) (v : View) (order : BuildOrder) (built : Built) (w : View)
     (old new : Option Pages) : Type 0 where
   pub state : State
   pub jobs : List Job
@@ -89,7 +89,7 @@ pub record EndsBuilt (means : Meaning) (language : Language) (v : View) (order :
   pub took : TakesPages old new (clean_pages language order state)
 
 -- the outlet failed, when each part was done
-pub record EndsUndelivered (means : Meaning) (language : Language) (v : View) (order : Order) (w : View)
+pub record EndsUndelivered (means : Meaning) (language : Language) (v : View) (order : BuildOrder) (w : View)
     (old new : Option Pages) : Type 0 where
   pub place : ℕ
   pub state : State
@@ -99,7 +99,7 @@ pub record EndsUndelivered (means : Meaning) (language : Language) (v : View) (o
   pub took : TakesPagesFront old new (clean_pages language order state)
 
 -- the build has its place, and then there was no memory
-pub record EndsShort (means : Meaning) (language : Language) (v : View) (order : Order) (w : View)
+pub record EndsShort (means : Meaning) (language : Language) (v : View) (order : BuildOrder) (w : View)
     (old new : Option Pages)
     : Type 0 where
   pub place : ℕ
@@ -113,12 +113,12 @@ pub record EndsNowhere (v w : View) (old new : Option Pages) : Type 0 where
   pub looks : Looks v w
   pub took : TakesPages old new []
 
-pub record EndsFull (v : View) (order : Order) (full : full_declared.Full) (w : View)
+pub record EndsFull (v : View) (order : BuildOrder) (full : full_declared.Full) (w : View)
     (old new : Option Pages) : Type 0 where
   pub passed : IsFull v (Build order.root order.val) full w
   pub took : TakesPages old new []
 
-abbrev pub Ends : Meaning → Language → View → Order → Result Built BuildStop → View → Option Pages → Option Pages
+abbrev pub Ends : Meaning → Language → View → BuildOrder → Result Built BuildStop → View → Option Pages → Option Pages
     → Type 0
 Ends means language v order (Ok built) w old new = EndsBuilt means language v order built w old new
 Ends means language v order (Err OutletFault) w old new = EndsUndelivered means language v order w old new

@@ -2,7 +2,7 @@
 -- pages its plan has, and how many bytes each of its parts counts for. The parts of a build are its plan and, if there
 -- is one, each page of the plan and the contents page.
 use Rattle.std.specs.Prelude.{◌+◌, ◌*◌, ℕ, List, [], ◌∷◌, ◌++◌, Option, Some, None, length, map}
-use Rattle.build_spec.specs.Built.{Built}
+use Rattle.build_spec.specs.Built.{BuildOutcome}
 use Rattle.dita_doc.specs.Desk.{State}
 use Rattle.dita_doc.specs.declared.fact.FactKey.{FactKey}
 use Rattle.dita_doc.specs.declared.fact.Part.{Part}
@@ -10,7 +10,7 @@ use Rattle.dita_doc.specs.declared.fact.Part.TheVariants.{Plan, Page, Contents}
 use Rattle.desk_lock.specs.Lists.{counted}
 
 pub record Language : Type 0 where
-  pub clean : State → List ℕ → Option (List ℕ) → Built
+  pub clean : State → List ℕ → Option (List ℕ) → BuildOutcome
   pub page_count : State → List ℕ → Option (List ℕ) → Option ℕ
   pub value_bytes : State → FactKey → ℕ
 

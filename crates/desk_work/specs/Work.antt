@@ -7,7 +7,7 @@ use Rattle.dita_doc.specs.declared.fact.FactKey.{FactKey}
 use Rattle.facts.specs.Rows.{RowData, Stands}
 use Rattle.desk_lock.specs.Knows.{ends, serials}
 use Rattle.desk_lock.specs.Lists.{Each, StartsWith}
-use Rattle.desk_lock.specs.Meaning.{IsRight, Meaning, NoLaterAgrees}
+use Rattle.desk_lock.specs.Meaning.{IsRightRow, Meaning, NoLaterAgrees}
 use Rattle.desk_lock.specs.declared.view.View.{View}
 use Rattle.desk_work.specs.Language.{Language, part_bytes}
 
@@ -26,7 +26,7 @@ pub record Basis : Type 1 where
 pub record IsMadeFor (basis : Basis) (row : RowData) : Type 0 where
   pub stamped : row.stamp ≡ basis.snapshot.stamp
   pub counts : row.bytes ≡ part_bytes basis.language basis.snapshot.state row.fact.key
-  pub right : IsRight basis.means row row.fact.key basis.snapshot.state
+  pub right : IsRightRow basis.means row row.fact.key basis.snapshot.state
 
 -- the workers published these rows and no others, and ended each claim that they drew
 pub record Worked (basis : Basis) (v w : View) (rows : List RowData) : Type 0 where
@@ -49,7 +49,7 @@ pub record Worked (basis : Basis) (v w : View) (rows : List RowData) : Type 0 wh
 -- the row is cited for the part: it is right and known, and the workers published it, or no row that was known and was
 -- published later would do
 pub record Cites (basis : Basis) (v w : View) (part : FactKey) (rows : List RowData) (row : RowData) : Type 0 where
-  pub right : IsRight basis.means row part basis.snapshot.state
+  pub right : IsRightRow basis.means row part basis.snapshot.state
   pub stands : Stands w.rows row
   pub source : Stands rows row ⊎ NoLaterAgrees basis.means v.rows row part basis.snapshot.state
 

@@ -4,16 +4,10 @@ use Rattle.std.specs.List.{All}
 use Rattle.std.specs.Str.{IsUtf8}
 use Rattle.std.proofs.Common.{refl, subst, arith}
 use Rattle.std.proofs.lemmas.Bool.Decides.{nat_tests}
-use Rattle.std.proofs.lemmas.List.Elements.{All-filter}
-use Rattle.dita_doc.specs.Bytes.{has_bytes, parts_by}
 use Rattle.dita_doc.specs.PlainText.{is_blank_byte}
 use Rattle.dita_doc.specs.ClassValue.{without_blanks, sign_of, words_of, IsSigned}
 use Rattle.dita_doc.specs.declared.class.Sign.{Sign}
-use Rattle.dita_doc.proofs.Utf8Laws.{utf8_behind, utf8_parts}
-
-utf8_words : (text : List ℕ) → IsUtf8 text → All IsUtf8 (words_of text)
-utf8_words text utf8 = All-filter has_bytes IsUtf8 (parts_by is_blank_byte text)
-    (utf8_parts is_blank_byte text (λ b high. grind (arith, nat_tests)) utf8)
+use Rattle.dita_doc.proofs.Utf8Laws.{utf8_behind, utf8_words}
 
 blank_is_low : (b : ℕ) → is_blank_byte b ≡ true → b < 128
 blank_is_low b e = grind (arith, nat_tests)

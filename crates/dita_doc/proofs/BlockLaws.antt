@@ -11,13 +11,13 @@ use Rattle.std.proofs.lemmas.Cmp.{nat_list_cmp_total}
 use Rattle.std.proofs.lemmas.Option.{none-some}
 use Rattle.std.proofs.lemmas.List.{take-append-drop, length-take-le, get_or_at, set_at, take_at, drop_at, drop_more, append-nil, get_or_default}
 use Rattle.std.proofs.lemmas.List.Concat.{flat_map-append}
-use Rattle.dita_doc.specs.Desk.{Stored, State, IsBelowAll, IsSortedByName, is_named, found, with_stored, without_name}
+use Rattle.dita_doc.specs.Desk.{Stored, State, IsBelowAll, IsSortedByName, is_named, stored_under, with_stored, without_name}
 use Rattle.dita_doc.specs.Sources.{AreBelow, Shared, IsBlockFor, IsShorterThan, all_stored, begins_above}
 use Rattle.dita_doc.proofs.NameOrder.{below_from_above, same_from_equal, below_all_lower, found_behind, found_above, without_behind, without_above, with_order, with_behind, with_above, below_sorted, sorted_back}
 
 -- what is above all of the back is found, stored and taken away in the front alone
 found_before : (front back : State) (name : List ℕ) → IsBelowAll name back
-    → found (front ++ back) name ≡ found front name
+    → stored_under (front ++ back) name ≡ stored_under front name
 found_before [] back name above = found_above back name above
 found_before (stored ∷ front) back name above =
     ap (λ rest. cond (is_named name stored) (Some stored) rest) (found_before front back name above)
@@ -43,7 +43,7 @@ without_before (stored ∷ front) back name above =
 
 -- a document that stands alone leaves nothing
 without_alone : (state : State) (name : List ℕ) (stored : Stored) → length state ≤ 1
-    → Some stored ≡ found state name → without_name name state ≡ []
+    → Some stored ≡ stored_under state name → without_name name state ≡ []
 without_alone [] name stored few stands = absurd (none-some stored (sym stands))
 without_alone (first ∷ second ∷ state) name stored few stands = absurd (omega arith)
 without_alone (first ∷ []) name stored few stands =
@@ -79,12 +79,12 @@ module _ (blocks : List Shared) (name : List ℕ) (at : ℕ) (here : IsBlockFor 
   parts = ap all_stored here.whole ∙ all_parts here.front here.back here.block
 
   pub found_there : (block : Shared) → block ≡ get_or blocks at block
-      → found (all_stored blocks) name ≡ found (arc_value block) name
+      → stored_under (all_stored blocks) name ≡ stored_under (arc_value block) name
   found_there block is =
-      ap (λ all. found all name) parts
+      ap (λ all. stored_under all name) parts
       ∙ found_behind (all_stored here.front) (arc_value here.block ++ all_stored here.back) name here.below
       ∙ found_before (arc_value here.block) (all_stored here.back) name here.above
-      ∙ ap (λ (b : Shared). found (arc_value b) name) (sym (block_read block is))
+      ∙ ap (λ (b : Shared). stored_under (arc_value b) name) (sym (block_read block is))
 
   -- another block in its place
   pub all_with : (new : Shared)
@@ -163,7 +163,8 @@ module _ (blocks : List Shared) (name : List ℕ) (at : ℕ) (here : IsBlockFor 
       ∙ flat_map-append (λ (b : Shared). arc_value b) here.front here.back
 
   pub without_block : (block other : Shared) (stored : Stored) → block ≡ get_or blocks at block
-      → other ≡ get_or blocks at other → length (arc_value other) ≤ 1 → Some stored ≡ found (arc_value block) name
+      → other ≡ get_or blocks at other → length (arc_value other) ≤ 1
+      → Some stored ≡ stored_under (arc_value block) name
       → all_stored (remove blocks at) ≡ without_name name (all_stored blocks)
   without_block block other stored is is_other few stands =
       let front = all_stored here.front in

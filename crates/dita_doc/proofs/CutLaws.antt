@@ -1,9 +1,9 @@
 -- A list, cut at the first byte of a kind.
 use Rattle.std.specs.Prelude.{◌≡◌, ◌+◌, ◌-◌, ◌<◌, ◌≤◌, ◌==◌, ℕ, suc, Bool, true, false, List, [], ◌∷◌, ◌++◌, Option, Some, None, length, take, drop, cond, MatchOption}
 use native.Mathlib.Numerals.{unary_clauses}
-use Rattle.std.specs.List.{position_or_len, slice_range}
+use Rattle.std.specs.List.{before_first, list_any, position_or_len, slice_range}
 use Rattle.std.proofs.Common.{refl, sym, subst, arith, ltb, get_or, ap, ◌∙◌}
-use Rattle.std.proofs.lemmas.Bool.{ltb-true, ltb-false, eqb-true, or_from}
+use Rattle.std.proofs.lemmas.Bool.{ltb-true, ltb-false, eqb-true, or_from, or_parts}
 use Rattle.std.proofs.lemmas.List.{take_all, take_rest, take_at, drop_at, drop-drop}
 use Rattle.std.proofs.lemmas.List.Sums.{split_at_first, passes_at_first}
 use Rattle.dita_doc.specs.Cut.{Lacks, IsCutAt}
@@ -13,14 +13,14 @@ abbrev pub place : ℕ → List ℕ → ℕ
 place byte bytes = position_or_len (λ b. b == byte) bytes
 
 -- `take` computes at `suc`, and not at `1 +`
-take-one_more : (n b : ℕ) (bytes : List ℕ) → take (1 + n) (b ∷ bytes) ≡ b ∷ take n bytes
-take-one_more n b bytes = let e : 1 + n ≡ suc n = omega arith in rw e refl
+pub take_one_more : (n b : ℕ) (bytes : List ℕ) → take (1 + n) (b ∷ bytes) ≡ b ∷ take n bytes
+take_one_more n b bytes = let e : 1 + n ≡ suc n = omega arith in rw e refl
 
 -- the same one byte further in front, by whether that is one
 lacks_from : (byte b : ℕ) (bytes : List ℕ) (same : Bool) → (b == byte) ≡ same
     → Lacks byte (take (place byte bytes) bytes) → Lacks byte (take (place byte (b ∷ bytes)) (b ∷ bytes))
 lacks_from byte b bytes true e rest = rw e refl
-lacks_from byte b bytes false e rest = rw (e, take-one_more (place byte bytes) b bytes) (or_from (b == byte) _ e rest)
+lacks_from byte b bytes false e rest = rw (e, take_one_more (place byte bytes) b bytes) (or_from (b == byte) _ e rest)
 
 -- none stands before the first
 lacks_before : (byte : ℕ) (bytes : List ℕ) → Lacks byte (take (place byte bytes) bytes)
@@ -76,3 +76,10 @@ cut_again byte bytes front back taken left whole first is then =
     ∙ sym (drop-drop 1 (length front) (front ++ byte ∷ back))
     ∙ ap (drop 1) (drop_at front (byte ∷ back) (length front) refl) in
     record { whole = rw (same, rest) whole; first = rw same first }
+
+-- no byte ends it
+pub front_alone : (ends : ℕ → Bool) (value : List ℕ) → list_any ends value ≡ false → before_first ends value ≡ value
+front_alone ends [] e = refl
+front_alone ends (b ∷ value) e =
+    let parts = or_parts (ends b) (list_any ends value) e in
+    rw (parts.0, take_one_more (position_or_len ends value) b value, front_alone ends value parts.1) refl

@@ -20,16 +20,16 @@ utf8_if false x y first second = second
 -- Texts with escapes
 
 -- what is written for a byte; one that is no ASCII stands for itself
-record ShowsAscii (shown : ℕ → List ℕ) : Type 0 where
+pub record ShowsAscii (shown : ℕ → List ℕ) : Type 0 where
   low : (b : ℕ) → b < 128 → IsUtf8 (shown b)
   high : (b : ℕ) → 128 ≤ b → shown b ≡ b ∷ []
 
-high_shown : (shown : ℕ → List ℕ) (char rest : List ℕ) → ShowsAscii shown → AreHigh char
+pub high_shown : (shown : ℕ → List ℕ) (char rest : List ℕ) → ShowsAscii shown → AreHigh char
     → flat_map shown (char ++ rest) ≡ char ++ flat_map shown rest
 high_shown shown [] rest shows high = refl
 high_shown shown (b ∷ char) rest shows high = rw (shows.high b high.0, high_shown shown char rest shows high.1) refl
 
-utf8_shown : (shown : ℕ → List ℕ) (bytes : List ℕ) → ShowsAscii shown → IsUtf8 bytes → IsUtf8 (flat_map shown bytes)
+pub utf8_shown : (shown : ℕ → List ℕ) (bytes : List ℕ) → ShowsAscii shown → IsUtf8 bytes → IsUtf8 (flat_map shown bytes)
 utf8_shown shown bytes shows utf8 = utf8_grows (λ (text : List ℕ). IsUtf8 (flat_map shown text)) bytes (record {
   none = IsUtf8-nil;
   low = λ b rest less whole well. IsUtf8-append (shown b) (flat_map shown rest) (shows.low b less) well;

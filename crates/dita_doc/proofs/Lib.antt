@@ -13,3 +13,6 @@ pub mod EscapeUtf8Laws
 pub mod Utf8Laws
 pub mod LackLaws
 pub mod EscapeLackLaws
+pub mod Tests
+pub mod Orders
+pub mod Lists

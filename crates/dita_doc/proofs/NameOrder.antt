@@ -6,7 +6,7 @@ use Rattle.std.specs.declared.cmp.Ordering.{Ordering}
 use Rattle.std.specs.declared.cmp.Ordering.TheVariants.{Less, Equal, Greater}
 use Rattle.std.proofs.lemmas.Cmp.{nat_list_cmp_total, tied_itself}
 use Rattle.std.proofs.lemmas.Option.{none-some, same_Some}
-use Rattle.dita_doc.specs.Desk.{Stored, State, IsBelowAll, IsSortedByName, is_named, found, with_stored, without_name}
+use Rattle.dita_doc.specs.Desk.{Stored, State, IsBelowAll, IsSortedByName, is_named, stored_under, with_stored, without_name}
 use Rattle.dita_doc.specs.Sources.{AreBelow}
 
 -- who is below another has him above
@@ -55,16 +55,16 @@ below_sorted (first ∷ front) stored back h =
 
 -- nothing that is below a name, or above it, has it
 pub found_behind : (front back : State) (name : List ℕ) → AreBelow front name
-    → found (front ++ back) name ≡ found back name
+    → stored_under (front ++ back) name ≡ stored_under back name
 found_behind [] back name below = refl
 found_behind (stored ∷ front) back name below =
-    ap (λ b. cond b (Some stored) (found (front ++ back) name)) (named_by_order stored name Less below.0)
+    ap (λ b. cond b (Some stored) (stored_under (front ++ back) name)) (named_by_order stored name Less below.0)
     ∙ found_behind front back name below.1
 
-pub found_above : (back : State) (name : List ℕ) → IsBelowAll name back → found back name ≡ None
+pub found_above : (back : State) (name : List ℕ) → IsBelowAll name back → stored_under back name ≡ None
 found_above [] name above = refl
 found_above (stored ∷ back) name above =
-    ap (λ b. cond b (Some stored) (found back name))
+    ap (λ b. cond b (Some stored) (stored_under back name))
     (named_by_order stored name Greater (above_from_below name stored.name above.0)) ∙ found_above back name above.1
 
 pub without_behind : (front back : State) (name : List ℕ) → AreBelow front name
@@ -153,19 +153,21 @@ sorted_without name (stored ∷ state) sorted =
     [ true ↦ rest | false ↦ (below, rest) ]
 
 -- a name that is not found is not taken away, and what is found has the name
-pub without_unfound : (name : List ℕ) (state : State) → found state name ≡ None → without_name name state ≡ state
+pub without_unfound : (name : List ℕ) (state : State) → stored_under state name ≡ None → without_name name state ≡ state
 without_unfound name [] none = refl
 without_unfound name (stored ∷ state) none =
     let rest = without_unfound name state in
     let by_test : is_named name stored ≡ is_named name stored → without_name name (stored ∷ state) ≡ stored ∷ state =
     elim (is_named name stored) as (λ b. b ≡ is_named name stored
     → cond (not b) (stored ∷ without_name name state) (without_name name state) ≡ stored ∷ state) [
-      | true ↦ λ e. absurd (none-some stored (sym none ∙ ap (λ b. cond b (Some stored) (found state name)) (sym e)))
-      | false ↦ λ e. ap (λ rest. stored ∷ rest) (rest (ap (λ b. cond b (Some stored) (found state name)) e ∙ none))
+      | true ↦ λ e. absurd
+          (none-some stored (sym none ∙ ap (λ b. cond b (Some stored) (stored_under state name)) (sym e)))
+      | false ↦ λ e. ap (λ rest. stored ∷ rest)
+          (rest (ap (λ b. cond b (Some stored) (stored_under state name)) e ∙ none))
     ] in
     by_test refl
 
-pub named_as_found : (state : State) (name : List ℕ) (stored : Stored) → found state name ≡ Some stored
+pub named_as_found : (state : State) (name : List ℕ) (stored : Stored) → stored_under state name ≡ Some stored
     → stored.name ≡ name
 named_as_found [] name stored is = absurd (none-some stored is)
 named_as_found (first ∷ state) name stored is =
@@ -173,8 +175,8 @@ named_as_found (first ∷ state) name stored is =
     let by_test : is_named name first ≡ is_named name first → stored.name ≡ name =
     elim (is_named name first) as (λ b. b ≡ is_named name first → stored.name ≡ name) [
       | true ↦ λ e. ap (λ (s : Stored). s.name)
-          (sym (same_Some first stored (ap (λ b. cond b (Some first) (found state name)) e ∙ is)))
+          (sym (same_Some first stored (ap (λ b. cond b (Some first) (stored_under state name)) e ∙ is)))
           ∙ (bytes_decides first.name name).0 (sym e)
-      | false ↦ λ e. rest (ap (λ b. cond b (Some first) (found state name)) e ∙ is)
+      | false ↦ λ e. rest (ap (λ b. cond b (Some first) (stored_under state name)) e ∙ is)
     ] in
     by_test refl

@@ -8,7 +8,7 @@ use Rattle.std.specs.declared.cmp.Ordering.TheVariants.{Less, Equal, Greater}
 use Rattle.std.proofs.lemmas.Cmp.{nat_list_cmp_total}
 use Rattle.std.proofs.lemmas.List.{map-append, take-map, drop-map, take-append-drop, length-take-le, get_or-map, get_or_at, set_at, take_at, drop_at, map-set, drop_more, length-map, get_or_default}
 use Rattle.std.proofs.lemmas.List.Sorted.{searchable_from_sorted}
-use Rattle.dita_doc.specs.Desk.{Stored, State, IsBelowAll, IsSortedByName, is_named, found, with_stored, without_name}
+use Rattle.dita_doc.specs.Desk.{Stored, State, IsBelowAll, IsSortedByName, is_named, stored_under, with_stored, without_name}
 use Rattle.dita_doc.specs.Sources.{AreBelow, IsAt, IsGapFor, IsBlock, block_limit}
 use Rattle.dita_doc.proofs.NameOrder.{above_from_below, below_from_above, same_from_equal, found_behind, found_above, without_behind, without_above, with_order, with_behind, with_above, with_same, below_sorted, sorted_back, sorted_with, named_itself}
 
@@ -122,19 +122,19 @@ map-remove seen xs at = map-append seen (take at xs) (drop (suc at) xs)
     ∙ ap (λ back. take at (map seen xs) ++ back) (sym (drop-map seen (suc at) xs))
 
 pub found_at : (state : State) (name : List ℕ) (at : ℕ) (here : IsAt state name at)
-    → found state name ≡ Some here.stored
+    → stored_under state name ≡ Some here.stored
 found_at state name at here =
-    ap (λ all. found all name) here.whole
+    ap (λ all. stored_under all name) here.whole
     ∙ found_behind here.front (here.stored ∷ here.back) name here.below
-    ∙ subst (λ n. found (here.stored ∷ here.back) n ≡ Some here.stored) here.same
-    (ap (λ b. cond b (Some here.stored) (found here.back here.stored.name)) (named_itself here.stored))
+    ∙ subst (λ n. stored_under (here.stored ∷ here.back) n ≡ Some here.stored) here.same
+    (ap (λ b. cond b (Some here.stored) (stored_under here.back here.stored.name)) (named_itself here.stored))
 
 pub place_within : (state : State) (name : List ℕ) (at : ℕ) → IsAt state name at → at < length state
 place_within state name at here = rw here.whole
     (omega (arith, length-append here.front (here.stored ∷ here.back), here.place))
 
 pub found_read : {X : Type 0} (seen : X → Stored) (xs : List X) (state : State) (name : List ℕ) (at : ℕ) (x : X)
-    → map seen xs ≡ state → IsAt state name at → x ≡ get_or xs at x → found state name ≡ Some (seen x)
+    → map seen xs ≡ state → IsAt state name at → x ≡ get_or xs at x → stored_under state name ≡ Some (seen x)
 found_read seen xs state name at x view here is =
     let within : at < length xs = omega (arith, place_within state name at here, ap length view, length-map xs seen) in
     found_at state name at here
@@ -143,8 +143,9 @@ found_read seen xs state name at x view here is =
     ∙ ap (λ all. Some (get_or all at (seen x))) (sym view)
     ∙ ap Some (get_or-map seen xs at x (seen x) within ∙ ap seen (sym is))
 
-pub found_in_gap : (state : State) (name : List ℕ) (at : ℕ) → IsGapFor state name at → found state name ≡ None
-found_in_gap state name at gap = ap (λ all. found all name) gap.whole ∙ found_behind gap.front gap.back name gap.below
+pub found_in_gap : (state : State) (name : List ℕ) (at : ℕ) → IsGapFor state name at → stored_under state name ≡ None
+found_in_gap state name at gap = ap (λ all. stored_under all name) gap.whole
+    ∙ found_behind gap.front gap.back name gap.below
     ∙ found_above gap.back name gap.above
 
 -- written over

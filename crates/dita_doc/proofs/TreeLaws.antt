@@ -1,10 +1,13 @@
 -- Trees and their preorders: each tells the other.
-use Rattle.std.specs.Prelude.{◌≡◌, ◌+◌, ◌-◌, ◌<◌, ◌≤◌, ℕ, zero, suc, List, [], ◌∷◌, ◌++◌, Some, length, take, drop, slice_get, EachIndex}
+use Rattle.std.specs.Prelude.{◌≡◌, ◌+◌, ◌-◌, ◌<◌, ◌≤◌, ℕ, zero, suc, List, [], ◌∷◌, ◌++◌, Some, length, take, drop, slice_get, EachIndex, IsTrue, nat_lt}
 use Rattle.std.proofs.Common.{refl, sym, ◌∙◌, ap, subst, arith, length-append}
+use Rattle.std.proofs.lemmas.Bool.Decides.{nat_tests}
 use Rattle.std.proofs.lemmas.List.{take_at, drop_at, length-take, length-drop}
 use Rattle.dita_doc.specs.declared.doc.Node.{Node}
 use Rattle.dita_doc.specs.declared.doc.NodeKind.TheVariants as kinds
-use Rattle.dita_doc.specs.Tree.{Content, End, Chars, Element, size_of, nodes_of, content_within, content_of, element_node, ArePreorder}
+use Rattle.dita_doc.specs.Tree.{Content, End, Chars, Element, size_of, nodes_of, content_within, content_of, element_node, ArePreorder, are_placed}
+use Rattle.dita_doc.specs.declared.doc.Node as doc
+use Rattle.dita_doc.proofs.Lists.{each_passes}
 
 -- the number of nodes
 pub length_nodes : (c : Content) (place : ℕ) → length (nodes_of c place) ≡ size_of c
@@ -127,13 +130,13 @@ begins_element nodes node more place same tree kind =
 
 -- Nodes that stand in a list from a place on
 
-slice_get-take : (n : ℕ) (nodes : List Node) (k : ℕ) → k < n → slice_get (take n nodes) k ≡ slice_get nodes k
+pub slice_get-take : (n : ℕ) (nodes : List Node) (k : ℕ) → k < n → slice_get (take n nodes) k ≡ slice_get nodes k
 slice_get-take zero nodes k inside = absurd (omega arith)
 slice_get-take (suc n) [] k inside = refl
 slice_get-take (suc n) (node ∷ nodes) zero inside = refl
 slice_get-take (suc n) (node ∷ nodes) (suc k) inside = slice_get-take n nodes k (omega arith)
 
-slice_get-drop : (n : ℕ) (nodes : List Node) (k at : ℕ) → at ≡ n + k → slice_get (drop n nodes) k ≡ slice_get nodes at
+pub slice_get-drop : (n : ℕ) (nodes : List Node) (k at : ℕ) → at ≡ n + k → slice_get (drop n nodes) k ≡ slice_get nodes at
 slice_get-drop zero nodes k at is = let same : k ≡ at = omega arith in ap (slice_get nodes) same
 slice_get-drop (suc n) nodes k zero is = absurd (omega arith)
 slice_get-drop (suc n) [] k (suc at) is = refl
@@ -179,3 +182,10 @@ back_within n end nodes place all is within k inside =
 -- and so do all from a place on
 pub all_within : (nodes : List Node) (place : ℕ) → AreAt (drop place nodes) place nodes
 all_within nodes place k inside = slice_get-drop place nodes k (place + k) refl
+
+-- an origin is a place among the names
+pub origin_fits : (count : ℕ) (nodes : List doc.Node) (at : ℕ) (node : doc.Node) → IsTrue (are_placed count nodes)
+    → slice_get nodes at ≡ Some node → node.origin < count
+origin_fits count nodes at node placed is =
+    let passes = each_passes (λ (n : doc.Node). nat_lt n.origin count) nodes at node placed is in
+    grind (arith, nat_tests)

@@ -7,12 +7,14 @@ use Rattle.std.proofs.Math.Utf8.{scalar, scalars, encode, encodes}
 use Rattle.std.proofs.lemmas.Bool.{and_parts, ltb-true, ltb-false, eqb-true}
 use Rattle.std.proofs.lemmas.Bool.Decides.{nat_tests}
 use Rattle.std.proofs.lemmas.List.{append-nil, take_all, drop_all, take_at, drop_at, get_or_at}
-use Rattle.std.proofs.lemmas.List.Elements.{All-nil, All-cons, All-head, All-tail}
+use Rattle.std.proofs.lemmas.List.Elements.{All-nil, All-cons, All-head, All-tail, All-filter}
 use Rattle.std.proofs.lemmas.List.Sums.{split_at_first, passes_at_first}
 use Rattle.std.proofs.lemmas.Str.{inside_one, encode_ascii, length-encode, len_utf8_bounds, IsUtf8-encode, IsUtf8-append, IsUtf8-nil, IsUtf8-drop, IsUtf8-take, IsUtf8-from_ascii, IsCharBoundary-after_ascii, IsCharBoundary-before_ascii}
 use Rattle.std.proofs.lemmas.Str.Ascii.{IsAscii-cons, IsAscii-nil}
-use Rattle.dita_doc.specs.Bytes.{is_space, onto_first, parts_by}
+use Rattle.dita_doc.specs.Bytes.{has_bytes, is_space, onto_first, parts_by}
+use Rattle.dita_doc.specs.ClassValue.{words_of}
 use Rattle.dita_doc.specs.Lines.{lines_of}
+use Rattle.dita_doc.specs.PlainText.{is_blank_byte}
 
 -- Characters
 
@@ -189,3 +191,8 @@ utf8_parts ends bytes none_high utf8 = utf8_cuts (parts_by ends) bytes (record {
   low = λ b rest less all. utf8_low b (parts_by ends rest) (ends b) less all;
   high = λ b rest high. let other = none_high b high in rw other refl;
 }) utf8
+
+-- the words of a text
+pub utf8_words : (text : List ℕ) → IsUtf8 text → All IsUtf8 (words_of text)
+utf8_words text utf8 = All-filter has_bytes IsUtf8 (parts_by is_blank_byte text)
+    (utf8_parts is_blank_byte text (λ b high. grind (arith, nat_tests)) utf8)

@@ -36,8 +36,8 @@ IsSortedByName (stored ∷ state) = IsBelowAll stored.name state × IsSortedByNa
 abbrev pub is_named : List ℕ → Stored → Bool
 is_named name stored = bytes_eq stored.name name
 
-abbrev pub found : State → List ℕ → Option Stored
-found state name = find (is_named name) state
+abbrev pub stored_under : State → List ℕ → Option Stored
+stored_under state name = find (is_named name) state
 
 abbrev pub version_of : Option Stored → ℕ
 version_of None = 0
@@ -45,7 +45,7 @@ version_of (Some stored) = stored.version
 
 -- the version that stands under a name
 abbrev pub version_at : State → List ℕ → ℕ
-version_at state name = version_of (found state name)
+version_at state name = version_of (stored_under state name)
 
 abbrev pub stored_limit : ℕ
 stored_limit = 10000
@@ -75,7 +75,7 @@ pub data Reply : Type 0 where
 -- a body that is a text is stored, unless the desk is full and has no such name
 abbrev pub store_reply : State → ℕ → List ℕ → Reply
 store_reply state place name =
-    if nat_le stored_limit (length state) && not (is_some (found state name)) then TooManyNames stored_limit
+    if nat_le stored_limit (length state) && not (is_some (stored_under state name)) then TooManyNames stored_limit
     else IsStored (place + 1)
 
 -- the reply if a body is a text, or its fault
@@ -93,7 +93,7 @@ edit_reply state place (Put name body) = unless_refused (document_of body) (stor
 edit_reply state place (PutIf version name body) =
     unless_refused (document_of body) (if version_at state name == version then store_reply state place name
     else Conflict (version_at state name))
-edit_reply state place (Remove name) = remove_reply (found state name)
+edit_reply state place (Remove name) = remove_reply (stored_under state name)
 
 -- the nodes of the document that a body is
 abbrev pub nodes_in : Result Content PyxFault → List Node
@@ -185,7 +185,7 @@ listed stored = (stored.name, stored.version)
 -- the reply to the request at a place
 abbrev pub reply : State → ℕ → Request → Reply
 reply state place (Single edit) = edit_reply state place edit
-reply state place (Get name) = get_reply (found state name)
+reply state place (Get name) = get_reply (stored_under state name)
 reply state place Names = NameList (map listed state)
 reply state place (Build root val) = Begun
 reply state place (Group edits) = group_reply (length edits) (halt_of state place edits)

@@ -20,3 +20,4 @@ pub mod Desk
 pub mod History
 pub mod Seen
 pub mod Sources
+pub mod Shown

@@ -13,15 +13,15 @@ use Rattle.dita_doc.specs.PyxEvent.{Event, Open, Give, Text, Close, add_text, op
 abbrev pub text_limit : ℕ
 text_limit = 4194304
 
-abbrev pub is_nothing : List ℕ → Bool
-is_nothing [] = true
-is_nothing (b ∷ bytes) = false
+abbrev pub is_empty_line : List ℕ → Bool
+is_empty_line [] = true
+is_empty_line (b ∷ bytes) = false
 
 -- What the lines of these bytes say, if this much of a line stands before them and so many bytes of the text are
 -- still within the limit. A CR is dropped wherever it stands, and a last rest that is not empty is a line too (own).
 abbrev pub lines_from : ℕ → List ℕ → List ℕ → List Line
-lines_from left line [] = if is_nothing line then [] else line_of line ∷ []
-lines_from zero line (b ∷ bytes) = if (b == carriage_return) && is_nothing line then lines_from zero line bytes
+lines_from left line [] = if is_empty_line line then [] else line_of line ∷ []
+lines_from zero line (b ∷ bytes) = if (b == carriage_return) && is_empty_line line then lines_from zero line bytes
     else Breaks codes.TooLong ∷ []
 lines_from (suc left) line (b ∷ bytes) =
     if b == line_feed then line_of line ∷ lines_from left [] bytes
@@ -76,7 +76,7 @@ begins_with_text (Element name attributes origin line inside rest) = false
 
 abbrev pub IsWritten : Content → Type 0
 IsWritten End = Unit {0}
-IsWritten (Chars text origin line rest) = (is_nothing text ≡ false) × (begins_with_text rest ≡ false) × (origin ≡ 0)
+IsWritten (Chars text origin line rest) = (is_empty_line text ≡ false) × (begins_with_text rest ≡ false) × (origin ≡ 0)
     × (line ≡ 0) × IsWritten rest
 IsWritten (Element name attributes origin line inside rest) = (origin ≡ 0) × IsWritten inside × IsWritten rest
 

@@ -50,13 +50,14 @@ has_root (Close name ∷ before) = has_root before
 abbrev pub is_outside : List Event → Bool
 is_outside before = length (open_names before) == 0
 
-abbrev pub depth_limit : ℕ
-depth_limit = 256
+abbrev pub read_depth_limit : ℕ
+read_depth_limit = 256
 
 -- a second root, or an element deeper than the limit; the root has depth 1
 abbrev pub fault_of_open : Bool → List (List ℕ) → Option PyxCode
 fault_of_open rooted [] = if rooted then Some codes.SecondRoot else None
-fault_of_open rooted (name ∷ names) = if nat_le depth_limit (length (name ∷ names)) then Some codes.TooDeep else None
+fault_of_open rooted (name ∷ names) = if nat_le read_depth_limit
+    (length (name ∷ names)) then Some codes.TooDeep else None
 
 -- an attribute where none may stand, or one that the element has already
 abbrev pub fault_of_give : List ℕ → Option (List (List ℕ)) → Option PyxCode

@@ -7,7 +7,7 @@ use Rattle.dita_doc.specs.declared.doc.Attribute.{Attribute}
 use Rattle.dita_doc.specs.Bytes.{line_feed, carriage_return}
 use Rattle.dita_doc.specs.Cut.{Lacks}
 use Rattle.dita_doc.specs.Pyx.{IsWritten, IsOneElement}
-use Rattle.dita_doc.specs.PyxEvent.{depth_limit}
+use Rattle.dita_doc.specs.PyxEvent.{read_depth_limit}
 use Rattle.dita_doc.specs.PyxLine.{is_line_name}
 use Rattle.dita_doc.specs.Tree.{Content, End, Chars, Element}
 
@@ -35,7 +35,7 @@ abbrev pub IsReadWithin : ℕ → Content → Type 0
 IsReadWithin depth End = Unit {0}
 IsReadWithin depth (Chars text origin line rest) = IsReadText text × IsReadWithin depth rest
 IsReadWithin depth (Element name attributes origin line inside rest) =
-    IsReadName name × (depth < depth_limit) × AreReadAfter [] attributes
+    IsReadName name × (depth < read_depth_limit) × AreReadAfter [] attributes
     × IsReadWithin (depth + 1) inside × IsReadWithin depth rest
 
 pub record IsReadTree (tree : Content) : Type 0 where

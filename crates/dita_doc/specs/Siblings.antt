@@ -11,8 +11,8 @@ abbrev pub content : Siblings → Content
 content siblings = content_of siblings.nodes.now siblings.place
 
 -- the document that they stand in
-abbrev pub document : Siblings → Doc
-document siblings = siblings.doc.now
+abbrev pub doc_of_siblings : Siblings → Doc
+doc_of_siblings siblings = siblings.doc.now
 
 abbrev pub IsFirst : Content → First → Type 0
 IsFirst all first.End = all ≡ End
@@ -42,24 +42,25 @@ IsNodeOf doc (first.Element place node inside rest) = slice_get doc.nodes place 
 -- what it holds and what comes after it stand in this document
 abbrev pub PartsAreOf : Doc → First → Type 0
 PartsAreOf doc first.End = Unit {0}
-PartsAreOf doc (first.Chars place node rest) = document rest ≡ doc
-PartsAreOf doc (first.Element place node inside rest) = (document inside ≡ doc) × (document rest ≡ doc)
+PartsAreOf doc (first.Chars place node rest) = doc_of_siblings rest ≡ doc
+PartsAreOf doc (first.Element place node inside rest) = (doc_of_siblings inside ≡ doc) × (doc_of_siblings rest ≡ doc)
 
 -- Places in the preorder of a tree, of which the first is 0
 
 -- one content behind another
-abbrev pub joined : Content → Content → Content
-joined End more = more
-joined (Chars text origin line rest) more = Chars text origin line (joined rest more)
-joined (Element name attributes origin line inside rest) more =
-    Element name attributes origin line inside (joined rest more)
+abbrev pub content_behind : Content → Content → Content
+content_behind End more = more
+content_behind (Chars text origin line rest) more = Chars text origin line (content_behind rest more)
+content_behind (Element name attributes origin line inside rest) more =
+    Element name attributes origin line inside (content_behind rest more)
 
 -- what the preorder has from this place on
 abbrev pub content_from : ℕ → Content → Content
 content_from zero all = all
 content_from (suc place) End = End
 content_from (suc place) (Chars text origin line rest) = content_from place rest
-content_from (suc place) (Element name attributes origin line inside rest) = content_from place (joined inside rest)
+content_from (suc place) (Element name attributes origin line inside rest) = content_from place
+    (content_behind inside rest)
 
 -- the element that stands first, with what it holds and nothing behind it
 abbrev pub first_element : Content → Option Content
@@ -68,13 +69,13 @@ first_element (Chars text origin line rest) = None
 first_element (Element name attributes origin line inside rest) =
     Some (Element name attributes origin line inside End)
 
-abbrev pub element_at : Content → ℕ → Option Content
-element_at all place = first_element (content_from place all)
+abbrev pub content_at : Content → ℕ → Option Content
+content_at all place = first_element (content_from place all)
 
 -- the document's element at this place has this node and holds these siblings
 pub record IsElementAt (doc : Doc) (place : ℕ) (node : Node) (inside : Siblings) : Type 0 where
   pub element :
-      element_at (tree_of doc.nodes) place ≡
+      content_at (tree_of doc.nodes) place ≡
       Some (Element node.text node.attributes node.origin node.line (content inside) End)
   pub here : slice_get doc.nodes place ≡ Some node
-  pub within : document inside ≡ doc
+  pub within : doc_of_siblings inside ≡ doc

@@ -10,10 +10,10 @@ use Rattle.std.specs.declared.sync.Arc.{Arc}
 use Rattle.std.specs.declared.alloc.Global.{Global}
 use Rattle.dita_doc.specs.declared.doc.Doc.{Doc}
 use Rattle.dita_doc.specs.declared.doc.Node.{Node}
-use Rattle.dita_doc.specs.declared.sources.Document.{Document}
+use Rattle.dita_doc.specs.declared.sources.StoredDoc.{StoredDoc}
 use Rattle.dita_doc.specs.Desk.{Stored, State, IsBelowAll, IsSortedByName}
 
-abbrev pub document_seen : Document → Stored
+abbrev pub document_seen : StoredDoc → Stored
 document_seen document = record {
   name = document.name;
   nodes = (arc_value document.doc).nodes;
@@ -22,7 +22,7 @@ document_seen document = record {
   version = document.version;
 }
 
-abbrev pub found_seen : Option (Bor Document) → Option Stored
+abbrev pub found_seen : Option (Bor StoredDoc) → Option Stored
 found_seen found = option_map (λ document. document_seen document.now) found
 
 -- a version, and the nodes of the document that has it

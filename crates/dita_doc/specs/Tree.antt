@@ -71,8 +71,8 @@ ArePreorder nodes place = nodes ≡ nodes_of (content_of nodes place) place
 abbrev pub tree_of : List Node → Content
 tree_of nodes = content_of nodes 0
 
-abbrev pub node_limit : ℕ
-node_limit = 2 ^ 32
+abbrev pub doc_node_limit : ℕ
+doc_node_limit = 2 ^ 32
 
 -- the origins of nodes are places among so many
 abbrev pub are_places : ℕ → List ℕ → Bool

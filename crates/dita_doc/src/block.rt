@@ -3,7 +3,7 @@
 ghost use Rattle.std.specs.Prelude.{◌≡◌, ◌∷◌, [], ◌++◌, ◌+◌, ◌<◌, length, IfOk, IfErr, OnErr, OnOk, is_some, map, option_map, if◌then◌else◌};
 
 use crate::name::Name;
-use crate::sources::Document;
+use crate::sources::StoredDoc;
 use std::alloc::{AllocError, Global};
 use std::marker::Model;
 
@@ -13,7 +13,7 @@ pub const BLOCK_LIMIT: usize = 128;
 /// Stored documents that follow one another, by the bytes of their names: at least one.
 #[derive(Drop)]
 pub struct Block {
-    documents: Vec<Document>,
+    documents: Vec<StoredDoc>,
 }
 
 impl Model for Block {
@@ -34,7 +34,7 @@ impl Block {
     ghost use Rattle.dita_doc.specs.Desk as desk_spec;
 
     /// The block of one document.
-    pub fn of(alloc: Global, document: Document) -> Result<Block, AllocError>
+    pub fn of(alloc: Global, document: StoredDoc) -> Result<Block, AllocError>
         ensures { IfOk result (λ block. block ≡ sources_spec.document_seen document ∷ []) }
     {
         let mut documents = Vec::new(alloc);
@@ -43,8 +43,8 @@ impl Block {
     }
 
     /// The document that is stored under a name.
-    pub fn find(&self, name: &Name) -> Option<&Document>
-        ensures { sources_spec.found_seen result ≡ desk_spec.found self.now name.now }
+    pub fn find(&self, name: &Name) -> Option<&StoredDoc>
+        ensures { sources_spec.found_seen result ≡ desk_spec.stored_under self.now name.now }
     {
         match self.position(name) {
             Ok(at) => Some(&self.documents[at]),
@@ -68,7 +68,7 @@ impl Block {
     }
 
     /// All that it has, by the bytes of the names.
-    pub fn as_slice(&self) -> &[Document]
+    pub fn as_slice(&self) -> &[StoredDoc]
         ensures value { map sources_spec.document_seen result.now ≡ self.now }
         ensures some { 0 < length result.now }
     {
@@ -77,7 +77,7 @@ impl Block {
 
     /// Stores a document in the place of what stands under its name, and answers whether the name
     /// is new.
-    pub fn put(&mut self, document: Document) -> Result<bool, AllocError>
+    pub fn put(&mut self, document: StoredDoc) -> Result<bool, AllocError>
         requires { length self.old < sources_spec.block_limit }
         ensures ok { OnOk result (self.new
             ≡ desk_spec.with_stored (sources_spec.document_seen document) self.old) }
@@ -101,7 +101,7 @@ impl Block {
     pub fn remove(&mut self, name: &Name) -> Option<u64>
         requires { 1 < length self.old }
         ensures version { result
-            ≡ option_map (λ stored. stored.version) (desk_spec.found self.old name.now) }
+            ≡ option_map (λ stored. stored.version) (desk_spec.stored_under self.old name.now) }
         ensures after { self.new ≡ desk_spec.without_name name.now self.old }
         ensures count { length self.new + (if is_some result then 1 else 0) ≡ length self.old }
     {

@@ -8,7 +8,7 @@ ghost use Rattle.dita_doc.specs.Desk as desk_spec;
 
 use crate::block::{BLOCK_LIMIT, Block};
 use crate::name::Name;
-use crate::sources::Document;
+use crate::sources::StoredDoc;
 use std::alloc::AllocError;
 use std::sync::Arc;
 
@@ -32,7 +32,7 @@ pub fn block_for(blocks: &[Arc<Block>], name: &Name) -> usize
 }
 
 /// Stores a document, and answers whether its name is new.
-pub fn put_among(blocks: &mut Vec<Arc<Block>>, document: Document) -> Result<bool, AllocError>
+pub fn put_among(blocks: &mut Vec<Arc<Block>>, document: StoredDoc) -> Result<bool, AllocError>
     requires { desk_spec.IsSortedByName (sources_spec.all_stored blocks.old.items) }
     ensures ok { OnOk result (sources_spec.all_stored blocks.new.items
         ≡ desk_spec.with_stored (sources_spec.document_seen document)
@@ -53,7 +53,7 @@ pub fn put_among(blocks: &mut Vec<Arc<Block>>, document: Document) -> Result<boo
     put_at(blocks, at, document)
 }
 
-fn put_first(blocks: &mut Vec<Arc<Block>>, document: Document) -> Result<bool, AllocError>
+fn put_first(blocks: &mut Vec<Arc<Block>>, document: StoredDoc) -> Result<bool, AllocError>
     requires { length blocks.old.items ≡ 0 }
     ensures ok { OnOk result (sources_spec.all_stored blocks.new.items
         ≡ desk_spec.with_stored (sources_spec.document_seen document)
@@ -69,7 +69,7 @@ fn put_first(blocks: &mut Vec<Arc<Block>>, document: Document) -> Result<bool, A
     Ok(true)
 }
 
-fn put_at(blocks: &mut Vec<Arc<Block>>, at: usize, document: Document) -> Result<bool, AllocError>
+fn put_at(blocks: &mut Vec<Arc<Block>>, at: usize, document: StoredDoc) -> Result<bool, AllocError>
     requires here { sources_spec.IsBlockFor blocks.old.items document.name at }
     requires room { sources_spec.IsShorterThan sources_spec.block_limit blocks.old.items at }
     ensures ok { OnOk result (sources_spec.all_stored blocks.new.items
@@ -83,7 +83,7 @@ fn put_at(blocks: &mut Vec<Arc<Block>>, at: usize, document: Document) -> Result
     put_into(&mut blocks[at], document)
 }
 
-fn put_into(block: &mut Arc<Block>, document: Document) -> Result<bool, AllocError>
+fn put_into(block: &mut Arc<Block>, document: StoredDoc) -> Result<bool, AllocError>
     requires { length (arc_value block.old) < sources_spec.block_limit }
     ensures ok { OnOk result (arc_value block.new
         ≡ desk_spec.with_stored (sources_spec.document_seen document) (arc_value block.old)) }
@@ -119,7 +119,7 @@ fn cut(blocks: &mut Vec<Arc<Block>>, at: usize, name: &Name) -> Result<usize, Al
 pub fn remove_among(blocks: &mut Vec<Arc<Block>>, name: &Name) -> Result<Option<u64>, AllocError>
     requires { desk_spec.IsSortedByName (sources_spec.all_stored blocks.old.items) }
     ensures version { IfOk result (λ version. version ≡ option_map (λ stored. stored.version)
-        (desk_spec.found (sources_spec.all_stored blocks.old.items) name.now)) }
+        (desk_spec.stored_under (sources_spec.all_stored blocks.old.items) name.now)) }
     ensures ok { OnOk result (sources_spec.all_stored blocks.new.items
         ≡ desk_spec.without_name name.now (sources_spec.all_stored blocks.old.items)) }
     ensures err { OnErr result (sources_spec.all_stored blocks.new.items
@@ -150,7 +150,7 @@ fn remove_at(
     requires here { sources_spec.IsBlockFor blocks.old.items name.now at }
     requires many { sources_spec.IsLongerThan 1 blocks.old.items at }
     ensures version { IfOk result (λ version. version ≡ option_map (λ stored. stored.version)
-        (desk_spec.found (sources_spec.all_stored blocks.old.items) name.now)) }
+        (desk_spec.stored_under (sources_spec.all_stored blocks.old.items) name.now)) }
     ensures ok { OnOk result (sources_spec.all_stored blocks.new.items
         ≡ desk_spec.without_name name.now (sources_spec.all_stored blocks.old.items)) }
     ensures err { OnErr result (sources_spec.all_stored blocks.new.items
@@ -164,7 +164,7 @@ fn remove_at(
 fn remove_from(block: &mut Arc<Block>, name: &Name) -> Result<Option<u64>, AllocError>
     requires { 1 < length (arc_value block.old) }
     ensures version { IfOk result (λ version. version ≡ option_map (λ stored. stored.version)
-        (desk_spec.found (arc_value block.old) name.now)) }
+        (desk_spec.stored_under (arc_value block.old) name.now)) }
     ensures ok { OnOk result (arc_value block.new
         ≡ desk_spec.without_name name.now (arc_value block.old)) }
     ensures err { OnErr result (arc_value block.new ≡ arc_value block.old) }

@@ -93,6 +93,6 @@ pub struct Doc {
     pub origins: List<Name>,
     pub nodes: List<Node>,
     pub ghost tree: { tree_spec.ArePreorder nodes 0 },
-    pub ghost small: { length nodes < tree_spec.node_limit },
+    pub ghost small: { length nodes < tree_spec.doc_node_limit },
     pub ghost placed: { IsTrue (tree_spec.are_placed (length origins) nodes) },
 }

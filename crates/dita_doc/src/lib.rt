@@ -51,7 +51,7 @@ pub use plan::{
 pub use question::{Answered, Asked, DocKind, Question};
 pub use request::{Edit, EditFault, Entry, Read, Reply, Request};
 pub use siblings::{First, Siblings};
-pub use sources::{Document, Sources};
+pub use sources::{Sources, StoredDoc};
 pub use sources_iter::SourcesIter;
 pub use stop::{NoMemory, Stop};
 pub use text::Text;

@@ -15,7 +15,7 @@ pub struct Siblings<'a> {
     ghost within: { EachIndex nodes.now
         (λ k. slice_get nodes.now k ≡ slice_get doc.now.nodes (place + k)) },
     ghost tree: { tree_spec.ArePreorder nodes.now place },
-    ghost small: { place + length nodes.now < tree_spec.node_limit },
+    ghost small: { place + length nodes.now < tree_spec.doc_node_limit },
 }
 
 /// The first of some siblings, with its place in the document, and the others.
@@ -43,7 +43,7 @@ impl<'a> Siblings<'a> {
     pub fn of(doc: &'a Doc) -> Siblings<'a>
         ensures content { siblings_spec.content result ≡ tree_spec.tree_of doc.now.nodes }
         ensures place { result.place ≡ 0 }
-        ensures document { siblings_spec.document result ≡ doc.now }
+        ensures document { siblings_spec.doc_of_siblings result ≡ doc.now }
     {
         Siblings {
             doc,
@@ -55,7 +55,7 @@ impl<'a> Siblings<'a> {
     /// The element at a place of a document, and what it holds.
     pub fn element_at(doc: &'a Doc, place: u32) -> Option<(&'a Node, Siblings<'a>)>
         ensures { MatchOption result
-            (siblings_spec.element_at (tree_spec.tree_of doc.now.nodes) place ≡ None)
+            (siblings_spec.content_at (tree_spec.tree_of doc.now.nodes) place ≡ None)
             (λ found. siblings_spec.IsElementAt doc.now place found.0.now found.1) }
     {
         let nodes = doc.nodes.as_slice().get(place as usize..)?;
@@ -68,7 +68,7 @@ impl<'a> Siblings<'a> {
 
     /// The document that they stand in.
     pub fn doc(&self) -> &'a Doc
-        ensures { result.now ≡ siblings_spec.document self.now }
+        ensures { result.now ≡ siblings_spec.doc_of_siblings self.now }
     {
         self.doc
     }
@@ -86,8 +86,8 @@ impl<'a> Siblings<'a> {
         ensures content { siblings_spec.IsFirst (siblings_spec.content self.entry) result }
         ensures place { siblings_spec.StandsAt self.entry.place result }
         ensures places { siblings_spec.PartsStandAt self.entry.place result }
-        ensures node { siblings_spec.IsNodeOf (siblings_spec.document self.entry) result }
-        ensures document { siblings_spec.PartsAreOf (siblings_spec.document self.entry) result }
+        ensures node { siblings_spec.IsNodeOf (siblings_spec.doc_of_siblings self.entry) result }
+        ensures document { siblings_spec.PartsAreOf (siblings_spec.doc_of_siblings self.entry) result }
     {
         let Some((node, nodes)) = self.nodes.split_first() else {
             return First::End;

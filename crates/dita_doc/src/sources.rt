@@ -16,7 +16,7 @@ use std::sync::Arc;
 
 /// A stored document: the bytes as they were put, and the document that they are.
 #[derive(Drop)]
-pub struct Document {
+pub struct StoredDoc {
     pub name: Name,
     /// The place of the entry that stored it, plus 1.
     pub version: u64,
@@ -28,15 +28,15 @@ pub struct Document {
 }
 
 /// A copy shares the name, the bytes and the document.
-impl Clone for Document {
+impl Clone for StoredDoc {
     ghost use Rattle.std.specs.Prelude.{◌≡◌};
     ghost use Rattle.dita_doc.specs.Sources as sources_spec;
 
     ghost is_clone = { λ document copy.
         sources_spec.document_seen copy ≡ sources_spec.document_seen document };
 
-    fn clone(&self) -> Result<Document, AllocError> {
-        Ok(Document {
+    fn clone(&self) -> Result<StoredDoc, AllocError> {
+        Ok(StoredDoc {
             name: self.name.clone()?,
             version: self.version,
             bytes: Arc::try_clone(&self.bytes)?,
@@ -81,8 +81,8 @@ impl Sources {
     }
 
     /// The document that is stored under a name, with all that is kept of it.
-    pub fn find(&self, name: &Name) -> Option<&Document>
-        ensures { sources_spec.found_seen result ≡ desk_spec.found self.now name.now }
+    pub fn find(&self, name: &Name) -> Option<&StoredDoc>
+        ensures { sources_spec.found_seen result ≡ desk_spec.stored_under self.now name.now }
     {
         if self.blocks.is_empty() {
             return None;
@@ -93,7 +93,7 @@ impl Sources {
     /// The version that stands under a name, and the document that has it.
     pub fn get(&self, name: &Name) -> Option<(u64, &Arc<Doc>)>
         ensures value { sources_spec.got_seen result
-            ≡ option_map sources_spec.version_and_nodes (desk_spec.found self.now name.now) }
+            ≡ option_map sources_spec.version_and_nodes (desk_spec.stored_under self.now name.now) }
         ensures origin { IfSome result (λ pair. (arc_value pair.1.now).origins ≡ name.now ∷ []) }
     {
         let document = self.find(name)?;
@@ -117,7 +117,7 @@ impl Sources {
 
     /// Stores a document in the place of what stands under its name. No text and no document is
     /// copied. Memory is taken for a new name, and for a block that is shared or full.
-    pub fn put(&mut self, document: Document) -> Result<(), AllocError>
+    pub fn put(&mut self, document: StoredDoc) -> Result<(), AllocError>
         ensures ok { OnOk result (self.new
             ≡ desk_spec.with_stored (sources_spec.document_seen document) self.old) }
         ensures err { OnErr result (self.new ≡ self.old) }
@@ -135,7 +135,7 @@ impl Sources {
     /// that is shared.
     pub fn remove(&mut self, name: &Name) -> Result<Option<u64>, AllocError>
         ensures version { IfOk result (λ version. version
-            ≡ option_map (λ stored. stored.version) (desk_spec.found self.old name.now)) }
+            ≡ option_map (λ stored. stored.version) (desk_spec.stored_under self.old name.now)) }
         ensures ok { OnOk result (self.new ≡ desk_spec.without_name name.now self.old) }
         ensures err { OnErr result (self.new ≡ self.old) }
     {

@@ -4,7 +4,7 @@ ghost use Rattle.std.specs.Prelude.{◌≡◌};
 ghost use Rattle.std.specs.Iterator.{YieldsFirstBy, item_count};
 
 use crate::block::Block;
-use crate::sources::Document;
+use crate::sources::StoredDoc;
 use std::marker::Model;
 use std::sync::Arc;
 
@@ -12,7 +12,7 @@ use std::sync::Arc;
 #[derive(Drop)]
 pub struct SourcesIter<'a> {
     // What is left of the block that was begun, and the blocks behind it.
-    documents: &'a [Document],
+    documents: &'a [StoredDoc],
     blocks: &'a [Arc<Block>],
 }
 
@@ -45,13 +45,13 @@ impl<'a> Iterator for SourcesIter<'a> {
     ghost use Rattle.std.specs.Iterator.{YieldsFirstBy, item_count};
     ghost use Rattle.dita_doc.specs.Sources as sources_spec;
 
-    type Item = &'a Document;
+    type Item = &'a StoredDoc;
 
     ghost next_gives = { YieldsFirstBy (λ document. sources_spec.document_seen document.now) (λ rest. rest) };
 
     ghost remaining = { item_count (λ rest. rest) };
 
-    fn next(&mut self) -> Option<&'a Document> {
+    fn next(&mut self) -> Option<&'a StoredDoc> {
         if self.documents.is_empty() {
             let (block, blocks) = self.blocks.split_first()?;
             self.documents = block.as_slice();

@@ -1,3 +1,4 @@
 pub mod Cause
 pub mod Forms
+pub mod Links
 pub mod Pages

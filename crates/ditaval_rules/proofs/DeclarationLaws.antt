@@ -13,7 +13,7 @@ use Rattle.dita_doc.specs.Tree.{Content, End, Chars, Element, size_of, nodes_of,
 use Rattle.dita_doc.proofs.TreeLaws.{length_nodes}
 use Rattle.ditaval_rules.specs.Domains.{declared_at, declared_around, declared_by, names_declared}
 use Rattle.ditaval_rules.specs.Declarations.{Declaring, declaring_at, declaring_by, declaring_from, declaring_among, declaring_of, AreDeclarations, holds, lies_around, last_names, IsCut, IsLastAround, StandBefore, AreLinked, AreBefore, end_at, place_at, outer_at}
-use Rattle.ditaval_rules.specs.declared.declarations.Entry.{Entry}
+use Rattle.ditaval_rules.specs.declared.declarations.DeclaredEntry.{DeclaredEntry}
 
 -- Nodes and content
 
@@ -54,7 +54,7 @@ last_both : (test : Declaring → Bool) (names : List (List ℕ)) (some more : L
 last_both test names [] more = refl
 last_both test names (one ∷ some) more = last_both test (if test one then one.names else names) some more
 
-last_map : (test : Declaring → Bool) (names : List (List ℕ)) (entries : List Entry)
+last_map : (test : Declaring → Bool) (names : List (List ℕ)) (entries : List DeclaredEntry)
     → last_names (λ entry. test (declaring_of entry)) names entries ≡ last_of test names (map declaring_of entries)
 last_map test names [] = refl
 last_map test names (entry ∷ entries) =
@@ -279,13 +279,15 @@ around_place around (Element name attributes origin line inside rest) from place
         (omega arith) ∙ within more)
 
 -- what is declared for a place, and around it
-pub found_at : (entries : List Entry) (place : ℕ) (tree : Content) → AreDeclarations tree (map declaring_of entries)
+pub found_at : (entries : List DeclaredEntry) (place : ℕ) (tree : Content)
+    → AreDeclarations tree (map declaring_of entries)
     → last_names (holds place) [] entries ≡ declared_at [] tree place
 found_at entries place tree are =
     last_map (stands place) [] entries ∙ ap (last_of (stands place) []) are
     ∙ at_place [] tree 0 place place (omega arith)
 
-pub found_around : (entries : List Entry) (place : ℕ) (tree : Content) → AreDeclarations tree (map declaring_of entries)
+pub found_around : (entries : List DeclaredEntry) (place : ℕ) (tree : Content)
+    → AreDeclarations tree (map declaring_of entries)
     → last_names (lies_around place) [] entries ≡ declared_around [] tree place
 found_around entries place tree are =
     last_map (stands_around place) [] entries ∙ ap (last_of (stands_around place) []) are
@@ -293,16 +295,17 @@ found_around entries place tree are =
 
 -- The last of some entries
 
-no_names : (test : Entry → Bool) (names : List (List ℕ)) (entries : List Entry)
-    → ((k : ℕ) (d : Entry) → k < length entries → test (slice_index_or entries k d) ≡ false)
+no_names : (test : DeclaredEntry → Bool) (names : List (List ℕ)) (entries : List DeclaredEntry)
+    → ((k : ℕ) (d : DeclaredEntry) → k < length entries → test (slice_index_or entries k d) ≡ false)
     → last_names test names entries ≡ names
 no_names test names [] never = refl
 no_names test names (entry ∷ entries) never =
     rw (never 0 entry (omega arith)) (no_names test names entries (λ k d less. never (suc k) d (omega arith)))
 
-names_there : (test : Entry → Bool) (names : List (List ℕ)) (entries : List Entry) (i : ℕ) (d : Entry)
+names_there : (test : DeclaredEntry → Bool) (names : List (List ℕ)) (entries : List DeclaredEntry) (i : ℕ)
+    (d : DeclaredEntry)
     → i < length entries → test (slice_index_or entries i d) ≡ true
-    → ((k : ℕ) (d : Entry) → i < k → k < length entries → test (slice_index_or entries k d) ≡ false)
+    → ((k : ℕ) (d : DeclaredEntry) → i < k → k < length entries → test (slice_index_or entries k d) ≡ false)
     → last_names test names entries ≡ (slice_index_or entries i d).names
 names_there test names [] i d less always never = absurd (omega arith)
 names_there test names (entry ∷ entries) zero d less always never =
@@ -311,16 +314,16 @@ names_there test names (entry ∷ entries) (suc i) d less always never =
     names_there test (if test entry then entry.names else names) entries i d (omega arith) always
     (λ k d low high. never (suc k) d (omega arith) (omega arith))
 
-module _ (test : Entry → Bool) (names : List (List ℕ)) (entries : List Entry) (place count last : ℕ)
+module _ (test : DeclaredEntry → Bool) (names : List (List ℕ)) (entries : List DeclaredEntry) (place count last : ℕ)
     (cut : IsCut test entries place count) (is : IsLastAround entries place count last) where
-  later_passed : (k : ℕ) (d : Entry) → last ≤ k → k < length entries → test (slice_index_or entries k d) ≡ false
+  later_passed : (k : ℕ) (d : DeclaredEntry) → last ≤ k → k < length entries → test (slice_index_or entries k d) ≡ false
   later_passed k d low high = ⊎_elim (λ less. cut.passed k d less (is.passed k d low less))
       (λ more. cut.behind k d more high) (cases_lt k count)
 
   pub last_none : last ≡ 0 → last_names test names entries ≡ names
   last_none none = no_names test names entries (λ k d high. later_passed k d (omega arith) high)
 
-  pub last_there : (k : ℕ) (entry : Entry) → last ≡ k + 1 → entry ≡ slice_index_or entries k entry
+  pub last_there : (k : ℕ) (entry : DeclaredEntry) → last ≡ k + 1 → entry ≡ slice_index_or entries k entry
       → last_names test names entries ≡ entry.names
   last_there k entry here same =
       let within : last ≤ count = is.within in
@@ -328,19 +331,19 @@ module _ (test : Entry → Bool) (names : List (List ℕ)) (entries : List Entry
       names_there test names entries k entry (omega arith)
       (cut.reaches k entry (omega arith) (is.reaches k entry here))
       (λ j d low high. later_passed j d (omega arith) high)
-      ∙ ap (λ (e : Entry). e.names) (sym same)
+      ∙ ap (λ (e : DeclaredEntry). e.names) (sym same)
 
 -- One step to the next one around
 
-pub passed_back : (entries : List Entry) (place count last : ℕ) (one other : Entry) → AreLinked entries
+pub passed_back : (entries : List DeclaredEntry) (place count last : ℕ) (one other : DeclaredEntry) → AreLinked entries
     → StandBefore entries place count → last ≤ count → 0 < last
-    → ((k : ℕ) (d : Entry) → last ≤ k → k < count → end_at entries k d ≤ place)
+    → ((k : ℕ) (d : DeclaredEntry) → last ≤ k → k < count → end_at entries k d ≤ place)
     → end_at entries (last - 1) one ≤ place
-    → (k : ℕ) (d : Entry) → outer_at entries (last - 1) other ≤ k → k < count → end_at entries k d ≤ place
+    → (k : ℕ) (d : DeclaredEntry) → outer_at entries (last - 1) other ≤ k → k < count → end_at entries k d ≤ place
 passed_back entries place count last one other linked stand within some passed ended k d low high =
     ⊎_elim (λ less.
     let out : outer_at entries (last - 1) d ≤ k =
-    subst (λ (e : Entry). e.outer ≤ k) (get_or_default entries (last - 1) other d inside) low in
+    subst (λ (e : DeclaredEntry). e.outer ≤ k) (get_or_default entries (last - 1) other d inside) low in
     let first = linked.between (last - 1) k d inside out less in
     let second = stand.1 (last - 1) d (omega arith) in
     omega arith)
@@ -348,7 +351,7 @@ passed_back entries place count last one other linked stand within some passed e
     (λ least.
     let same : last - 1 ≡ k = omega arith in
     let here : end_at entries (last - 1) d ≤ place =
-    subst (λ (e : Entry). e.end ≤ place) (get_or_default entries (last - 1) one d inside) ended in
+    subst (λ (e : DeclaredEntry). e.end ≤ place) (get_or_default entries (last - 1) one d inside) ended in
     subst (λ n. end_at entries n d ≤ place) same here)
     (cases_lt (last - 1) k))
     (cases_lt k (last - 1))
@@ -358,9 +361,9 @@ passed_back entries place count last one other linked stand within some passed e
 
 -- What halving finds
 
-module _ (entries : List Entry) (place count : ℕ) (fits : count ≤ length entries) where
-  pub cut_to : IsPartitionPoint (λ (entry : Entry). nat_le entry.place place ≡ true)
-      (λ (entry : Entry). nat_le entry.place place ≡ false) entries count
+module _ (entries : List DeclaredEntry) (place count : ℕ) (fits : count ≤ length entries) where
+  pub cut_to : IsPartitionPoint (λ (entry : DeclaredEntry). nat_le entry.place place ≡ true)
+      (λ (entry : DeclaredEntry). nat_le entry.place place ≡ false) entries count
       → IsCut (holds place) entries place count
   cut_to part = record {
     stand = (fits, λ k d less. leb-true _ _ (part.0 k d (omega arith) less));
@@ -373,8 +376,8 @@ module _ (entries : List Entry) (place count : ℕ) (fits : count ≤ length ent
     behind = λ k d more less. rw (part.1 k d more less) refl;
   }
 
-  pub cut_before : IsPartitionPoint (λ (entry : Entry). nat_lt entry.place place ≡ true)
-      (λ (entry : Entry). nat_lt entry.place place ≡ false) entries count
+  pub cut_before : IsPartitionPoint (λ (entry : DeclaredEntry). nat_lt entry.place place ≡ true)
+      (λ (entry : DeclaredEntry). nat_lt entry.place place ≡ false) entries count
       → IsCut (lies_around place) entries place count
   cut_before part = record {
     stand = (fits, λ k d less. let low = ltb-true _ _ (part.0 k d (omega arith) less) in omega arith);
@@ -387,22 +390,22 @@ module _ (entries : List Entry) (place count : ℕ) (fits : count ≤ length ent
     behind = λ k d more less. rw (part.1 k d more less) refl;
   }
 
-rises : (entries : List Entry) → AreLinked entries → (i j : ℕ) (d : Entry) → i ≤ j → j < length entries
+rises : (entries : List DeclaredEntry) → AreLinked entries → (i j : ℕ) (d : DeclaredEntry) → i ≤ j → j < length entries
     → place_at entries i d ≤ place_at entries j d
 rises entries linked i j d le inside = ⊎_elim
     (λ less. let order = linked.sorted i j d less inside in omega arith)
     (λ more. let same : i ≡ j = omega arith in subst (λ n. place_at entries i d ≤ place_at entries n d) same (omega arith))
     (cases_lt i j)
 
-pub parted_to : (entries : List Entry) (place : ℕ) → AreLinked entries
-    → IsPartitionedBy (λ (entry : Entry). nat_le entry.place place) entries
+pub parted_to : (entries : List DeclaredEntry) (place : ℕ) → AreLinked entries
+    → IsPartitionedBy (λ (entry : DeclaredEntry). nat_le entry.place place) entries
 parted_to entries place linked i j d le inside below =
     let rise = rises entries linked i j d le inside in
     let low = leb-true _ _ below in
     grind (arith, nat_tests)
 
-pub parted_before : (entries : List Entry) (place : ℕ) → AreLinked entries
-    → IsPartitionedBy (λ (entry : Entry). nat_lt entry.place place) entries
+pub parted_before : (entries : List DeclaredEntry) (place : ℕ) → AreLinked entries
+    → IsPartitionedBy (λ (entry : DeclaredEntry). nat_lt entry.place place) entries
 parted_before entries place linked i j d le inside below =
     let rise = rises entries linked i j d le inside in
     let low = ltb-true _ _ below in
@@ -410,39 +413,39 @@ parted_before entries place linked i j d le inside below =
 
 -- One element more
 
-abbrev pub entry_of : ℕ → ℕ → ℕ → List (List ℕ) → Entry
+abbrev pub entry_of : ℕ → ℕ → ℕ → List (List ℕ) → DeclaredEntry
 entry_of place end outer names = record { place = place; end = end; outer = outer; names = names }
 
-module _ (entries : List Entry) (place : ℕ) (entry : Entry) (before : AreBefore place entries)
+module _ (entries : List DeclaredEntry) (place : ℕ) (entry : DeclaredEntry) (before : AreBefore place entries)
     (here : entry.place ≡ place) (last : IsLastAround entries place (length entries) entry.outer) where
-  abbrev more : List Entry
+  abbrev more : List DeclaredEntry
   more = entries ++ entry ∷ []
 
-  old : (k : ℕ) (d : Entry) → k < length entries → slice_index_or more k d ≡ slice_index_or entries k d
+  old : (k : ℕ) (d : DeclaredEntry) → k < length entries → slice_index_or more k d ≡ slice_index_or entries k d
   old k d less = get_or_append_left entries (entry ∷ []) d k less
 
-  old_place : (k : ℕ) (d : Entry) → k < length entries → place_at more k d ≡ place_at entries k d
-  old_place k d less = ap (λ (e : Entry). e.place) (old k d less)
+  old_place : (k : ℕ) (d : DeclaredEntry) → k < length entries → place_at more k d ≡ place_at entries k d
+  old_place k d less = ap (λ (e : DeclaredEntry). e.place) (old k d less)
 
-  old_end : (k : ℕ) (d : Entry) → k < length entries → end_at more k d ≡ end_at entries k d
-  old_end k d less = ap (λ (e : Entry). e.end) (old k d less)
+  old_end : (k : ℕ) (d : DeclaredEntry) → k < length entries → end_at more k d ≡ end_at entries k d
+  old_end k d less = ap (λ (e : DeclaredEntry). e.end) (old k d less)
 
-  old_outer : (k : ℕ) (d : Entry) → k < length entries → outer_at more k d ≡ outer_at entries k d
-  old_outer k d less = ap (λ (e : Entry). e.outer) (old k d less)
+  old_outer : (k : ℕ) (d : DeclaredEntry) → k < length entries → outer_at more k d ≡ outer_at entries k d
+  old_outer k d less = ap (λ (e : DeclaredEntry). e.outer) (old k d less)
 
-  new : (k : ℕ) (d : Entry) → k ≡ length entries → slice_index_or more k d ≡ entry
+  new : (k : ℕ) (d : DeclaredEntry) → k ≡ length entries → slice_index_or more k d ≡ entry
   new k d is = ap (λ n. slice_index_or more n d) is ∙ get_or_at entries entry [] d (length entries) refl
 
-  new_place : (k : ℕ) (d : Entry) → k ≡ length entries → place_at more k d ≡ place
-  new_place k d is = ap (λ (e : Entry). e.place) (new k d is) ∙ here
+  new_place : (k : ℕ) (d : DeclaredEntry) → k ≡ length entries → place_at more k d ≡ place
+  new_place k d is = ap (λ (e : DeclaredEntry). e.place) (new k d is) ∙ here
 
-  new_outer : (k : ℕ) (d : Entry) → k ≡ length entries → outer_at more k d ≡ entry.outer
-  new_outer k d is = ap (λ (e : Entry). e.outer) (new k d is)
+  new_outer : (k : ℕ) (d : DeclaredEntry) → k ≡ length entries → outer_at more k d ≡ entry.outer
+  new_outer k d is = ap (λ (e : DeclaredEntry). e.outer) (new k d is)
 
   longer : length more ≡ length entries + 1
   longer = length-append entries (entry ∷ []) ∙ omega arith
 
-  sorted_more : (i k : ℕ) (d : Entry) → i < k → k < length more → place_at more i d < place_at more k d
+  sorted_more : (i k : ℕ) (d : DeclaredEntry) → i < k → k < length more → place_at more i d < place_at more k d
   sorted_more i k d less inside = ⊎_elim
       (λ low.
       let one = old_place i d (omega arith) in let two = old_place k d low in
@@ -454,13 +457,13 @@ module _ (entries : List Entry) (place : ℕ) (entry : Entry) (before : AreBefor
       omega arith)
       (cases_lt k (length entries))
 
-  outer_more : (i : ℕ) (d : Entry) → i < length more → outer_at more i d ≤ i
+  outer_more : (i : ℕ) (d : DeclaredEntry) → i < length more → outer_at more i d ≤ i
   outer_more i d inside = ⊎_elim
       (λ low. let one = old_outer i d low in let known = before.linked.outer i d low in omega arith)
       (λ high. let one = new_outer i d (omega (arith, longer)) in let known = last.within in omega arith)
       (cases_lt i (length entries))
 
-  between_more : (i k : ℕ) (d : Entry) → i < length more → outer_at more i d ≤ k → k < i
+  between_more : (i k : ℕ) (d : DeclaredEntry) → i < length more → outer_at more i d ≤ k → k < i
       → end_at more k d ≤ place_at more i d
   between_more i k d inside from less = ⊎_elim
       (λ low.
@@ -474,7 +477,7 @@ module _ (entries : List Entry) (place : ℕ) (entry : Entry) (before : AreBefor
       omega arith)
       (cases_lt i (length entries))
 
-  before_more : (k : ℕ) (d : Entry) → k < length more → place_at more k d < place + 1
+  before_more : (k : ℕ) (d : DeclaredEntry) → k < length more → place_at more k d < place + 1
   before_more k d inside = ⊎_elim
       (λ low. let one = old_place k d low in let known = before.before k d low in omega arith)
       (λ high. let one = new_place k d (omega (arith, longer)) in omega arith)
@@ -486,13 +489,13 @@ module _ (entries : List Entry) (place : ℕ) (entry : Entry) (before : AreBefor
     before = before_more;
   }
 
-pub none_more : (entries : List Entry) (place : ℕ) → AreBefore place entries → AreBefore (place + 1) entries
+pub none_more : (entries : List DeclaredEntry) (place : ℕ) → AreBefore place entries → AreBefore (place + 1) entries
 none_more entries place before = record {
   linked = before.linked;
   before = λ k d inside. let less = before.before k d inside in omega arith;
 }
 
-pub stand_all : (entries : List Entry) (place : ℕ) → AreBefore place entries → StandBefore entries place (length entries)
+pub stand_all : (entries : List DeclaredEntry) (place : ℕ) → AreBefore place entries → StandBefore entries place (length entries)
 stand_all entries place before = (omega arith, λ k d less. let low = before.before k d less in omega arith)
 
 abbrev pub declaring_named : ℕ → ℕ → List (List ℕ) → Declaring

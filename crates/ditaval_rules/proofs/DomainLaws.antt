@@ -1,5 +1,5 @@
 -- The pieces of a value, one closing parenthesis after another.
-use Rattle.std.specs.Prelude.{◌≡◌, ◌==◌, ◌||◌, ◌<◌, ℕ, Bool, true, false, List, [], ◌∷◌, ◌++◌, Option, None, Some, bytes_eq, codes, filter, is_some, length, MatchOption, if◌then◌else◌}
+use Rattle.std.specs.Prelude.{◌≡◌, ◌==◌, ◌<◌, ℕ, Bool, true, false, List, [], ◌∷◌, ◌++◌, Option, None, Some, bytes_eq, codes, filter, is_some, length, MatchOption, if◌then◌else◌}
 use Rattle.std.specs.List.{All, filter_map, list_any, last_or}
 use Rattle.std.specs.Borrow.{Bor}
 use Rattle.std.specs.Str.{IsUtf8}
@@ -7,25 +7,18 @@ use Rattle.std.specs.Option.{option_and_then, option_to_list}
 use Rattle.std.proofs.Common.{refl, sym, ◌∙◌, ap, subst, append_assoc, arith, length-append}
 use Rattle.std.proofs.lemmas.Bool.{true≢false, false≢true}
 use Rattle.std.proofs.lemmas.Bool.Decides.{nat_tests}
-use Rattle.std.proofs.lemmas.List.Elements.{All-filter, All-head, All-tail, filter_map-append}
+use Rattle.std.proofs.lemmas.List.Elements.{All-head, All-tail, filter_map-append}
 use Rattle.dita_doc.specs.Bytes.{close_parenthesis, has_bytes, onto_first, parts_by}
 use Rattle.dita_doc.specs.ClassValue.{words_of, IsFirstWord}
 use Rattle.dita_doc.specs.Cut.{Lacks, IsCutAt}
 use Rattle.dita_doc.specs.PlainText.{is_blank_byte}
-use Rattle.dita_doc.proofs.Utf8Laws.{utf8_cut_at, utf8_parts}
+use Rattle.dita_doc.proofs.Tests.{or_first, or_second}
+use Rattle.dita_doc.proofs.Utf8Laws.{utf8_cut_at, utf8_words}
 use Rattle.ditaval_rules.specs.Domains.{closed, opened, piece_at, pieces_from, name_among, name_in}
 use Rattle.ditaval_rules.specs.Names.{ends_of, is_declaration, last_word, with_last, with_name}
 use Rattle.ditaval_rules.proofs.NameLaws.{with_all, with_both, with_twice}
 
 -- Where a piece ends
-
-or_first : (a b : Bool) → (a || b) ≡ false → a ≡ false
-or_first true b e = e
-or_first false b e = refl
-
-or_second : (a b : Bool) → (a || b) ≡ false → b ≡ false
-or_second true b e = absurd (true≢false e)
-or_second false b e = e
 
 -- without a closing parenthesis there is none
 pub not_closed : (text : List ℕ) → Lacks close_parenthesis text → closed text ≡ None
@@ -198,10 +191,6 @@ pub other_declares : (piece first : List ℕ) (words : List (List ℕ))
 other_declares piece first words is other = rw (is, other) refl
 
 -- The last word is UTF-8
-
-pub utf8_words : (text : List ℕ) → IsUtf8 text → All IsUtf8 (words_of text)
-utf8_words text utf8 = All-filter has_bytes IsUtf8 (parts_by is_blank_byte text)
-    (utf8_parts is_blank_byte text (λ b high. grind (arith, nat_tests)) utf8)
 
 utf8_from : (last : Option (List ℕ)) (words : List (List ℕ)) (name : List ℕ)
     → ((own : List ℕ) → last ≡ Some own → IsUtf8 own) → All IsUtf8 words → last_or last words ≡ Some name → IsUtf8 name

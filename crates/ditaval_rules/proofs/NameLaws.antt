@@ -6,24 +6,17 @@ use Rattle.std.specs.BTreeSet.{Updates, IsUnchanged}
 use Rattle.std.specs.BTreeMap.{is_at}
 use Rattle.std.proofs.Common.{refl, sym, ◌∙◌, ap, subst, append_assoc}
 use Rattle.std.proofs.lemmas.List.{append-nil}
+use Rattle.std.proofs.lemmas.List.Elements.{filter_agree}
 use Rattle.std.proofs.lemmas.List.Folds.{list_any-append}
 use Rattle.std.proofs.lemmas.Map.Text.{is_eq-slice_cmp}
 use Rattle.std.proofs.lemmas.Slice.Eq.{bytes_eq-Decides}
+use Rattle.dita_doc.proofs.Lists.{is_in, is_other as differs}
+use Rattle.dita_doc.proofs.Tests.{text_swaps}
 use Rattle.ditaval_rules.specs.Domains.{is_new, first_of_each}
 use Rattle.ditaval_rules.specs.Names.{text_order, AreNames, with_name}
 use Rattle.ditaval_rules.specs.declared.domains.Names.{Names}
 
 -- Equal texts
-
-by_truth : (a b : Bool) → (a ≡ true → b ≡ true) → (b ≡ true → a ≡ true) → a ≡ b
-by_truth true b there back = sym (there refl)
-by_truth false true there back = back refl
-by_truth false false there back = refl
-
-turned : (a b : List ℕ) → bytes_eq a b ≡ bytes_eq b a
-turned a b = by_truth (bytes_eq a b) (bytes_eq b a)
-    (λ e. (bytes_eq-Decides b a).1 (sym ((bytes_eq-Decides a b).0 e)))
-    (λ e. (bytes_eq-Decides a b).1 (sym ((bytes_eq-Decides b a).0 e)))
 
 -- Filters
 
@@ -38,38 +31,28 @@ filter_twice p q (x ∷ xs) = by_cases (filter_twice p q xs) (q x) (p x) refl re
     by_cases more true false e f = simp (e, f) more
     by_cases more false b e f = simp e more
 
-filter_alike : {X : Type 0} (p q : X → Bool) → ((x : X) → p x ≡ q x) → (xs : List X) → filter p xs ≡ filter q xs
-filter_alike p q same [] = refl
-filter_alike p q same (x ∷ xs) = rw (same x, filter_alike p q same xs) refl
-
 -- One name after another
 
 abbrev pub with_all : List (List ℕ) → List (List ℕ) → List (List ℕ)
 with_all names [] = names
 with_all names (name ∷ more) = with_all (with_name names name) more
 
-abbrev is_among : List (List ℕ) → List ℕ → Bool
-is_among names name = list_any (bytes_eq name) names
-
 abbrev is_other : List (List ℕ) → List ℕ → Bool
-is_other names name = not (is_among names name)
-
-abbrev differs : List ℕ → List ℕ → Bool
-differs name other = not (bytes_eq name other)
+is_other names name = not (is_in names name)
 
 -- the names that count, each once
 abbrev counted : List (List ℕ) → List (List ℕ)
 counted more = first_of_each (filter is_new more)
 
 -- a name that is there makes no difference
-there : (names : List (List ℕ)) (name other : List ℕ) → is_among names name ≡ true
+there : (names : List (List ℕ)) (name other : List ℕ) → is_in names name ≡ true
     → (differs name other && is_other names other) ≡ is_other names other
 there names name other among = by_cases (bytes_eq name other) refl
   where
     by_cases : (same : Bool) → bytes_eq name other ≡ same
         → (differs name other && is_other names other) ≡ is_other names other
     by_cases true e =
-        let is : is_among names other ≡ true = subst (λ n. is_among names n ≡ true)
+        let is : is_in names other ≡ true = subst (λ n. is_in names n ≡ true)
         ((bytes_eq-Decides name other).0 e) among in
         rw (e, is) refl
     by_cases false e = rw e refl
@@ -84,33 +67,33 @@ not_both false false = refl
 here : (names : List (List ℕ)) (name other : List ℕ)
     → (differs name other && is_other names other) ≡ is_other (names ++ name ∷ []) other
 here names name other =
-    not_both (bytes_eq name other) (is_among names other)
-    ∙ ap (λ b. not (is_among names other || (b || false))) (turned name other)
+    not_both (bytes_eq name other) (is_in names other)
+    ∙ ap (λ b. not (is_in names other || (b || false))) (text_swaps name other)
     ∙ ap not (sym (list_any-append (bytes_eq other) names (name ∷ [])))
 
 counted_from : (names more : List (List ℕ)) → with_all names more ≡ names ++ filter (is_other names) (counted more)
 counted_from names [] = sym (append-nil names)
 counted_from names (name ∷ more) =
-    by_cases (counted_from names more) (counted_from (names ++ name ∷ []) more) (is_new name) (is_among names name) refl
+    by_cases (counted_from names more) (counted_from (names ++ name ∷ []) more) (is_new name) (is_in names name) refl
     refl
   where
     by_cases : with_all names more ≡ names ++ filter (is_other names) (counted more)
         → with_all (names ++ name ∷ []) more
         ≡ (names ++ name ∷ []) ++ filter (is_other (names ++ name ∷ [])) (counted more)
-        → (new among : Bool) → is_new name ≡ new → is_among names name ≡ among
+        → (new among : Bool) → is_new name ≡ new → is_in names name ≡ among
         → with_all names (name ∷ more) ≡ names ++ filter (is_other names) (counted (name ∷ more))
     by_cases same longer false among e f = simp e same
     by_cases same longer true true e f =
         simp (e, f) (same
         ∙ ap (λ l. names ++ l) (sym (filter_twice (is_other names) (differs name) (counted more)
-        ∙ filter_alike _ (is_other names) (λ other. there names name other f) (counted more))))
+        ∙ filter_agree _ (is_other names) (λ other. there names name other f) (counted more))))
     by_cases same longer true false e f =
         simp (e, f) (longer
         ∙ append_assoc names (name ∷ []) _
         ∙ ap (λ l. names ++ name ∷ l) (sym (filter_twice (is_other names) (differs name) (counted more)
-        ∙ filter_alike _ (is_other (names ++ name ∷ [])) (λ other. here names name other) (counted more))))
+        ∙ filter_agree _ (is_other (names ++ name ∷ [])) (λ other. here names name other) (counted more))))
 
-filter_all : {X : Type 0} (xs : List X) → filter (λ x. true) xs ≡ xs
+pub filter_all : {X : Type 0} (xs : List X) → filter (λ x. true) xs ≡ xs
 filter_all [] = refl
 filter_all (x ∷ xs) = ap (λ l. x ∷ l) (filter_all xs)
 
@@ -134,7 +117,7 @@ pub names_more : (old new : Names) (name : Bor (List ℕ)) → AreNames old
     → Updates text_order old.seen new.seen name true → new.list ≡ old.list ++ name.now ∷ [] → AreNames new
 names_more old new name are updates list key =
     updates.0 key
-    ∙ rw (is_eq-slice_cmp name.now key.now, are key, list, list_any-append (bytes_eq key.now) old.list (name.now ∷ []), turned name.now key.now)
+    ∙ rw (is_eq-slice_cmp name.now key.now, are key, list, list_any-append (bytes_eq key.now) old.list (name.now ∷ []), text_swaps name.now key.now)
     (last_or_first (bytes_eq key.now name.now) (list_any (bytes_eq key.now) old.list))
 
 pub names_same : (old new : Names) → AreNames old → IsUnchanged old.seen new.seen → new.list ≡ old.list → AreNames new
@@ -143,17 +126,17 @@ names_same old new are same list key =
 
 -- a name that was put there makes no difference
 pub with_twice : (names : List (List ℕ)) (name : List ℕ) → with_name (with_name names name) name ≡ with_name names name
-with_twice names name = by_cases (is_new name) (is_among names name) refl refl
+with_twice names name = by_cases (is_new name) (is_in names name) refl refl
   where
     itself : bytes_eq name name ≡ true
     itself = (bytes_eq-Decides name name).1 refl
 
-    by_cases : (new among : Bool) → is_new name ≡ new → is_among names name ≡ among
+    by_cases : (new among : Bool) → is_new name ≡ new → is_in names name ≡ among
         → with_name (with_name names name) name ≡ with_name names name
     by_cases false among e f = simp e refl
     by_cases true true e f = simp (e, f) refl
     by_cases true false e f =
-        let one : is_among (names ++ name ∷ []) name ≡ true =
+        let one : is_in (names ++ name ∷ []) name ≡ true =
         list_any-append (bytes_eq name) names (name ∷ []) ∙ ap (λ b. b || (bytes_eq name name || false)) f
         ∙ ap (λ b. b || false) itself in
         simp (e, f, one) refl

@@ -11,7 +11,7 @@ use Rattle.dita_doc.specs.declared.content.Action.{Action}
 use Rattle.dita_doc.specs.declared.content.Rule.{Rule}
 use Rattle.dita_doc.specs.declared.doc.Attribute.{Attribute}
 use Rattle.dita_doc.specs.declared.fault.FaultCode.TheVariants as faults
-use Rattle.ditaval_rules.specs.Rules.{Prop, rule_of, rule_by, rule_with, action_named, val_beside, are_for_same, fault_at, rules_with}
+use Rattle.ditaval_rules.specs.Rules.{Prop, rule_of, rule_by, rule_with, action_named, val_beside, are_for_same, prop_fault, rules_with}
 use Rattle.ditaval_rules.specs.Reading.{HasRead}
 use Rattle.ditaval_rules.specs.Subject.{Subject, subject_cmp, IsSubjectsOf}
 use Rattle.ditaval_rules.specs.declared.reading.Reading.{Reading}
@@ -67,7 +67,7 @@ module _ (name : List ℕ) (prop : Prop) (old new : Reading) (key : Subject) (ru
 
   pub reads_twice : false ≡ not (contains subject_cmp old.seen key) → IsUnchanged old.seen new.seen
       → new.rules ≡ old.rules
-      → new.faults ≡ old.faults ++ fault_at name prop.line faults.DitavalTwice rule.att ∷ []
+      → new.faults ≡ old.faults ++ prop_fault name prop.line faults.DitavalTwice rule.att ∷ []
       → HasRead name prop old new
   reads_twice added same rules faults =
       let one : list_any (are_for_same rule) old.rules ≡ true =
@@ -82,7 +82,7 @@ module _ (name : List ℕ) (prop : Prop) (old new : Reading) (key : Subject) (ru
 pub reads_bad : (name : List ℕ) (prop : Prop) (old new : Reading) → rule_of prop ≡ None
     → IsSubjectsOf old.seen old.rules → new.rules ≡ old.rules → new.seen ≡ old.seen
     → new.faults
-    ≡ old.faults ++ fault_at name prop.line faults.BadAction (value_of (codes "action") prop.attributes) ∷ []
+    ≡ old.faults ++ prop_fault name prop.line faults.BadAction (value_of (codes "action") prop.attributes) ∷ []
     → HasRead name prop old new
 reads_bad name prop old new is subjects rules seen faults = record {
   rules = rw (is, append-nil old.rules) rules;

@@ -12,6 +12,7 @@ use Rattle.dita_doc.specs.declared.content.Rule.{Rule}
 use Rattle.dita_doc.specs.declared.fault.Fault.{Fault}
 use Rattle.ditaval_rules.specs.Rules.{Prop, rule_of, is_same_text, are_for_same, first_of_each, fault_behind, faults_behind}
 use Rattle.ditaval_rules.specs.Reading.{new_behind}
+use Rattle.ditaval_rules.proofs.NameLaws.{filter_all}
 
 -- To be for the same is an equivalence
 
@@ -122,13 +123,9 @@ kept_behind : (before : List Rule) (props : List Prop) → kept before props ≡
 kept_behind before [] = refl
 kept_behind before (prop ∷ props) = kept_from before (rule_of prop) props (λ more. kept_behind more props)
 
-all_pass : {X : Type 0} (xs : List X) → filter (λ x. true) xs ≡ xs
-all_pass [] = refl
-all_pass (x ∷ xs) = ap (λ l. x ∷ l) (all_pass xs)
-
 -- of all rules the first of each is kept
 pub kept_whole : (props : List Prop) → kept [] props ≡ first_of_each (filter_map rule_of props)
-kept_whole props = kept_behind [] props ∙ all_pass (first_of_each (filter_map rule_of props))
+kept_whole props = kept_behind [] props ∙ filter_all (first_of_each (filter_map rule_of props))
 
 -- Faults hang on what the rules before are for, and not on how often
 

@@ -11,6 +11,7 @@ use Rattle.std.proofs.Common.{refl, sym, ◌∙◌, ap}
 use Rattle.std.proofs.lemmas.List.Folds.{list_any-append}
 use Rattle.std.proofs.lemmas.Map.Text.{is_eq-slice_cmp}
 use Rattle.dita_doc.specs.declared.content.Rule.{Rule}
+use Rattle.dita_doc.proofs.Lists.{any_like}
 use Rattle.ditaval_rules.specs.Rules.{is_same_text, are_for_same}
 use Rattle.ditaval_rules.specs.Subject.{Subject, text_cmp, subject_cmp, has_subject, IsSubjectsOf}
 use Rattle.ditaval_rules.proofs.RuleLaws.{text_back}
@@ -43,15 +44,11 @@ same_as_rule : (key : Subject) (rule other : Rule) → IsSubject key rule
     → has_subject key other ≡ are_for_same rule other
 same_as_rule key rule other is = rw (is.att, is.val, text_back rule.att other.att, text_back rule.val other.val) refl
 
-any_alike : {X : Type 0} (p q : X → Bool) → ((x : X) → p x ≡ q x) → (xs : List X) → list_any p xs ≡ list_any q xs
-any_alike p q same [] = refl
-any_alike p q same (x ∷ xs) = rw (same x, any_alike p q same xs) refl
-
 -- whether the set has the rule's key tells whether one of the rules is for the same
 pub set_tells : (seen : BTreeSet Subject) (rules : List Rule) (key : Subject) (rule : Rule) → IsSubjectsOf seen rules
     → IsSubject key rule → contains subject_cmp seen key ≡ list_any (are_for_same rule) rules
 set_tells seen rules key rule all is =
-    all key ∙ any_alike (has_subject key) (are_for_same rule) (λ other. same_as_rule key rule other is) rules
+    all key ∙ any_like (has_subject key) (are_for_same rule) (λ other. same_as_rule key rule other is) rules
 
 -- a rule more, and its key
 pub set_more : (seen new : BTreeSet Subject) (rules : List Rule) (key : Subject) (rule : Rule) → IsSubjectsOf seen rules

@@ -20,7 +20,7 @@ use Rattle.dita_doc.specs.declared.content.Action.TheVariants as actions
 use Rattle.dita_doc.specs.declared.content.Rule.{Rule}
 use Rattle.ditaval_rules.specs.Subject.{Subject, subject_cmp, IsSortedBySubject, is_entry_for, is_entry_below, IsPlaceFor, IsTableOf, first_action, deciding_action, is_for, HasFirstOf, val_behind}
 use Rattle.ditaval_rules.specs.Rules.{is_same_text}
-use Rattle.ditaval_rules.specs.Verdict.{is_text, is_for_token, is_for_attribute, is_default, or_else, deciding, is_exclude, decides_exclude, decided as action_of}
+use Rattle.ditaval_rules.specs.Verdict.{is_this_text, is_for_token, is_for_attribute, is_default, or_else, deciding, is_exclude, decides_exclude, decided as action_of}
 use Rattle.ditaval_rules.proofs.SubjectLaws.{subject_at}
 
 -- The first that passes
@@ -206,14 +206,14 @@ module _ (subject : Subject) where
 
 for_token : (att token : Bor (List ℕ)) (rule_att val : Option (List ℕ))
     → (is_same_text rule_att (Some att.now) && is_same_text (val_behind rule_att val) (Some token.now))
-    ≡ (is_text att.now rule_att && is_text token.now val)
+    ≡ (is_this_text att.now rule_att && is_this_text token.now val)
 for_token att token None val = refl
 for_token att token (Some own) None = refl
 for_token att token (Some own) (Some text) = refl
 
 for_attribute : (att : Bor (List ℕ)) (rule_att val : Option (List ℕ))
     → (is_same_text rule_att (Some att.now) && is_same_text (val_behind rule_att val) None)
-    ≡ (is_text att.now rule_att && not (is_some val))
+    ≡ (is_this_text att.now rule_att && not (is_some val))
 for_attribute att None val = refl
 for_attribute att (Some own) None = refl
 for_attribute att (Some own) (Some text) = refl

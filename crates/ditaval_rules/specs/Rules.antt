@@ -88,15 +88,15 @@ abbrev pub or_empty : Option (List ℕ) → List ℕ
 or_empty None = []
 or_empty (Some text) = text
 
-abbrev pub fault_at : List ℕ → ℕ → FaultCode → Option (List ℕ) → Fault
-fault_at name line code detail = record { name = name; line = line; code = code; detail = or_empty detail }
+abbrev pub prop_fault : List ℕ → ℕ → FaultCode → Option (List ℕ) → Fault
+prop_fault name line code detail = record { name = name; line = line; code = code; detail = or_empty detail }
 
 -- what is wrong with a `prop` behind others that have these rules: its action is none, or one of them is for the same
 abbrev pub fault_behind : List ℕ → List Rule → Prop → Option Rule → Option Fault
 fault_behind name before prop None =
-    Some (fault_at name prop.line faults.BadAction (value_of (codes "action") prop.attributes))
+    Some (prop_fault name prop.line faults.BadAction (value_of (codes "action") prop.attributes))
 fault_behind name before prop (Some rule) =
-    if list_any (are_for_same rule) before then Some (fault_at name prop.line faults.DitavalTwice rule.att) else None
+    if list_any (are_for_same rule) before then Some (prop_fault name prop.line faults.DitavalTwice rule.att) else None
 
 abbrev pub faults_behind : List ℕ → List Rule → List Prop → List Fault
 faults_behind name before [] = []

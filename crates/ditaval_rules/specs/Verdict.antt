@@ -24,15 +24,15 @@ is_conditional_among declared name = is_conditional name || list_any (bytes_eq n
 
 -- Which rule decides a token of an attribute
 
-abbrev pub is_text : List ℕ → Option (List ℕ) → Bool
-is_text text None = false
-is_text text (Some own) = bytes_eq own text
+abbrev pub is_this_text : List ℕ → Option (List ℕ) → Bool
+is_this_text text None = false
+is_this_text text (Some own) = bytes_eq own text
 
 abbrev pub is_for_token : List ℕ → List ℕ → Rule → Bool
-is_for_token att token rule = is_text att rule.att && is_text token rule.val
+is_for_token att token rule = is_this_text att rule.att && is_this_text token rule.val
 
 abbrev pub is_for_attribute : List ℕ → Rule → Bool
-is_for_attribute att rule = is_text att rule.att && not (is_some rule.val)
+is_for_attribute att rule = is_this_text att rule.att && not (is_some rule.val)
 
 abbrev pub is_default : Rule → Bool
 is_default rule = not (is_some rule.att)

@@ -5,7 +5,7 @@ ghost use Rattle.dita_doc.specs.Tree.{Content};
 ghost use Rattle.dita_doc.specs.Tree as tree_spec;
 ghost use Rattle.ditaval_rules.specs.Declarations as spec;
 ghost use Rattle.ditaval_rules.specs.Domains as domains_spec;
-ghost use Rattle.ditaval_rules.specs.declared.declarations.Entry.{Entry as EntryValue};
+ghost use Rattle.ditaval_rules.specs.declared.declarations.DeclaredEntry.{DeclaredEntry as EntryValue};
 
 use crate::domains::own_names;
 use dita_doc::{Doc, List, NoMemory, Node, Text};
@@ -14,7 +14,7 @@ use std::marker::Model;
 
 // An element that has the attribute `domains`, with the names that it declares.
 #[derive(Drop)]
-struct Entry {
+struct DeclaredEntry {
     place: u32,
     // The place just past its subtree.
     end: u32,
@@ -28,7 +28,7 @@ struct Entry {
 #[derive(Drop)]
 pub struct Declarations {
     // In the order of the document.
-    entries: Vec<Entry>,
+    entries: Vec<DeclaredEntry>,
     // The names where no element declares any.
     none: List<Text>,
 }
@@ -83,7 +83,7 @@ impl Declarations {
 // Puts an element behind the others, if it has the attribute.
 fn push_own(
     alloc: Global,
-    entries: &mut Vec<Entry>,
+    entries: &mut Vec<DeclaredEntry>,
     node: &Node,
     place: u32,
 ) -> Result<(), NoMemory>
@@ -96,7 +96,7 @@ fn push_own(
     if let Some(names) = own_names(alloc, node)? {
         let outer = last_around(entries.as_slice(), entries.len(), place);
         let end = node.end;
-        entries.push(Entry {
+        entries.push(DeclaredEntry {
             place,
             end,
             outer,
@@ -107,7 +107,7 @@ fn push_own(
 }
 
 // How many stand at most at a place.
-fn count_to(entries: &[Entry], place: u32) -> usize
+fn count_to(entries: &[DeclaredEntry], place: u32) -> usize
     requires { spec.AreLinked entries.now }
     ensures { spec.IsCut (spec.holds place) entries.now place result }
 {
@@ -115,7 +115,7 @@ fn count_to(entries: &[Entry], place: u32) -> usize
 }
 
 // How many stand before a place.
-fn count_before(entries: &[Entry], place: u32) -> usize
+fn count_before(entries: &[DeclaredEntry], place: u32) -> usize
     requires { spec.AreLinked entries.now }
     ensures { spec.IsCut (spec.lies_around place) entries.now place result }
 {
@@ -124,7 +124,7 @@ fn count_before(entries: &[Entry], place: u32) -> usize
 
 // The names of the last of so many that ends behind a place.
 fn names_at<'a>(
-    entries: &'a [Entry],
+    entries: &'a [DeclaredEntry],
     none: &'a List<Text>,
     count: usize,
     place: u32,
@@ -142,7 +142,7 @@ fn names_at<'a>(
 }
 
 // How many there are up to the last of so many that ends behind a place, with this.
-fn last_around(entries: &[Entry], count: usize, place: u32) -> usize
+fn last_around(entries: &[DeclaredEntry], count: usize, place: u32) -> usize
     requires linked { spec.AreLinked entries.now }
     requires before { spec.StandBefore entries.now place count }
     ensures { spec.IsLastAround entries.now place count result }

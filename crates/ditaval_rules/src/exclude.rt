@@ -142,7 +142,7 @@ pub(crate) fn first_default(rules: &[Rule]) -> Option<&Rule>
 }
 
 fn is_text(own: &Option<Text>, text: &[u8]) -> bool
-    ensures { result ≡ spec.is_text text.now own.now }
+    ensures { result ≡ spec.is_this_text text.now own.now }
 {
     match own {
         Some(own) => own.as_bytes() == text,

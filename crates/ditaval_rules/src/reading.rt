@@ -76,7 +76,7 @@ fn push_fault(
     detail: Option<&str>,
 ) -> Result<(), NoMemory>
     ensures { OnOk result (faults.new ≡ faults.old
-        ++ rules_spec.fault_at name.now prop.now.line code (option_copied detail.entry) ∷ []) }
+        ++ rules_spec.prop_fault name.now prop.now.line code (option_copied detail.entry) ∷ []) }
 {
     faults.push(Fault {
         name: name.clone()?,

@@ -16,7 +16,7 @@ use std::marker::Model;
 type Subject<'a> = (Option<&'a [u8]>, Option<&'a [u8]>);
 
 // What a rule is for, and its action.
-type Entry<'a> = (Subject<'a>, Action);
+type RuleEntry<'a> = (Subject<'a>, Action);
 
 /// A table over rules that it borrows, in which the deciding rule is found by halving; seen by
 /// contracts as the list of the rules.
@@ -24,7 +24,7 @@ type Entry<'a> = (Subject<'a>, Action);
 pub struct RuleTable<'a> {
     rules: &'a List<Rule>,
     // By what the rules are for; of those for the same, the first rule's stands first.
-    entries: Vec<Entry<'a>>,
+    entries: Vec<RuleEntry<'a>>,
 }
 
 impl<'a> Model for RuleTable<'a> {
@@ -80,7 +80,7 @@ impl<'a> Decides for RuleTable<'a> {
 
 // The action for a token, of sorted entries: that for the token, else that for the attribute, else
 // that of the default rule.
-fn deciding(entries: &[Entry<'_>], att: &[u8], token: &[u8]) -> Option<Action>
+fn deciding(entries: &[RuleEntry<'_>], att: &[u8], token: &[u8]) -> Option<Action>
     requires { subject_spec.IsSortedBySubject entries.now }
     ensures { result ≡ subject_spec.deciding_action entries.now att.entry token.entry }
 {
@@ -94,7 +94,7 @@ fn deciding(entries: &[Entry<'_>], att: &[u8], token: &[u8]) -> Option<Action>
 }
 
 // The action of the first of sorted entries that is for this attribute and token.
-fn first_for(entries: &[Entry<'_>], att: Option<&[u8]>, val: Option<&[u8]>) -> Option<Action>
+fn first_for(entries: &[RuleEntry<'_>], att: Option<&[u8]>, val: Option<&[u8]>) -> Option<Action>
     requires { subject_spec.IsSortedBySubject entries.now }
     ensures { result ≡ subject_spec.first_action (att.entry, val.entry) entries.now }
 {
@@ -107,7 +107,7 @@ fn first_for(entries: &[Entry<'_>], att: Option<&[u8]>, val: Option<&[u8]>) -> O
 }
 
 // How many of sorted entries stand below this attribute and token.
-fn place_for(entries: &[Entry<'_>], att: Option<&[u8]>, val: Option<&[u8]>) -> usize
+fn place_for(entries: &[RuleEntry<'_>], att: Option<&[u8]>, val: Option<&[u8]>) -> usize
     requires { subject_spec.IsSortedBySubject entries.now }
     ensures { subject_spec.IsPlaceFor (att.entry, val.entry) entries.now result }
 {

@@ -4,7 +4,7 @@ use Rattle.std.proofs.Common.{arith, refl}
 use Rattle.std.proofs.lemmas.Bool.Decides.{nat_tests}
 use Rattle.map_spec.specs.Elements.{begins_with}
 
-abbrev has_some : List (List ℕ) → Bool
+abbrev pub has_some : List (List ℕ) → Bool
 has_some tokens = not (length tokens == 0)
 
 both_fail : (first third : Bool) → false ≡ (first && false && third)

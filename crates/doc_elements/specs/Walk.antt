@@ -15,13 +15,13 @@ element_of name node =
     record { name = node.text; attributes = node.attributes; doc = name; line = node.line; href_doc = name }
 
 -- an element that was found, and what it holds
-abbrev pub Found : Type 0
-Found = Bor doc.Node × Siblings
+abbrev pub FoundElement : Type 0
+FoundElement = Bor doc.Node × Siblings
 
-abbrev pub whole_of : List ℕ → Found → Whole
+abbrev pub whole_of : List ℕ → FoundElement → Whole
 whole_of name found = (element_of name found.0.now, content_in name found.1)
 
-abbrev pub found_in : List ℕ → Option Found → Option Whole
+abbrev pub found_in : List ℕ → Option FoundElement → Option Whole
 found_in name found = option_map (whole_of name) found
 
 -- the first element of a type, in document order

@@ -6,22 +6,11 @@ use Rattle.std.proofs.lemmas.List.{append-nil, take_at, drop_at}
 use Rattle.dita_doc.specs.declared.doc.Node.{Node}
 use Rattle.dita_doc.specs.declared.doc.NodeKind.{NodeKind}
 use Rattle.dita_doc.specs.declared.doc.NodeKind.TheVariants as kinds
-use Rattle.dita_doc.specs.Siblings.{joined}
+use Rattle.dita_doc.specs.Siblings.{content_behind}
 use Rattle.dita_doc.specs.Tree.{Content, End, Chars, Element, size_of, nodes_of, content_of, element_node, is_element, ArePreorder, are_own, are_placed, are_places, has_href}
+use Rattle.dita_doc.proofs.PlaceLaws.{nodes_joined}
 use Rattle.dita_doc.proofs.TreeLaws.{content_of_nodes, length_nodes, preorder_of_content}
 use Rattle.doc_maker.specs.Made.{AreOpen, begins_element, changed_at, ending, with_end}
-
--- the nodes of one content behind another
-nodes_joined : (c more : Content) (place : ℕ)
-    → nodes_of (joined c more) place ≡ nodes_of c place ++ nodes_of more (place + size_of c)
-nodes_joined End more place = let same : place ≡ place + 0 = omega arith in ap (λ n. nodes_of more n) same
-nodes_joined (Chars text origin line rest) more place =
-    let behind : place + 1 + size_of rest ≡ place + (1 + size_of rest) = omega arith in
-    rw (nodes_joined rest more (place + 1), behind) refl
-nodes_joined (Element name attributes origin line inside rest) more place =
-    let end = place + 1 + size_of inside in
-    let behind : end + size_of rest ≡ place + (1 + (size_of inside + size_of rest)) = omega arith in
-    rw (nodes_joined rest more end, append_assoc, behind) refl
 
 -- how many nodes a preorder has
 pub preorder_count : (nodes : List Node) (place : ℕ) → ArePreorder nodes place
@@ -34,7 +23,7 @@ end_of_preorder nodes place end is tree = omega (arith, preorder_count nodes pla
 
 -- the nodes of any content behind a preorder
 nodes_more : (c : Content) (nodes : List Node) (place end : ℕ) → end ≡ place + length nodes → ArePreorder nodes place
-    → nodes_of (joined (content_of nodes place) c) place ≡ nodes ++ nodes_of c end
+    → nodes_of (content_behind (content_of nodes place) c) place ≡ nodes ++ nodes_of c end
 nodes_more c nodes place end is tree =
     let d = content_of nodes place in
     nodes_joined d c place ∙ ap (λ ns. ns ++ nodes_of c (place + size_of d)) (sym tree)
@@ -45,14 +34,14 @@ preorder_more : (c : Content) (nodes : List Node) (place end : ℕ) → end ≡ 
     → ArePreorder nodes place → ArePreorder (nodes ++ nodes_of c end) place
 preorder_more c nodes place end is tree =
     subst (λ ns. ArePreorder ns place) (nodes_more c nodes place end is tree)
-    (preorder_of_content (joined (content_of nodes place) c) place)
+    (preorder_of_content (content_behind (content_of nodes place) c) place)
 
 -- and is that of both contents, one behind the other
 pub content_more : (c : Content) (nodes : List Node) (place end : ℕ) → end ≡ place + length nodes
-    → ArePreorder nodes place → content_of (nodes ++ nodes_of c end) place ≡ joined (content_of nodes place) c
+    → ArePreorder nodes place → content_of (nodes ++ nodes_of c end) place ≡ content_behind (content_of nodes place) c
 content_more c nodes place end is tree =
     ap (λ ns. content_of ns place) (sym (nodes_more c nodes place end is tree))
-    ∙ content_of_nodes (joined (content_of nodes place) c) place
+    ∙ content_of_nodes (content_behind (content_of nodes place) c) place
 
 -- an element that stands at a place
 pub record PartsAt (nodes : List Node) (place : ℕ) : Type 0 where

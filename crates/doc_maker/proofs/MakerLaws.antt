@@ -1,8 +1,7 @@
 -- The maker's fields: what each call makes of them, and what that is as content with a hole.
-use Rattle.std.specs.Prelude.{◌≡◌, ◌+◌, ◌-◌, ◌^◌, ◌<◌, ◌≤◌, ◌==◌, ◌||◌, ℕ, zero, suc, true, List, [], ◌∷◌, ◌++◌, Result, Ok, Err, Some, OnErr, length, take, nat_lt, reverse, slice_get, unwrap_or}
+use Rattle.std.specs.Prelude.{◌≡◌, ◌+◌, ◌-◌, ◌^◌, ◌<◌, ◌≤◌, ◌==◌, ◌||◌, ℕ, zero, suc, true, List, [], ◌∷◌, ◌++◌, Some, length, take, nat_lt, reverse, slice_get, unwrap_or}
 use Rattle.std.proofs.Common.{refl, sym, ◌∙◌, ap, ap₂, subst, arith, length-append}
 use Rattle.std.proofs.lemmas.Bool.{and_parts, ltb-true}
-use Rattle.std.proofs.lemmas.Bool.Decides.{nat_tests}
 use Rattle.std.proofs.lemmas.List.{append-nil, length-reverse, length_push, reverse-append, take_at}
 use Rattle.std.proofs.lemmas.Option.{slice_get_within}
 use Rattle.dita_doc.specs.Tree as tree
@@ -10,13 +9,15 @@ use Rattle.dita_doc.specs.Tree.{ArePreorder, are_places, chars_node, content_of,
 use Rattle.dita_doc.specs.declared.doc.Attribute.{Attribute}
 use Rattle.dita_doc.specs.declared.doc.Node.{Node}
 use Rattle.dita_doc.specs.declared.doc.NodeKind.TheVariants as kinds
+use Rattle.dita_doc.proofs.Lists.{get_pushed}
+use Rattle.dita_doc.proofs.Tests.{number_itself}
 use Rattle.map_spec.specs.Written.{Written, End, Chars}
-use Rattle.readers.specs.Named.{name_at, named}
+use Rattle.readers.specs.Named.{name_at, under_names}
 use Rattle.doc_maker.specs.Building.{Top, Within, behind, closed, count, depth, own_hrefs}
-use Rattle.doc_maker.specs.Made.{AreOpen, IsMade, Made, building, building_of, element_of, ending, href_home, made_of, with_end, written_from}
+use Rattle.doc_maker.specs.Made.{AreOpen, IsMade, MadeContent, building, building_of, element_of, ending, href_home, made_of, with_end, written_from}
 use Rattle.doc_maker.specs.Origins.{Longer}
 use Rattle.doc_maker.proofs.MadeLaws.{length-changed, open_closed, open_element, open_inside, open_leaf, own_ended, own_push, placed_among_more, placed_ended, placed_push, places_among_more, places_push}
-use Rattle.doc_maker.proofs.OriginLaws.{last_of_pushed, named_still}
+use Rattle.doc_maker.proofs.OriginLaws.{named_still}
 use Rattle.doc_maker.proofs.SeenLaws.{AreAlike, building_alike, building_closed, building_count, building_depth, building_more, building_opened, named_own, top_preorder, top_written}
 
 abbrev Declared : Type 0
@@ -86,23 +87,16 @@ names_seen names longer nodes hrefs opened grown made =
 
 -- and so nothing was put
 pub names_still : {declared : Declared}
-    (names longer : List (List ℕ)) (nodes : List Node) (hrefs opened : List ℕ) (was : Made)
+    (names longer : List (List ℕ)) (nodes : List Node) (hrefs opened : List ℕ) (was : MadeContent)
     → Longer names longer → IsMade (made_of names nodes hrefs declared opened)
     → made_of names nodes hrefs declared opened ≡ was
     → building (made_of longer nodes hrefs declared opened) ≡ building was
 names_still names longer nodes hrefs opened was grown made view =
     names_seen names longer nodes hrefs opened grown made ∙ ap building view
 
-pub on_err : {T E P : Type 0} (result : Result T E) → P → OnErr result P
-on_err (Ok value) holds = tt
-on_err (Err stop) holds = holds
-
 name_there : (names : List (List ℕ)) (place : ℕ) (name : List ℕ) → slice_get names place ≡ Some name
     → name_at names place ≡ name
 name_there names place name is = ap (λ found. unwrap_or found []) is
-
-same_number : (n : ℕ) → (n == n) ≡ true
-same_number n = grind (arith, nat_tests)
 
 -- A text is put
 
@@ -138,7 +132,7 @@ chars_made {declared} names nodes now hrefs all opened lists text doc origin end
       placed = placed_push (length names) nodes node made.placed below;
       each = omega (arith, length_push nodes node, length_push hrefs origin, made.each);
       hrefs = places_push (length names) hrefs origin made.hrefs below;
-      own = own_push nodes hrefs node origin made.each made.own (same_number origin);
+      own = own_push nodes hrefs node origin made.each made.own (number_itself origin);
       named = omega (arith, length_push nodes node, length_push declared [], made.named);
     })
 
@@ -200,7 +194,7 @@ open_seen names longer nodes now hrefs all opened places name attributes origin 
     let node = element_node name attributes origin line end in
     let last : slice_get all place ≡ Some href =
     ap (λ hs. slice_get hs place) are ∙ ap (slice_get (hrefs ++ href ∷ [])) (here ∙ sym made.each)
-    ∙ last_of_pushed hrefs href in
+    ∙ get_pushed hrefs href in
     let href_is : href_home longer all place ≡ home =
     ap (λ found. name_at longer (unwrap_or found 0)) last ∙ name_there longer href home at_home in
     let element : element_of longer all place node
@@ -292,6 +286,7 @@ pub finish_written : (names : List (List ℕ)) (nodes : List Node) (hrefs opened
 finish_written names nodes hrefs opened content is = top_written names hrefs nodes (reverse opened) content is
 
 pub finish_named : (names : List (List ℕ)) (nodes : List Node) (hrefs opened : List ℕ) (content : Written)
-    → building_of names hrefs nodes (reverse opened) ≡ Top content → named names (tree_of nodes) ≡ own_hrefs content
+    → building_of names hrefs nodes (reverse opened) ≡ Top content
+    → under_names names (tree_of nodes) ≡ own_hrefs content
 finish_named names nodes hrefs opened content is =
     named_own names hrefs (content_of nodes 0) 0 ∙ ap own_hrefs (finish_written names nodes hrefs opened content is)

@@ -3,12 +3,14 @@ use Rattle.std.specs.Prelude.{◌≡◌, ◌<◌, ℕ, zero, suc, Bool, true, fa
 use Rattle.std.specs.BTreeMap.{is_at}
 use Rattle.std.specs.Cmp.Lexicographic.{slice_cmp}
 use Rattle.std.specs.Ordering.{is_eq, nat_cmp}
-use Rattle.std.proofs.Common.{◌⊎◌, inl, inr, Ordering, Less, Equal, Greater, refl, sym, ◌∙◌, ap, subst, arith, append_assoc}
+use Rattle.std.proofs.Common.{◌⊎◌, inl, inr, refl, sym, ◌∙◌, ap, subst, arith, append_assoc}
 use Rattle.std.proofs.lemmas.List.{append-nil}
 use Rattle.std.proofs.lemmas.Option.{none-some, same_Some}
-use Rattle.dita_doc.proofs.NameOrder.{equal_itself, same_from_equal}
+use Rattle.dita_doc.proofs.Lists.{get_pushed}
+use Rattle.dita_doc.proofs.NameOrder.{equal_itself}
+use Rattle.dita_doc.proofs.Orders.{same_at}
 use Rattle.readers.specs.Named.{name_at}
-use Rattle.doc_maker.specs.Origins.{ArePlaces, EachOnce, IsAbsent, Longer, place_in}
+use Rattle.doc_maker.specs.Origins.{ArePlaces, EachOnce, IsAbsent, Longer, origin_place}
 
 -- More names
 
@@ -50,10 +52,6 @@ named_still names longer place grown inside =
 
 -- One name more
 
-pub last_of_pushed : {X : Type 0} (all : List X) (last : X) → slice_get (all ++ last ∷ []) (length all) ≡ Some last
-last_of_pushed [] last = refl
-last_of_pushed (first ∷ all) last = last_of_pushed all last
-
 -- it is the name that stands at a place, or another stood there before
 among_pushed : (names : List (List ℕ)) (name other : List ℕ) (place : ℕ)
     → slice_get (names ++ name ∷ []) place ≡ Some other
@@ -68,86 +66,80 @@ among_pushed (first ∷ names) name other (suc place) is = next (among_pushed na
     next (inl there) = inl there
     next (inr new) = inr (new.0, ap suc new.1)
 
-equal_test : (o : Ordering) → is_eq o ≡ true → o ≡ Equal
-equal_test Equal same = refl
-equal_test Less same = cc
-equal_test Greater same = cc
-
-at_same : (name other : List ℕ) → is_at (slice_cmp nat_cmp name) other ≡ true → name ≡ other
-at_same name other is = same_from_equal name other (equal_test (slice_cmp nat_cmp name other) is)
-
 at_itself : (name : List ℕ) → is_at (slice_cmp nat_cmp name) name ≡ true
 at_itself name = ap is_eq (equal_itself name)
 
 -- the table tells its place, and of other names what it told before
 pub places_put : (names : List (List ℕ)) (name : List ℕ) (old new : List (List ℕ × ℕ)) → ArePlaces names old
-    → IsAbsent names name → ((other : List ℕ) → place_in new other
-    ≡ cond (is_at (slice_cmp nat_cmp name) other) (Some (length names)) (place_in old other))
+    → IsAbsent names name → ((other : List ℕ) → origin_place new other
+    ≡ cond (is_at (slice_cmp nat_cmp name) other) (Some (length names)) (origin_place old other))
     → ArePlaces (names ++ name ∷ []) new
 places_put names name old new are absent put = record { told = told; stands = stands }
   where
-    here : (other : List ℕ) → is_at (slice_cmp nat_cmp name) other ≡ true → place_in new other ≡ Some (length names)
-    here other is = put other ∙ ap (λ test. cond test (Some (length names)) (place_in old other)) is
+    here : (other : List ℕ) → is_at (slice_cmp nat_cmp name) other ≡ true → origin_place new other ≡ Some (length names)
+    here other is = put other ∙ ap (λ test. cond test (Some (length names)) (origin_place old other)) is
 
-    apart : (other : List ℕ) → is_at (slice_cmp nat_cmp name) other ≡ false → place_in new other ≡ place_in old other
-    apart other is = put other ∙ ap (λ test. cond test (Some (length names)) (place_in old other)) is
+    apart : (other : List ℕ) → is_at (slice_cmp nat_cmp name) other ≡ false
+        → origin_place new other ≡ origin_place old other
+    apart other is = put other ∙ ap (λ test. cond test (Some (length names)) (origin_place old other)) is
 
     told_before : (other : List ℕ) (place : ℕ) → slice_get names place ≡ Some other → (test : Bool)
-        → is_at (slice_cmp nat_cmp name) other ≡ test → place_in new other ≡ Some place
+        → is_at (slice_cmp nat_cmp name) other ≡ test → origin_place new other ≡ Some place
     told_before other place there true is =
-        absurd (absent place (there ∙ ap Some (sym (at_same name other is))))
+        absurd (absent place (there ∙ ap Some (sym (same_at name other is))))
     told_before other place there false is = apart other is ∙ are.told other place there
 
     told_by : (other : List ℕ) (place : ℕ)
         → (slice_get names place ≡ Some other) ⊎ ((name ≡ other) × (length names ≡ place))
-        → place_in new other ≡ Some place
+        → origin_place new other ≡ Some place
     told_by other place (inl there) = told_before other place there (is_at (slice_cmp nat_cmp name) other) refl
-    told_by other place (inr last) = subst (λ n. place_in new n ≡ Some place) last.0
+    told_by other place (inr last) = subst (λ n. origin_place new n ≡ Some place) last.0
         (here name (at_itself name) ∙ ap Some last.1)
 
     told : (other : List ℕ) (place : ℕ) → slice_get (names ++ name ∷ []) place ≡ Some other
-        → place_in new other ≡ Some place
+        → origin_place new other ≡ Some place
     told other place is = told_by other place (among_pushed names name other place is)
 
-    stands_by : (other : List ℕ) (place : ℕ) → place_in new other ≡ Some place → (test : Bool)
+    stands_by : (other : List ℕ) (place : ℕ) → origin_place new other ≡ Some place → (test : Bool)
         → is_at (slice_cmp nat_cmp name) other ≡ test → slice_get (names ++ name ∷ []) place ≡ Some other
     stands_by other place is true same =
         let at : length names ≡ place = same_Some (length names) place (sym (here other same) ∙ is) in
-        ap (slice_get (names ++ name ∷ [])) (sym at) ∙ last_of_pushed names name ∙ ap Some (at_same name other same)
+        ap (slice_get (names ++ name ∷ [])) (sym at) ∙ get_pushed names name ∙ ap Some (same_at name other same)
     stands_by other place is false same =
         stays_in_front names (name ∷ []) place other (are.stands other place (sym (apart other same) ∙ is))
 
-    stands : (other : List ℕ) (place : ℕ) → place_in new other ≡ Some place
+    stands : (other : List ℕ) (place : ℕ) → origin_place new other ≡ Some place
         → slice_get (names ++ name ∷ []) place ≡ Some other
     stands other place is = stands_by other place is (is_at (slice_cmp nat_cmp name) other) refl
 
 -- the name that is put is a copy, and stands behind the others
 pub places_pushed : (names more : List (List ℕ)) (name key copy : List ℕ) (place : ℕ) (old new : List (List ℕ × ℕ))
     → ArePlaces names old → IsAbsent names name → key ≡ name → copy ≡ name → more ≡ names ++ copy ∷ []
-    → place ≡ length names → ((other : List ℕ) → place_in new other
-    ≡ cond (is_at (slice_cmp nat_cmp key) other) (Some place) (place_in old other)) → ArePlaces more new
+    → place ≡ length names → ((other : List ℕ) → origin_place new other
+    ≡ cond (is_at (slice_cmp nat_cmp key) other) (Some place) (origin_place old other)) → ArePlaces more new
 places_pushed names more name key copy place old new are absent of_key of_copy is at put =
     subst (λ ns. ArePlaces ns new) (sym (is ∙ ap (λ n. names ++ n ∷ []) of_copy))
     (places_put names name old new are absent (λ other. put other
-    ∙ ap (λ n. cond (is_at (slice_cmp nat_cmp n) other) (Some place) (place_in old other)) of_key
-    ∙ ap (λ n. cond (is_at (slice_cmp nat_cmp name) other) (Some n) (place_in old other)) at))
+    ∙ ap (λ n. cond (is_at (slice_cmp nat_cmp n) other) (Some place) (origin_place old other)) of_key
+    ∙ ap (λ n. cond (is_at (slice_cmp nat_cmp name) other) (Some n) (origin_place old other)) at))
 
 -- and has this place
 pub pushed_at : (names more : List (List ℕ)) (name copy : List ℕ) (place : ℕ) → copy ≡ name
     → more ≡ names ++ copy ∷ [] → place ≡ length names → slice_get more place ≡ Some name
 pushed_at names more name copy place of_copy is at =
-    ap (λ ns. slice_get ns place) is ∙ ap (slice_get (names ++ copy ∷ [])) at ∙ last_of_pushed names copy
+    ap (λ ns. slice_get ns place) is ∙ ap (slice_get (names ++ copy ∷ [])) at ∙ get_pushed names copy
     ∙ ap Some of_copy
 
 -- Looking a name up
 
 pub found_stands : (names : List (List ℕ)) (table : List (List ℕ × ℕ)) (name : List ℕ) (found : Option ℕ)
-    → ArePlaces names table → found ≡ place_in table name → IfSome found (λ place. slice_get names place ≡ Some name)
+    → ArePlaces names table → found ≡ origin_place table name
+    → IfSome found (λ place. slice_get names place ≡ Some name)
 found_stands names table name None are is = tt
 found_stands names table name (Some place) are is = are.stands name place (sym is)
 
 pub missing_absent : (names : List (List ℕ)) (table : List (List ℕ × ℕ)) (name : List ℕ) → ArePlaces names table
-    → place_in table name ≡ None → IsAbsent names name
+    → origin_place table name ≡ None → IsAbsent names name
 missing_absent names table name are none place is = none-some place (sym none ∙ are.told name place is)
 
 -- no name stands at two places, since the table tells one

@@ -2,12 +2,12 @@
 use Rattle.std.specs.Prelude.{◌≡◌, ◌+◌, ◌<◌, ◌≤◌, ℕ, true, List, [], ◌∷◌, ◌++◌, length, take, drop, nat_lt}
 use Rattle.std.proofs.Common.{refl, sym, ◌∙◌, ap, ap₂, subst, arith, append_assoc, length-append}
 use Rattle.std.proofs.lemmas.Bool.{and_parts, ltb-true}
-use Rattle.dita_doc.specs.Siblings.{joined}
+use Rattle.dita_doc.specs.Siblings.{content_behind}
 use Rattle.dita_doc.specs.Tree as tree
 use Rattle.dita_doc.specs.Tree.{Content, size_of, nodes_of, content_of, is_element, ArePreorder, are_placed, are_places}
 use Rattle.dita_doc.specs.declared.doc.Node as doc
 use Rattle.map_spec.specs.Written.{Element, Written, End, Chars, Node, side_by_side, size}
-use Rattle.readers.specs.Named.{name_at, named}
+use Rattle.readers.specs.Named.{name_at, under_names}
 use Rattle.doc_maker.specs.Building.{Building, Top, Within, behind, closed, count, depth, own_hrefs}
 use Rattle.doc_maker.specs.Made.{AreOpen, building_of, element_of, first_element, href_home, with_end, written_from}
 use Rattle.doc_maker.proofs.MadeLaws.{content_more, element_from, end_of_preorder, nodes_ended, parts_at, placed_parts, preorder_count, split_at}
@@ -15,7 +15,7 @@ use Rattle.doc_maker.proofs.MadeLaws.{content_more, element_from, end_of_preorde
 -- The content of one node behind another
 
 written_joined : (names : List (List ℕ)) (hrefs : List ℕ) (c more : Content) (place : ℕ)
-    → written_from names hrefs place (joined c more)
+    → written_from names hrefs place (content_behind c more)
     ≡ side_by_side (written_from names hrefs place c) (written_from names hrefs (place + size_of c) more)
 written_joined names hrefs tree.End more place =
     let same : place ≡ place + 0 = omega arith in ap (λ n. written_from names hrefs n more) same
@@ -167,7 +167,7 @@ top_written names hrefs nodes (place ∷ outer) w is = absurd cc
 
 -- with each href where its element was written
 pub named_own : (names : List (List ℕ)) (hrefs : List ℕ) (c : Content) (place : ℕ)
-    → named names c ≡ own_hrefs (written_from names hrefs place c)
+    → under_names names c ≡ own_hrefs (written_from names hrefs place c)
 named_own names hrefs tree.End place = refl
 named_own names hrefs (tree.Chars text origin line rest) place =
     ap (Chars text (name_at names origin)) (named_own names hrefs rest (place + 1))

@@ -3,14 +3,14 @@
 -- innermost first.
 use Rattle.std.specs.Prelude.{◌≡◌, ◌+◌, ◌<◌, ℕ, zero, suc, Bool, false, IsTrue, List, [], ◌∷◌, length, take, drop, reverse, slice_get, unwrap_or}
 use Rattle.dita_doc.specs.Tree as tree
-use Rattle.dita_doc.specs.Tree.{Content, ArePreorder, are_own, are_placed, are_places, content_of, is_element, node_limit, size_of, tree_of}
+use Rattle.dita_doc.specs.Tree.{Content, ArePreorder, are_own, are_placed, are_places, content_of, is_element, doc_node_limit, size_of, tree_of}
 use Rattle.dita_doc.specs.declared.content.Resolved.{Resolved}
 use Rattle.dita_doc.specs.declared.doc.Node as doc
 use Rattle.map_spec.specs.Written.{Element, Written, End, Chars, Node}
 use Rattle.readers.specs.Named.{name_at}
 use Rattle.doc_maker.specs.Building.{Building, Top, Within}
 
-pub record Made : Type 0 where
+pub record MadeContent : Type 0 where
   pub names : List (List ℕ)
   pub nodes : List doc.Node
   pub hrefs : List ℕ
@@ -18,7 +18,7 @@ pub record Made : Type 0 where
   pub opened : List ℕ
 
 -- the same by the places of the open elements with the innermost last
-abbrev pub made_of : List (List ℕ) → List doc.Node → List ℕ → List (List (List ℕ)) → List ℕ → Made
+abbrev pub made_of : List (List ℕ) → List doc.Node → List ℕ → List (List (List ℕ)) → List ℕ → MadeContent
 made_of names nodes hrefs declared places = record {
   names = names;
   nodes = nodes;
@@ -39,9 +39,9 @@ AreOpen nodes [] = ArePreorder nodes 0
 AreOpen nodes (place ∷ outer) = IsTrue (begins_element (drop place nodes))
     × ArePreorder (drop (place + 1) nodes) (place + 1) × AreOpen (take place nodes) outer
 
-pub record IsMade (made : Made) : Type 0 where
+pub record IsMade (made : MadeContent) : Type 0 where
   pub tree : AreOpen made.nodes made.opened
-  pub small : length made.nodes < node_limit
+  pub small : length made.nodes < doc_node_limit
   pub placed : IsTrue (are_placed (length made.names) made.nodes)
   pub each : length made.hrefs ≡ length made.nodes
   pub hrefs : IsTrue (are_places (length made.names) made.hrefs)
@@ -108,9 +108,9 @@ building_of names hrefs nodes (place ∷ outer) = Within (building_of names href
     (first_element names hrefs place (drop place nodes))
     (written_from names hrefs (place + 1) (content_of (drop (place + 1) nodes) (place + 1)))
 
-abbrev pub building : Made → Building
+abbrev pub building : MadeContent → Building
 building made = building_of made.names made.hrefs made.nodes made.opened
 
 -- for each node that was put, the names that are declared for it
-abbrev pub declared : Made → List (List (List ℕ))
+abbrev pub declared : MadeContent → List (List (List ℕ))
 declared made = made.declared

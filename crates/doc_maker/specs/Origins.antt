@@ -5,13 +5,13 @@ use Rattle.std.specs.Cmp.Lexicographic.{slice_cmp}
 use Rattle.std.specs.Map.{lookup}
 use Rattle.std.specs.Ordering.{nat_cmp}
 
-abbrev pub place_in : List (List ℕ × ℕ) → List ℕ → Option ℕ
-place_in table name = lookup (is_at (slice_cmp nat_cmp name)) table
+abbrev pub origin_place : List (List ℕ × ℕ) → List ℕ → Option ℕ
+origin_place table name = lookup (is_at (slice_cmp nat_cmp name)) table
 
 -- the table tells for each name the place where it stands, and for no other name a place
 pub record ArePlaces (names : List (List ℕ)) (table : List (List ℕ × ℕ)) : Type 0 where
-  pub told : (name : List ℕ) (place : ℕ) → slice_get names place ≡ Some name → place_in table name ≡ Some place
-  pub stands : (name : List ℕ) (place : ℕ) → place_in table name ≡ Some place → slice_get names place ≡ Some name
+  pub told : (name : List ℕ) (place : ℕ) → slice_get names place ≡ Some name → origin_place table name ≡ Some place
+  pub stands : (name : List ℕ) (place : ℕ) → origin_place table name ≡ Some place → slice_get names place ≡ Some name
 
 -- no name stands at two places
 abbrev pub EachOnce : List (List ℕ) → Type 0

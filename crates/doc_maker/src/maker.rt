@@ -33,7 +33,7 @@ pub struct DocMaker {
 impl Model for DocMaker {
     ghost use Rattle.doc_maker.specs.Made as fields_spec;
 
-    ghost Value = { fields_spec.Made };
+    ghost Value = { fields_spec.MadeContent };
 
     ghost view = { λ m. fields_spec.made_of m.origins m.nodes.items m.hrefs.items
         m.declared.items m.opened.items };

@@ -1,7 +1,7 @@
 -- The first topic that is wanted, where an element stands first; and the first of all.
-use Rattle.std.specs.Prelude.{◌≡◌, ◌&&◌, ℕ, Bool, true, false, List, [], ◌∷◌, ◌++◌, Option, Some, None, filter, find, slice_get, unwrap_or, codes, if◌then◌else◌}
+use Rattle.std.specs.Prelude.{◌≡◌, ◌&&◌, ℕ, Bool, true, false, List, [], ◌∷◌, ◌++◌, Option, Some, None, filter, find, slice_get, codes, if◌then◌else◌}
 use Rattle.std.specs.Borrow.{Bor}
-use Rattle.std.specs.Option.{option_copied, option_map_or, option_or}
+use Rattle.std.specs.Option.{option_map_or, option_or}
 use Rattle.std.proofs.Common.{refl, sym, ap, ◌∙◌}
 use Rattle.std.proofs.lemmas.List.Elements.{filter-append}
 use Rattle.std.proofs.lemmas.List.Folds.{find-append}
@@ -66,9 +66,3 @@ pub first_id : (nodes : Written) (found : Option Whole) → found ≡ topic_want
     → option_map_or (λ (topic : Whole). id_of topic.0) found [] ≡ first_of_document nodes
 first_id nodes found is =
     ap (λ (topic : Option Whole). option_map_or (λ (one : Whole). id_of one.0) topic []) (is ∙ sym (first_topic nodes))
-
--- a text where it stands, or another, is this text or the other
-pub read_or : (value : Option (Bor (List ℕ))) (other : Bor (List ℕ))
-    → (unwrap_or value other).now ≡ unwrap_or (option_copied value) other.now
-read_or None other = refl
-read_or (Some text) other = refl

@@ -20,19 +20,19 @@ answer_holds world setting (questions.Document name) (answers.Document found) is
 answer_holds world setting (questions.Kind name) (answers.Kind kind) is = is
 answer_holds world setting (questions.Title name topic) (answers.Title text) is = is
 answer_holds world setting (questions.First name) (answers.First id) is = is
-answer_holds world setting (questions.Key scope text) (answers.Key answer) is = is
+answer_holds world setting (questions.Key scope text) (answers.Key answer) is = is.1
 answer_holds world setting (questions.Pushes name) (answers.Pushes pushes faults) is = is
 answer_holds world setting (questions.PageOf name context) (answers.PageOf place) is = is
 answer_holds world setting question answered is = absurd is
 
 pub holds_answer : (world : World) (setting : Setting) (question : Question) (answered : Answered)
-    → IsOfKind question answered → Holds world (told_by setting question answered)
+    → IsOfKind setting question answered → Holds world (told_by setting question answered)
     → IsAnswer world (Some setting) question answered
 holds_answer world setting (questions.Document name) (answers.Document found) kind holds = holds
 holds_answer world setting (questions.Kind name) (answers.Kind answer) kind holds = holds
 holds_answer world setting (questions.Title name topic) (answers.Title text) kind holds = holds
 holds_answer world setting (questions.First name) (answers.First id) kind holds = holds
-holds_answer world setting (questions.Key scope text) (answers.Key answer) kind holds = holds
+holds_answer world setting (questions.Key scope text) (answers.Key answer) kind holds = (kind, holds)
 holds_answer world setting (questions.Pushes name) (answers.Pushes pushes faults) kind holds = holds
 holds_answer world setting (questions.PageOf name context) (answers.PageOf place) kind holds = holds
 holds_answer world setting question answered kind holds = absurd kind
@@ -64,7 +64,7 @@ answers_agree world setting ts (one ∷ more) answers agreed =
     (answer_holds world setting one.question one.answered answers.0, agreed)
 
 pub agrees_answers : (world : World) (setting : Setting) (ts : List Told) (asked : List Asked)
-    → AreOfKind IsOfKind asked → Agrees world (told_in setting ts asked)
+    → AreOfKind (IsOfKind setting) asked → Agrees world (told_in setting ts asked)
     → AreAnswers world (Some setting) asked × Agrees world ts
 agrees_answers world setting ts [] kinds agreed = (tt, agreed)
 agrees_answers world setting ts (one ∷ more) kinds agreed =

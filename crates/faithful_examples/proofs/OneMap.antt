@@ -8,7 +8,7 @@ use Rattle.std.proofs.Common.{refl, ap, sym, subst, ◌∙◌, arith}
 use Rattle.std.proofs.lemmas.List.Elements.{recursion_from_All}
 use Rattle.std.proofs.lemmas.Option.{none-some, same_Some}
 use lib.Utf8.{encode}
-use Rattle.build_spec.specs.Built.{Built, Done}
+use Rattle.build_spec.specs.Built.{BuildOutcome, Done}
 use Rattle.dita_doc.specs.Desk.{State, IsStored, next}
 use Rattle.dita_doc.specs.Lines.{IsLineText}
 use Rattle.dita_doc.specs.Pyx.{document_of}
@@ -72,7 +72,7 @@ abbrev page : List ℕ
 page = lines ("<!DOCTYPE html>" ∷ "<html><head><meta charset=\"utf-8\"><title>Contents</title></head>" ∷ "<body>"
     ∷ "<nav class=\"toc\"><h1>Contents</h1></nav>" ∷ "</body></html>" ∷ [])
 
-abbrev build : Built
+abbrev build : BuildOutcome
 build = Done ((codes "index.html", page) ∷ []) []
 
 build_of_stored : clean_build (world_of stored) in_m None ≡ build

@@ -5,7 +5,7 @@ use Rattle.std.specs.Fmt.{digits}
 use Rattle.std.specs.Prelude.{◌≡◌, ℕ, List, [], ◌∷◌, None, codes, map}
 use Rattle.std.specs.List.{flat_map}
 use Rattle.std.proofs.Common.{refl, subst, sym, arith}
-use Rattle.build_spec.specs.Built.{Built, Done, Stopped}
+use Rattle.build_spec.specs.Built.{BuildOutcome, Done, Stopped}
 use Rattle.conref_spec.specs.Content.{followed_from, resolved_from}
 use Rattle.dita_doc.specs.Desk.{State}
 use Rattle.dita_doc.specs.Lines.{line}
@@ -51,7 +51,7 @@ contents_page = map codes ("<!DOCTYPE html>" ∷ "<html><head><meta charset=\"ut
     ∷ "<body>" ∷ "<nav class=\"toc\"><h1>Contents</h1><ul><li><a href=\"t.html\">Hello</a></li></ul></nav>"
     ∷ "</body></html>" ∷ [])
 
-abbrev build : Built
+abbrev build : BuildOutcome
 build = Done ((codes "t.html", flat_map line topic) ∷ (codes "index.html", flat_map line contents_page) ∷ []) []
 
 its_build : dita.clean stored in_m None ≡ build

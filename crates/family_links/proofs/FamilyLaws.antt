@@ -4,18 +4,19 @@ use Rattle.std.specs.List.{All, flat_map, list_any}
 use Rattle.std.specs.Option.{option_and_then, option_map_or}
 use Rattle.std.proofs.Common.{refl, sym, ap, subst, ◌∙◌, arith}
 use Rattle.std.proofs.Math.Logic.{⊎_elim}
-use Rattle.std.proofs.lemmas.Bool.{and_from, and_parts, false_from_ne_true, le-leb, leb-true, not_from_false, or_cases, or_left, or_right}
+use Rattle.std.proofs.lemmas.Bool.{and_from, and_parts, eqb-true, false_from_ne_true, le-leb, leb-true, not_from_false, or_cases, or_left, or_right}
 use Rattle.std.proofs.lemmas.List.Elements.{All-cons, All-contains, All-filter, All-head, All-nil, All-tail}
 use Rattle.std.proofs.lemmas.List.Folds.{Any-from_list_any, list_any-from_Any}
 use Rattle.std.proofs.lemmas.Map.Views.{any-filter_same}
 use Rattle.dita_doc.specs.declared.content.LinkKind.TheVariants as links
 use Rattle.dita_doc.specs.declared.plan.Plan.{Plan}
 use Rattle.dita_doc.specs.declared.stop.NoMemory.{NoMemory}
+use Rattle.dita_doc.proofs.Lists.{any_map}
+use Rattle.dita_doc.proofs.Tests.{number_itself, number_swaps}
 use Rattle.link_groups.specs.LinkLists.{AppendsLinks, HoldsLinks, link_beside}
 use Rattle.link_groups.specs.LinkNodes.{is_source_at, is_target_at}
 use Rattle.link_groups.specs.declared.link_list.LinkList.{LinkList}
 use Rattle.link_groups.specs.declared.link_nodes.LinkNode.{LinkNode}
-use Rattle.link_groups.proofs.NumberLaws.{number_itself, same_number, turned}
 use Rattle.link_groups.proofs.OrderLaws.{is_linked, link_at}
 use Rattle.map_spec.specs.Scopes.{places}
 use Rattle.link_spec.specs.Links.{LinkTo, are_siblings, is_among, is_page_at, may_link, page_of_node}
@@ -23,7 +24,7 @@ use Rattle.reader_spec.specs.World.{World}
 use Rattle.family_links.specs.Families.{AreFamiliesOf, first_targets, is_linking, links_to_siblings, siblings_of, targets_from}
 use Rattle.family_links.specs.Grouped.{groups}
 use Rattle.family_links.specs.declared.families.Families.{Families}
-use Rattle.family_links.proofs.AnyLaws.{any_flat, any_map, any_place}
+use Rattle.family_links.proofs.AnyLaws.{any_flat, any_place}
 use Rattle.family_links.proofs.GroupLaws.{IsGroup, groups_good}
 use Rattle.family_links.proofs.NodeLaws.{IsNode, RiseFrom, is_place, node_page, node_source, node_target, node_within, place_of, rise_any}
 use Rattle.family_links.proofs.OrderedLaws.{Earlier, in_place}
@@ -114,8 +115,8 @@ module _ (page to : ℕ) where
           or_right (is_before node) (list_any is_before rest)
           (any-filter_same is_before (λ (k : LinkNode). not (k.page == node.page)) true
           (λ k so. ap not (ap (λ n. n == node.page)
-          (same_number k.page page (and_parts (k.page == page) (nat_le k.at to) so).0)
-          ∙ turned page node.page ∙ other)) (first_targets nodes) ∙ there)
+          (eqb-true k.page page (and_parts (k.page == page) (nat_le k.at to) so).0)
+          ∙ number_swaps page node.page ∙ other)) (first_targets nodes) ∙ there)
 
       by_page : (list_any is_wanted nodes ≡ true → list_any is_before (first_targets nodes) ≡ true)
           → (list_any is_wanted nodes ≡ true → node.at ≤ to) → (b : Bool) → (node.page == page) ≡ b
@@ -125,7 +126,7 @@ module _ (page to : ℕ) where
         where
           here : is_wanted node ≡ true → node.at ≤ to
           here first =
-              let same = same_number node.at to (and_parts (node.at == to) (node.page == page)
+              let same = eqb-true node.at to (and_parts (node.at == to) (node.page == page)
               (and_parts node.is_target ((node.at == to) && (node.page == page)) first).1).0 in
               omega (arith, same)
       by_page behind later false e = in_rest e (⊎_elim (λ first. absurd (no first)) behind
@@ -171,9 +172,9 @@ module _ (world : World) (plan : Plan) (page : ℕ) where
       → sibling_at to ≡ Some link → (node.at == to) ≡ false
   not_own node to link is own leads = false_from_ne_true (node.at == to) (λ same. nowhere (
       sym (ap (option_and_then (link_beside page links.Sibling))
-      (ap (page_of_node plan) (sym (same_number node.at to same)) ∙ node_page world plan node is)
+      (ap (page_of_node plan) (sym (eqb-true node.at to same)) ∙ node_page world plan node is)
       ∙ ap (λ b. if b then None else Some (record { kind = links.Sibling; page = node.page }))
-      (turned node.page page ∙ own)) ∙ leads))
+      (number_swaps node.page page ∙ own)) ∙ leads))
     where
       nowhere : None ≡ Some link → ⊥
       nowhere e = cc
@@ -204,7 +205,7 @@ module _ (world : World) (plan : Plan) (page : ℕ) where
       (and_from (is_page_at plan page mine.at && are_siblings mine.at to (map place_of nodes))
       (may_link world plan mine.at to)
       (and_from (is_page_at plan page mine.at) (are_siblings mine.at to (map place_of nodes))
-      (of_page mine mine_is ∙ turned mine.page page ∙ says.0)
+      (of_page mine mine_is ∙ number_swaps mine.page page ∙ says.0)
       (and_from (not (mine.at == to) && is_among mine.at (map place_of nodes)) (is_among to (map place_of nodes))
       (and_from (not (mine.at == to)) (is_among mine.at (map place_of nodes))
       (not_from_false (mine.at == to) (not_own mine to link mine_is says.0 leads))
@@ -214,7 +215,7 @@ module _ (world : World) (plan : Plan) (page : ℕ) where
       (target.0, other, target.2, target.3, takes.1))))
       (and_from (is_source_at world plan mine.at) (is_target_at world plan to)
       (node_source world plan mine mine_is ∙ says.1)
-      (ap (is_target_at world plan) (sym (same_number other.at to takes.1))
+      (ap (is_target_at world plan) (sym (eqb-true other.at to takes.1))
       ∙ node_target world plan other other_is ∙ takes.0)))
 
   first_good : (nodes : List LinkNode) → All (IsNode world plan) nodes → All (IsNode world plan) (first_targets nodes)
@@ -256,11 +257,11 @@ module _ (world : World) (plan : Plan) (page : ℕ) where
       let own = Any-from_list_any (is_place from) nodes (sym (among_of from nodes)
       ∙ (and_parts (not (from == to)) (is_among from (map place_of nodes)) among.0).1) in
       let mine = own.1 in
-      let mine_at = same_number mine.at from own.4 in
+      let mine_at = eqb-true mine.at from own.4 in
       let mine_is = All-contains (IsNode world plan) nodes mine good.all (own.0, own.2, own.3) in
       let target = Any-from_list_any (is_place to) nodes (sym (among_of to nodes) ∙ among.1) in
       let other = target.1 in
-      let other_at = same_number other.at to target.4 in
+      let other_at = eqb-true other.at to target.4 in
       let other_is = All-contains (IsNode world plan) nodes other good.all (target.0, target.2, target.3) in
       let linking : is_linking page nodes ≡ true =
       list_any-from_Any (λ (n : LinkNode). (page == n.page) && n.is_source) nodes (
@@ -269,7 +270,7 @@ module _ (world : World) (plan : Plan) (page : ℕ) where
         own.2,
         own.3,
         and_from (page == mine.page) mine.is_source
-            (turned page mine.page ∙ sym (of_page mine mine_is) ∙ ap (is_page_at plan page) mine_at ∙ stands.0)
+            (number_swaps page mine.page ∙ sym (of_page mine mine_is) ∙ ap (is_page_at plan page) mine_at ∙ stands.0)
             (sym (node_source world plan mine mine_is) ∙ ap (is_source_at world plan) mine_at ∙ may.0),
       ) in
       let found = Any-from_list_any (is_before other.page to) (first_targets nodes)
@@ -293,7 +294,7 @@ module _ (world : World) (plan : Plan) (page : ℕ) where
             ∙ list_any-from_Any (is_place first.at) (first_targets nodes)
             (found.0, first, found.2, found.3, number_itself first.at);
         is = ap (option_and_then (link_beside page links.Sibling)) (node_page world plan first first_is
-            ∙ ap Some (same_number first.page other.page before.0)
+            ∙ ap Some (eqb-true first.page other.page before.0)
             ∙ sym (ap (page_of_node plan) (sym other_at) ∙ node_page world plan other other_is)) ∙ leads;
       }
 

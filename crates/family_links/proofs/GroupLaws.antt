@@ -9,9 +9,10 @@ use Rattle.std.proofs.Math.Logic.{⊎_elim}
 use Rattle.std.proofs.lemmas.Bool.{cases_lt}
 use Rattle.std.proofs.lemmas.List.{length-map, map-append, take_all}
 use Rattle.std.proofs.lemmas.List.Elements.{All-cons, All-nil, filter-append}
-use Rattle.std.proofs.lemmas.Option.{slice_get-map}
+use Rattle.std.proofs.lemmas.Option.{slice_get-map, slice_get_past}
 use Rattle.std.proofs.lemmas.Slice.Eq.{bytes_eq-Decides}
 use Rattle.dita_doc.specs.declared.plan.Plan.{Plan}
+use Rattle.dita_doc.proofs.Tests.{and_false}
 use Rattle.link_groups.specs.LinkNodes.{link_node_at, with_page}
 use Rattle.link_groups.specs.declared.link_nodes.LinkNode.{LinkNode}
 use Rattle.map_spec.specs.Cascade.{attribute_at, is_in_table, walk}
@@ -19,14 +20,14 @@ use Rattle.map_spec.specs.Elements.{is_value}
 use Rattle.map_spec.specs.Scopes.{places}
 use Rattle.link_spec.specs.Links.{children_with_pages, collections, has_page, is_child, is_collection, node_attribute, page_of_node}
 use Rattle.reader_spec.specs.World.{World}
+use Rattle.map_lemmas.proofs.ListedLaws.{count_places, place_there}
 use Rattle.family_links.specs.Collected.{group_of, groups_of}
 use Rattle.family_links.specs.Grouped.{child_at, groups, kind_at, kind_in, kind_named, kinds_of, nodes_below}
 use Rattle.family_links.specs.Lists.{listed}
 use Rattle.family_links.specs.declared.groups.GroupKind.{GroupKind}
 use Rattle.family_links.specs.declared.groups.GroupKind.TheVariants.{Sequence, Family}
 use Rattle.family_links.proofs.NodeLaws.{IsNode, RiseFrom, found_place, nodes_are, nodes_rise, place_of, places_of}
-use Rattle.family_links.proofs.PlaceLaws.{beyond_list, count_places, place_more, place_there}
-use Rattle.family_links.proofs.AnyLaws.{and_no}
+use Rattle.family_links.proofs.PlaceLaws.{place_more}
 
 -- What a kind is called
 
@@ -51,7 +52,7 @@ if_group b nodes = if b then nodes ∷ [] else []
 module _ (entries : List (ℕ × Vec LinkNode Global)) (at : ℕ) where
   sequence_by : (inside sequence family : Bool) → group_of Sequence (kind_by inside sequence family) entries at
       ≡ if_group (sequence && not inside) (listed at entries)
-  sequence_by true sequence family = ap (λ b. if_group b (listed at entries)) (sym (and_no sequence))
+  sequence_by true sequence family = ap (λ b. if_group b (listed at entries)) (sym (and_false sequence))
   sequence_by false true family = refl
   sequence_by false false true = refl
   sequence_by false false false = refl
@@ -59,7 +60,7 @@ module _ (entries : List (ℕ × Vec LinkNode Global)) (at : ℕ) where
   family_by : (inside sequence family : Bool) → (sequence ≡ true → family ≡ false)
       → group_of Family (kind_by inside sequence family) entries at
       ≡ if_group (family && not inside) (listed at entries)
-  family_by true sequence family apart = ap (λ b. if_group b (listed at entries)) (sym (and_no family))
+  family_by true sequence family apart = ap (λ b. if_group b (listed at entries)) (sym (and_false family))
   family_by false true family apart =
       ap (λ b. if_group (b && true) (listed at entries)) (sym (apart refl))
   family_by false false true apart = refl
@@ -172,9 +173,9 @@ kind_known world plan kinds at same = ⊎_elim (λ within. kind_there world plan
     (λ beyond. ap (λ l. kind_in l at) same
     ∙ ap (option_and_then (λ (kind : Option GroupKind). kind))
     (slice_get-map (kind_at world plan) (places plan.nodes) at
-    ∙ ap (option_map (kind_at world plan)) (beyond_list (places plan.nodes) at
+    ∙ ap (option_map (kind_at world plan)) (slice_get_past (places plan.nodes) at
     (omega (arith, beyond, count_places plan.nodes 0))))
-    ∙ sym (no_kind world plan at (beyond_list plan.nodes at beyond)))
+    ∙ sym (no_kind world plan at (slice_get_past plan.nodes at beyond)))
     (cases_lt at (length plan.nodes))
 
 module _ (wanted : GroupKind) (world : World) (plan : Plan) (kinds : List (Option GroupKind))

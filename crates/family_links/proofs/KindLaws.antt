@@ -1,20 +1,10 @@
 -- The kind of a collection, by its value.
 use Rattle.std.specs.Prelude.{◌≡◌, ℕ, Bool, true, false, List, Option, Some, None, bytes_eq, codes, if◌then◌else◌}
 use Rattle.std.proofs.Common.{refl, sym, ◌∙◌}
-use Rattle.std.proofs.lemmas.Slice.Eq.{bytes_eq-Decides}
+use Rattle.dita_doc.proofs.Tests.{text_swaps}
 use Rattle.family_links.specs.Grouped.{kind_named}
 use Rattle.family_links.specs.declared.groups.GroupKind.{GroupKind}
 use Rattle.family_links.specs.declared.groups.GroupKind.TheVariants.{Sequence, Family}
-
-by_truth : (a b : Bool) → (a ≡ true → b ≡ true) → (b ≡ true → a ≡ true) → a ≡ b
-by_truth true b there back = sym (there refl)
-by_truth false true there back = back refl
-by_truth false false there back = refl
-
-turned : (a b : List ℕ) → bytes_eq a b ≡ bytes_eq b a
-turned a b = by_truth (bytes_eq a b) (bytes_eq b a)
-    (λ e. (bytes_eq-Decides b a).1 (sym ((bytes_eq-Decides a b).0 e)))
-    (λ e. (bytes_eq-Decides a b).1 (sym ((bytes_eq-Decides b a).0 e)))
 
 abbrev kind_by : Bool → Bool → Option GroupKind
 kind_by ordered others = if ordered then Some Sequence else if others then Some Family else None
@@ -29,14 +19,14 @@ first_is false others is = cc
 module _ (value : List ℕ) where
   pub sequence_named : bytes_eq value (codes "sequence") ≡ true → Some Sequence ≡ kind_named (Some value)
   sequence_named is = first_is (bytes_eq (codes "sequence") value) (bytes_eq (codes "family") value)
-      (turned (codes "sequence") value ∙ is)
+      (text_swaps (codes "sequence") value ∙ is)
 
   pub family_named : bytes_eq value (codes "sequence") ≡ false → bytes_eq value (codes "family") ≡ true
       → Some Family ≡ kind_named (Some value)
   family_named apart is = kind_is (bytes_eq (codes "sequence") value) (bytes_eq (codes "family") value) false true
-      (turned (codes "sequence") value ∙ apart) (turned (codes "family") value ∙ is)
+      (text_swaps (codes "sequence") value ∙ apart) (text_swaps (codes "family") value ∙ is)
 
   pub none_named : bytes_eq value (codes "sequence") ≡ false → bytes_eq value (codes "family") ≡ false
       → None ≡ kind_named (Some value)
   none_named apart neither = kind_is (bytes_eq (codes "sequence") value) (bytes_eq (codes "family") value) false false
-      (turned (codes "sequence") value ∙ apart) (turned (codes "family") value ∙ neither)
+      (text_swaps (codes "sequence") value ∙ apart) (text_swaps (codes "family") value ∙ neither)

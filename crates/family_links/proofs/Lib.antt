@@ -8,4 +8,3 @@ mod OrderedLaws
 mod PlaceLaws
 mod SequenceLaws
 mod TargetLaws
-pub mod Walking

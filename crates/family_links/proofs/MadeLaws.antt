@@ -1,25 +1,28 @@
 -- The collections of a plan, one by one, and all that they give.
-use Rattle.std.specs.Prelude.{◌≡◌, ◌+◌, ◌<◌, ◌≤◌, ◌==◌, ◌&&◌, ℕ, zero, suc, Bool, true, false, not, List, [], ◌∷◌, ◌++◌, Option, Some, None, OnOk, Result, Ok, Err, codes, is_some, length, map, option_map, slice_get, take, unwrap_or, if◌then◌else◌}
+use Rattle.std.specs.Prelude.{◌≡◌, ◌+◌, ◌<◌, ◌≤◌, ◌==◌, ◌&&◌, ℕ, suc, Bool, true, false, not, List, [], ◌∷◌, ◌++◌, Option, Some, None, OnOk, Result, Ok, Err, codes, is_some, length, map, option_map, slice_get, take, unwrap_or, if◌then◌else◌}
 use Rattle.std.specs.List.{flat_map}
 use Rattle.std.specs.Option.{option_and_then, option_map_or, option_to_list}
 use Rattle.std.specs.declared.alloc.Global.{Global}
 use Rattle.std.specs.declared.vec.Vec.{Vec}
 use Rattle.std.proofs.Common.{refl, sym, ap, subst, ◌∙◌, append-nil, append_assoc, arith, get_or}
-use Rattle.std.proofs.lemmas.Option.{slice_get-map, slice_get_read}
+use Rattle.std.proofs.lemmas.Bool.{eqb-true}
+use Rattle.std.proofs.lemmas.Grind.{flat_map-append}
+use Rattle.std.proofs.lemmas.Option.{slice_get-get_or, slice_get-map, slice_get_read}
 use Rattle.dita_doc.specs.declared.content.LinkKind.TheVariants as links
 use Rattle.dita_doc.specs.declared.plan.Plan.{Plan}
 use Rattle.dita_doc.specs.declared.plan.PlanNode.{PlanNode}
 use Rattle.dita_doc.specs.declared.stop.NoMemory.{NoMemory}
+use Rattle.dita_doc.proofs.Tests.{number_swaps}
 use Rattle.link_groups.specs.LinkLists.{HoldsLinks}
 use Rattle.link_groups.specs.LinkNodes.{AreLinkNodes, link_node_at}
 use Rattle.link_groups.specs.declared.link_list.LinkList.{LinkList}
 use Rattle.link_groups.specs.declared.link_nodes.LinkNode.{LinkNode}
 use Rattle.link_groups.specs.declared.link_nodes.LinkNodes.{LinkNodes}
-use Rattle.link_groups.proofs.NumberLaws.{same_number, turned}
 use Rattle.map_spec.specs.Scopes.{places}
 use Rattle.link_spec.specs.Links.{LinkTo, links_of_kind}
 use Rattle.plan_nodes.specs.Preorder.{HasParentsBefore, is_in_table_at, tables_around}
 use Rattle.reader_spec.specs.World.{World}
+use Rattle.map_lemmas.proofs.ListedLaws.{place_there}
 use Rattle.family_links.specs.Collected.{AreCollected, IsMade, IsMadeMore, families_of, group_of, groups_of, links_by_collections, sequences_of}
 use Rattle.family_links.specs.Families.{links_to_siblings}
 use Rattle.family_links.specs.Grouped.{AreAllChildren, AreChildren, IsPutBelow, child_at, groups, kind_at, kind_in, kinds_of, parent_in, put_below}
@@ -29,8 +32,7 @@ use Rattle.family_links.specs.declared.groups.GroupKind.{GroupKind}
 use Rattle.family_links.specs.declared.groups.GroupKind.TheVariants.{Sequence, Family}
 use Rattle.family_links.specs.declared.table.Collections.{Collections}
 use Rattle.family_links.proofs.GroupLaws.{all_groups, kind_known}
-use Rattle.family_links.proofs.PlaceLaws.{all_places, place_more, place_there}
-use Rattle.family_links.proofs.TargetLaws.{flat_both}
+use Rattle.family_links.proofs.PlaceLaws.{all_places, place_more}
 
 -- Kinds, one by one
 
@@ -104,9 +106,9 @@ one_child : (world : World) (plan : Plan) (at number : ℕ) (node : PlanNode) (k
 one_child world plan at number node kinds same there =
     below_is number (at == 0) (is_some (kind_in kinds node.parent)) node.parent (link_node_at world plan at)
     ∙ if_same (at == 0) (is_some (kind_in kinds node.parent)) (number == node.parent) (node.parent == number)
-    (is_some (kind_at world plan number)) (link_node_at world plan at) (turned number node.parent)
+    (is_some (kind_at world plan number)) (link_node_at world plan at) (number_swaps number node.parent)
     (λ e. ap is_some (kind_known world plan kinds node.parent same)
-    ∙ ap (λ n. is_some (kind_at world plan n)) (sym (same_number number node.parent e)))
+    ∙ ap (λ n. is_some (kind_at world plan n)) (sym (eqb-true number node.parent e)))
     ∙ ap (λ found. if (not (at == 0) && option_map_or (λ (n : PlanNode). n.parent == number) found false)
     && is_some (kind_at world plan number) then option_to_list (link_node_at world plan at) else []) (sym there)
 
@@ -122,7 +124,7 @@ child_more world plan at node kinds old new nodes others same there within befor
       ∙ (λ i. before.each number i ++ one_child world plan at number node kinds same there i)
       ∙ ap (λ l. flat_map (child_at world plan number) (take at (places plan.nodes)) ++ l)
       (sym (append-nil (child_at world plan number at)))
-      ∙ sym (flat_both (child_at world plan number) (take at (places plan.nodes)) (at ∷ []))
+      ∙ sym (flat_map-append (child_at world plan number) (take at (places plan.nodes)) (at ∷ []))
       ∙ ap (flat_map (child_at world plan number)) (sym (place_more plan.nodes at within));
   kept = kept;
 }
@@ -148,11 +150,6 @@ all_children world plan count entries nodes enough are =
 
 -- Collections, one by one
 
-get_there : {X : Type 0} (xs : List X) (i : ℕ) (d : X) → i < length xs → slice_get xs i ≡ Some (get_or xs i d)
-get_there [] i d within = absurd (omega (arith, within))
-get_there (x ∷ xs) zero d within = refl
-get_there (x ∷ xs) (suc i) d within = get_there xs i d (omega (arith, within))
-
 group_more : (wanted : GroupKind) (kinds : List (Option GroupKind)) (entries : List (ℕ × Vec LinkNode Global)) (at : ℕ)
     (d : Option GroupKind) → at < length kinds
     → groups_of wanted kinds entries at ++ group_of wanted (get_or kinds at d) entries at
@@ -160,7 +157,7 @@ group_more : (wanted : GroupKind) (kinds : List (Option GroupKind)) (entries : L
 group_more wanted kinds entries at d within =
     let next : suc at ≡ at + 1 = omega arith in
     ap (λ kind. groups_of wanted kinds entries at ++ group_of wanted kind entries at)
-    (sym (ap (option_and_then (λ (kind : Option GroupKind). kind)) (get_there kinds at d within)))
+    (sym (ap (option_and_then (λ (kind : Option GroupKind). kind)) (slice_get-get_or kinds at d within)))
     ∙ ap (groups_of wanted kinds entries) next
 
 pub made_more : (kinds : List (Option GroupKind)) (entries : List (ℕ × Vec LinkNode Global)) (at : ℕ)

@@ -4,18 +4,17 @@ use Rattle.std.specs.List.{All, filter_map, list_any}
 use Rattle.std.specs.List.Sorted.{IsNonDecreasingBy}
 use Rattle.std.specs.Option.{option_and_then}
 use Rattle.std.proofs.Common.{refl, sym, ap, ◌∙◌, arith, get_or}
+use Rattle.std.proofs.lemmas.Bool.{eqb-true}
 use Rattle.std.proofs.lemmas.List.Elements.{All-cons, All-nil}
-use Rattle.std.proofs.lemmas.Option.{same_Some}
+use Rattle.std.proofs.lemmas.Option.{same_Some, slice_get_within}
 use Rattle.dita_doc.specs.declared.plan.Plan.{Plan}
 use Rattle.dita_doc.specs.declared.plan.PlanNode.{PlanNode}
 use Rattle.link_groups.specs.LinkNodes.{is_source_at, is_target_at, link_node_at, with_page}
 use Rattle.link_groups.specs.declared.link_nodes.LinkNode.{LinkNode}
 use Rattle.map_spec.specs.Pages.{local_name, page_for}
 use Rattle.map_spec.specs.Scopes.{places_from}
-use Rattle.link_spec.specs.Links.{context_of, page_of_node, target_of}
+use Rattle.link_spec.specs.Links.{context_of, page_of_node, plan_target}
 use Rattle.reader_spec.specs.World.{World}
-use Rattle.link_groups.proofs.NumberLaws.{same_number}
-use Rattle.family_links.proofs.PlaceLaws.{within_list}
 
 abbrev pub place_of : LinkNode → ℕ
 place_of node = node.at
@@ -79,9 +78,9 @@ module _ (world : World) (plan : Plan) where
 
   pub node_within : (node : LinkNode) → IsNode world plan node → node.at < length plan.nodes
   node_within node is =
-      let there = no_name node.at (slice_get plan.nodes node.at) (local_name (target_of plan node.at)) node.page
+      let there = no_name node.at (slice_get plan.nodes node.at) (local_name (plan_target plan node.at)) node.page
       (node_page node is) in
-      within_list plan.nodes node.at there.0 there.1
+      slice_get_within plan.nodes node.at there.0 there.1
 
   pub nodes_are : (ats : List ℕ) → All (IsNode world plan) (filter_map (link_node_at world plan) ats)
   nodes_are [] = All-nil (IsNode world plan)
@@ -112,7 +111,7 @@ rise_any from at (node ∷ nodes) rise among = by_same (λ there. rise_any node.
     (node.at == at) refl
   where
     by_same : (list_any (is_place at) nodes ≡ true → node.at ≤ at) → (b : Bool) → (node.at == at) ≡ b → from ≤ at
-    by_same behind true e = let same = same_number node.at at e in omega (arith, rise.0, same)
+    by_same behind true e = let same = eqb-true node.at at e in omega (arith, rise.0, same)
     by_same behind false e = let later = behind (rw e at among) in omega (arith, rise.0, later)
 
 module _ (p : ℕ → Bool) (h : ℕ → Option LinkNode)

@@ -6,16 +6,16 @@ use Rattle.std.specs.List.Sorted.{IsNonDecreasingBy, IsPermutation}
 use Rattle.std.specs.Option.{option_and_then, option_to_list}
 use Rattle.std.proofs.Common.{refl, sym, ap, subst, ◌∙◌, append-nil, append_assoc, arith, inl, inr}
 use Rattle.std.proofs.Math.Logic.{⊎_elim}
-use Rattle.std.proofs.lemmas.Bool.{cases_eq, or_cases, or_left, or_right}
+use Rattle.std.proofs.lemmas.Bool.{cases_eq, eqb-true, or_cases, or_left, or_right}
 use Rattle.std.proofs.lemmas.List.Elements.{All-contains, All-head, All-tail, filter_map-append}
 use Rattle.std.proofs.lemmas.List.Folds.{Any-from_list_any, list_any-append}
 use Rattle.std.proofs.lemmas.List.Sorted.{All-permutation, list_any-IsPermutation}
 use Rattle.dita_doc.specs.declared.content.LinkKind.{LinkKind}
 use Rattle.dita_doc.specs.declared.plan.Plan.{Plan}
 use Rattle.dita_doc.specs.declared.plan.PlanNode.{PlanNode}
+use Rattle.dita_doc.proofs.Tests.{number_itself}
 use Rattle.link_groups.specs.LinkLists.{leads_to, link_beside, links_to_nodes}
 use Rattle.link_groups.specs.declared.link_nodes.LinkNode.{LinkNode}
-use Rattle.link_groups.proofs.NumberLaws.{number_itself, same_number}
 use Rattle.link_groups.proofs.OrderLaws.{flat_same, is_linked, link_at, links_from, once_any}
 use Rattle.link_groups.proofs.OnceLaws.{once_again, once_first_again, once_same}
 use Rattle.map_spec.specs.Scopes.{places, places_from}
@@ -65,7 +65,7 @@ run from (node ∷ nodes) rise = run_more from node nodes rise (run node.at node
 any_here : (from at : ℕ) (here : List LinkNode) → AllAt from here → list_any (is_place at) here ≡ true → at ≡ from
 any_here from at [] all among = cc
 any_here from at (node ∷ nodes) all among =
-    ⊎_elim (λ first. sym (same_number node.at at first) ∙ all.0) (λ behind. any_here from at nodes all.1 behind)
+    ⊎_elim (λ first. sym (eqb-true node.at at first) ∙ all.0) (λ behind. any_here from at nodes all.1 behind)
     (or_cases (node.at == at) (list_any (is_place at) nodes) among)
 
 here_any : (from : ℕ) (here : List LinkNode) → AllAt from here → some here ≡ true
@@ -298,7 +298,7 @@ module _ (world : World) (plan : Plan) (page : ℕ) (kind : LinkKind) where
       let node = found.1 in
       let less = node_within world plan node
       (All-contains (IsNode world plan) nodes node all (found.0, found.2, found.3)) in
-      let same = same_number node.at at found.4 in omega (arith, less, same)
+      let same = eqb-true node.at at found.4 in omega (arith, less, same)
 
   pub in_place : (nodes ordered : List LinkNode) → IsPermutation nodes ordered → IsNonDecreasingBy place_of ordered
       → All (IsNode world plan) nodes

@@ -4,17 +4,20 @@ use Rattle.std.specs.List.{All, flat_map, list_any}
 use Rattle.std.specs.List.Sorted.{IsNonDecreasingBy, IsPermutation}
 use Rattle.std.specs.Option.{option_map_or}
 use Rattle.std.proofs.Common.{refl, sym, ap, subst, ◌∙◌, append-nil, append_assoc, arith, length-drop}
+use Rattle.std.proofs.lemmas.Bool.{eqb-true}
+use Rattle.std.proofs.lemmas.Grind.{flat_map-append}
 use Rattle.std.proofs.lemmas.List.Elements.{All-append, All-cons, All-head, All-nil, All-tail}
 use Rattle.std.proofs.lemmas.List.Folds.{list_any-append}
 use Rattle.dita_doc.specs.declared.content.LinkKind.{LinkKind}
 use Rattle.dita_doc.specs.declared.content.LinkKind.TheVariants as links
 use Rattle.dita_doc.specs.declared.plan.Plan.{Plan}
 use Rattle.dita_doc.specs.declared.stop.NoMemory.{NoMemory}
+use Rattle.dita_doc.proofs.Lists.{any_like, any_map, any_never, any_or, any_swap}
+use Rattle.dita_doc.proofs.Tests.{and_false, and_swap, number_itself, number_swaps}
 use Rattle.link_groups.specs.LinkLists.{AppendsLinks, HoldsLinks, links_to_nodes}
 use Rattle.link_groups.specs.LinkNodes.{is_source_at, is_target_at}
 use Rattle.link_groups.specs.declared.link_list.LinkList.{LinkList}
 use Rattle.link_groups.specs.declared.link_nodes.LinkNode.{LinkNode}
-use Rattle.link_groups.proofs.NumberLaws.{number_itself, same_number, turned}
 use Rattle.link_groups.proofs.OnceLaws.{holds_same, once_same}
 use Rattle.link_groups.proofs.OrderLaws.{is_linked, links_from}
 use Rattle.map_spec.specs.Scopes.{places}
@@ -24,11 +27,10 @@ use Rattle.family_links.specs.Grouped.{groups}
 use Rattle.family_links.specs.Lists.{listed}
 use Rattle.family_links.specs.Sequenced.{AreSequences, AreSequencesOf, linked_from, links_beside, next_of, previous_of}
 use Rattle.family_links.specs.declared.sequences.Sequences.{Sequences}
-use Rattle.family_links.proofs.AnyLaws.{and_no, and_turned, any_alike, any_between, any_flat, any_if, any_like, any_map, any_never, any_one, any_or, any_place, any_swap, front_test, same_test, split_test}
+use Rattle.family_links.proofs.AnyLaws.{any_alike, any_between, any_flat, any_if, any_one, any_place, front_test, same_test, split_test}
 use Rattle.family_links.proofs.GroupLaws.{IsGroup, group_places, groups_good}
 use Rattle.family_links.proofs.NodeLaws.{IsNode, is_place, node_page, node_source, node_target, node_within, place_of}
 use Rattle.family_links.proofs.OrderedLaws.{in_place}
-use Rattle.family_links.proofs.TargetLaws.{flat_both}
 
 module _ (world : World) (plan : Plan) (page to : ℕ) where
   abbrev own : ℕ → Bool
@@ -75,14 +77,14 @@ module _ (world : World) (plan : Plan) (page to : ℕ) where
       ∙ same_test (own mine.at) (page == mine.page) (other.at == to) (is_source_at world plan mine.at) other.is_target
       (is_target_at world plan to)
       (ap (λ found. option_map_or (λ own. own == page) found false) (node_page world plan mine is_mine)
-      ∙ turned mine.page page)
-      (λ e. ap (is_target_at world plan) (sym (same_number other.at to e)) ∙ node_target world plan other is_other)
+      ∙ number_swaps mine.page page)
+      (λ e. ap (is_target_at world plan) (sym (eqb-true other.at to e)) ∙ node_target world plan other is_other)
       ∙ ap (λ s. ((page == mine.page) && (s && other.is_target)) && (other.at == to))
       (node_source world plan mine is_mine)
       ∙ sym (any_if (is_place to) ((page == mine.page) && (mine.is_source && other.is_target)) other)
 
   nowhere : list_any (links_so (λ from. false)) (places plan.nodes) ≡ false
-  nowhere = any_never (links_so (λ from. false)) (λ from. ap (λ b. b && may from) (and_no (own from)))
+  nowhere = any_never (links_so (λ from. false)) (λ from. ap (λ b. b && may from) (and_false (own from)))
       (places plan.nodes)
 
   in_next : (nodes : List LinkNode) → All (IsNode world plan) nodes
@@ -116,7 +118,7 @@ module _ (world : World) (plan : Plan) (page to : ℕ) where
       (λ from. split_test (own from) ((one.at == to) && (other.at == from))
       (are_next to from (map place_of (other ∷ more))) (may from)
       ∙ ap (λ b. ((own from && b) && may from) || links_so (λ f. are_next to f (map place_of (other ∷ more))) from)
-      (and_turned (one.at == to) (other.at == from))) (places plan.nodes)
+      (and_swap (one.at == to) (other.at == from))) (places plan.nodes)
       ∙ any_or (links_so (λ f. (other.at == f) && (one.at == to)))
       (links_so (λ f. are_next to f (map place_of (other ∷ more)))) (places plan.nodes)
       ∙ (λ i. step other one (All-head (IsNode world plan) other more behind)
@@ -282,4 +284,4 @@ sequence_added groups nodes old new at before all next previous = record {
     added found now was none so is =
         sym (ap (λ l. now ++ l) none ∙ append-nil now) ∙ so ∙ ap (λ l. l ++ found nodes) is
         ∙ ap (λ l. flat_map found groups ++ l) (sym (append-nil (found nodes)))
-        ∙ sym (flat_both found groups (nodes ∷ []))
+        ∙ sym (flat_map-append found groups (nodes ∷ []))

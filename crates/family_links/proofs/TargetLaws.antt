@@ -7,15 +7,17 @@ use Rattle.std.specs.Ordering.{nat_cmp}
 use Rattle.std.specs.declared.alloc.Global.{Global}
 use Rattle.std.specs.declared.vec.Vec.{Vec}
 use Rattle.std.proofs.Common.{refl, sym, ap, subst, ◌∙◌, append-nil, append_assoc, arith, get_or}
+use Rattle.std.proofs.lemmas.Bool.{eqb-true}
+use Rattle.std.proofs.lemmas.Grind.{flat_map-append}
 use Rattle.std.proofs.lemmas.List.{drop_more, length_push}
 use Rattle.std.proofs.lemmas.List.Folds.{list_any-append}
+use Rattle.dita_doc.proofs.Lists.{filter_every}
+use Rattle.dita_doc.proofs.Tests.{and_false}
 use Rattle.link_groups.specs.declared.link_nodes.LinkNode.{LinkNode}
-use Rattle.link_groups.proofs.NumberLaws.{same_number}
-use Rattle.link_groups.proofs.OnceLaws.{filter_every, filter_twice}
+use Rattle.link_groups.proofs.OnceLaws.{filter_twice}
 use Rattle.family_links.specs.Families.{AreBelow, AreFamilies, AreFound, first_targets, has_page, if_linking, is_linking, siblings_of, targets_at, with_target}
 use Rattle.family_links.specs.Lists.{listed}
 use Rattle.family_links.specs.declared.families.Families.{Families}
-use Rattle.family_links.proofs.AnyLaws.{and_no}
 
 abbrev is_new : List LinkNode → LinkNode → Bool
 is_new found node = not (has_page found node.page)
@@ -40,7 +42,7 @@ module _ (found : List LinkNode) (node : LinkNode) (rest : List LinkNode) where
   all_else = filter (other_page node) (first_targets rest)
 
   again : (old b : Bool) → (b ≡ true → old ≡ false) → old ≡ (old && not b)
-  again old true gone = gone refl ∙ sym (and_no old)
+  again old true gone = gone refl ∙ sym (and_false old)
   again true false gone = refl
   again false false gone = refl
 
@@ -54,7 +56,7 @@ module _ (found : List LinkNode) (node : LinkNode) (rest : List LinkNode) where
       → filter (is_new found) all_else ≡ filter (is_new found) (first_targets rest)
   found_before there = filter_twice (is_new found) (other_page node) (is_new found)
       (λ other. again (is_new found other) (other.page == node.page)
-      (λ same. ap (λ page. not (has_page found page)) (same_number other.page node.page same) ∙ ap not there))
+      (λ same. ap (λ page. not (has_page found page)) (eqb-true other.page node.page same) ∙ ap not there))
       (first_targets rest)
 
   found_now : filter (is_new found) all_else ≡ filter (is_new (found ++ node ∷ [])) (first_targets rest)
@@ -120,12 +122,6 @@ all_before targets more [] below = refl
 all_before targets more (place ∷ places) below =
     (λ i. targets_before targets more place below.0 i ++ all_before targets more places below.1 i)
 
-pub flat_both : {X Y : Type 0} (f : X → List Y) (xs ys : List X)
-    → flat_map f (xs ++ ys) ≡ flat_map f xs ++ flat_map f ys
-flat_both f [] ys = refl
-flat_both f (x ∷ xs) ys =
-    ap (λ l. f x ++ l) (flat_both f xs ys) ∙ sym (append_assoc (f x) (flat_map f xs) (flat_map f ys))
-
 below_more : (count : ℕ) (places : List ℕ) (b : Bool) → AreBelow count places
     → AreBelow (count + 1) (places ++ (if b then count ∷ [] else []))
 below_more count [] true below = (omega arith, tt)
@@ -145,10 +141,10 @@ family_added groups nodes old new place targets before count put first pushed = 
   are = λ page.
       ap (λ l. flat_map (targets_at l) (listed page new.of_pages.entries)) pushed
       ∙ ap (flat_map (targets_at kept)) (here page)
-      ∙ flat_both (targets_at kept) (listed page old.of_pages.entries) (if is_linking page nodes then last ∷ [] else [])
+      ∙ flat_map-append (targets_at kept) (listed page old.of_pages.entries) (if is_linking page nodes then last ∷ [] else [])
       ∙ (λ i. (all_before old.targets.items targets (listed page old.of_pages.entries) (before.within page)
       ∙ before.are page) i ++ added (is_linking page nodes) i)
-      ∙ sym (flat_both (siblings_of page) groups (nodes ∷ [])
+      ∙ sym (flat_map-append (siblings_of page) groups (nodes ∷ [])
       ∙ ap (λ l. flat_map (siblings_of page) groups ++ l) (append-nil (siblings_of page nodes)));
 }
   where

@@ -16,7 +16,7 @@ ghost use Rattle.readers.specs.Told.{Agrees};
 use crate::lists::put;
 use dita_doc::{NoMemory, Plan, PlanNode};
 use link_groups::{LinkNode, LinkNodes};
-use plan_nodes::{Homes, in_tables};
+use plan_nodes::{NodeElements, in_tables};
 use readers::Asker;
 use std::alloc::Global;
 use std::collections::BTreeMap;
@@ -32,7 +32,7 @@ pub(crate) enum GroupKind {
 pub(crate) fn kinds_of(
     alloc: Global,
     plan: &Plan,
-    homes: &Homes,
+    homes: &NodeElements,
 ) -> Result<Vec<Option<GroupKind>>, NoMemory>
     ensures { (world : World) → preorder_spec.HasParentsBefore plan.now.nodes
         → homes.now ≡ map (cascade_spec.whole_at world) plan.now.nodes
@@ -55,7 +55,7 @@ fn is_within(inside: &[bool], at: usize) -> bool
 }
 
 // How a node's children are linked, as its element says. In a relationship table they are not.
-fn kind_of(homes: &Homes, at: usize, is_in_table: bool) -> Option<GroupKind>
+fn kind_of(homes: &NodeElements, at: usize, is_in_table: bool) -> Option<GroupKind>
     ensures { (world : World) (plan : plan_spec.Plan)
         → homes.now ≡ map (cascade_spec.whole_at world) plan.nodes
         → is_in_table ≡ preorder_spec.is_in_table_at plan.nodes at
@@ -80,7 +80,7 @@ fn kind_named(value: &str) -> Option<GroupKind>
 }
 
 // The nodes with pages of each collection, by the place of the node whose children they are.
-#[tactic(auto, using(crate::proofs::Walking::walking))]
+#[tactic(auto, using(readers::proofs::Rules::walking))]
 pub(crate) fn children_of<A: Asker>(
     alloc: Global,
     asker: &mut A,
@@ -125,7 +125,7 @@ fn parent_of(kinds: &[Option<GroupKind>], at: usize, node: &PlanNode) -> Option<
 }
 
 // Puts the node at this place behind the other children of its parent, if it has a page.
-#[tactic(auto, using(crate::proofs::Walking::walking))]
+#[tactic(auto, using(readers::proofs::Rules::walking))]
 fn put_child<A: Asker>(
     alloc: Global,
     asker: &mut A,

@@ -21,7 +21,7 @@ use crate::lists::copied;
 use crate::sequences::Sequences;
 use dita_doc::{List, NoMemory, Plan};
 use link_groups::{LinkList, LinkNode, LinkNodes, LinksMade};
-use plan_nodes::{Homes, place_of};
+use plan_nodes::{NodeElements, place_of};
 use readers::Asker;
 use std::alloc::Global;
 use std::collections::BTreeMap;
@@ -35,12 +35,12 @@ pub struct Collections {
 
 impl Collections {
     /// Finds the collections of a plan outside relationship tables.
-    #[tactic(auto, using(crate::proofs::Walking::walking))]
+    #[tactic(auto, using(readers::proofs::Rules::walking))]
     pub fn of<A: Asker>(
         alloc: Global,
         asker: &mut A,
         plan: &Plan,
-        homes: &Homes,
+        homes: &NodeElements,
         link_nodes: &mut LinkNodes,
     ) -> Result<Collections, NoMemory>
         ensures known { (world : World) → Agrees world (A.told asker.new)
@@ -142,7 +142,7 @@ pub fn by_families<A: Asker>(
 }
 
 // What `by_families` says, but of the reader's own world.
-#[tactic(auto, using(crate::proofs::Walking::walking))]
+#[tactic(auto, using(readers::proofs::Rules::walking))]
 fn families_linked<A: Asker>(
     alloc: Global,
     asker: &mut A,
@@ -159,7 +159,7 @@ fn families_linked<A: Asker>(
         (A.told asker.old) (A.told asker.new) }
     ensures grows { Grows (A.told asker.old) (A.told asker.new) }
 {
-    let homes = Homes::of(alloc, asker, plan.nodes.as_slice())?;
+    let homes = NodeElements::of(alloc, asker, plan.nodes.as_slice())?;
     let mut link_nodes = LinkNodes::new(alloc);
     let collections = Collections::of(alloc, asker, plan, &homes, &mut link_nodes)?;
     let mut links = LinkList::new(alloc, page);

@@ -1,7 +1,6 @@
 -- The order of faults is total, and faults that it ties are the same.
 use Rattle.std.specs.Prelude.{◌≡◌, ◌+◌, ℕ, List}
 use Rattle.std.specs.Cmp.{IsTotalOrder}
-use Rattle.std.specs.Ordering.{nat_cmp}
 use Rattle.std.specs.declared.cmp.Ordering.{Ordering}
 use Rattle.std.specs.declared.cmp.Ordering.TheVariants.{Less, Equal, Greater}
 use Rattle.std.proofs.Common.{refl, ap, ◌∙◌, arith, rules}
@@ -13,6 +12,7 @@ use Rattle.dita_doc.specs.declared.fault.Fault.{Fault}
 use Rattle.dita_doc.specs.declared.fault.FaultCode.{FaultCode}
 use Rattle.dita_doc.specs.declared.fault.FaultCode.TheVariants as code
 use Rattle.dita_doc.proofs.NameOrder.{same_from_equal}
+use Rattle.dita_doc.proofs.Orders.{equal_number}
 use Rattle.fault_report.specs.CodeNumber.{code_number}
 use Rattle.fault_report.specs.Report.{then_by, fault_order}
 
@@ -69,9 +69,6 @@ tied_by_both Less next e = absurd (cc)
 tied_by_both Equal next e = (refl, e)
 tied_by_both Greater next e = absurd (cc)
 
-same_number : (x y : ℕ) → nat_cmp x y ≡ Equal → x ≡ y
-same_number x y e = grind arith
-
 abbrev fault_with : List ℕ → ℕ → FaultCode → List ℕ → Fault
 fault_with name line code detail = record { name = name; line = line; code = code; detail = detail }
 
@@ -86,5 +83,5 @@ same_fault a b e =
     let name = tied_by_both _ _ e in
     let line = tied_by_both _ _ name.1 in
     let code = tied_by_both _ _ line.1 in
-    same_parts a b (same_from_equal a.name b.name name.0) (same_number a.line b.line line.0)
-    (same_code a.code b.code (same_number _ _ code.0)) (same_from_equal a.detail b.detail code.1)
+    same_parts a b (same_from_equal a.name b.name name.0) (equal_number a.line b.line line.0)
+    (same_code a.code b.code (equal_number _ _ code.0)) (same_from_equal a.detail b.detail code.1)

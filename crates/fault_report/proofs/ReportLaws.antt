@@ -1,10 +1,10 @@
 -- What is left of faults that are sorted and of which each stands once is their report; and they have one report only,
 -- the one that is made by putting each fault in its place.
-use Rattle.std.specs.Prelude.{◌≡◌, List, [], ◌∷◌, map, true}
+use Rattle.std.specs.Prelude.{◌≡◌, List, [], ◌∷◌, map}
 use Rattle.std.specs.List.{All, AllByRecursion, Contains, dedup}
 use Rattle.std.specs.List.Sorted.{IsPermutation, IsSorted, IsStrictlySortedBy}
 use Rattle.std.specs.Cmp.{IsTotalOrder}
-use Rattle.std.specs.Ordering.{eq_by_cmp, is_eq, ordering_reverse}
+use Rattle.std.specs.Ordering.{eq_by_cmp, ordering_reverse}
 use Rattle.std.specs.declared.cmp.Ordering.{Ordering}
 use Rattle.std.specs.declared.cmp.Ordering.TheVariants.{Less, Equal, Greater}
 use Rattle.std.proofs.Common.{refl, sym, ap, subst, ◌∙◌, inl, inr, arith}
@@ -13,13 +13,9 @@ use Rattle.std.proofs.lemmas.List.Elements.{All-cons, All-contains, All-weaker, 
 use Rattle.std.proofs.lemmas.List.Kept.{Any-dedup, Contains-from_dedup, IsStrictlySortedBy-dedup}
 use Rattle.std.proofs.lemmas.List.Sorted.{Contains-permutation, IsPermutation-sym}
 use Rattle.dita_doc.specs.declared.fault.Fault.{Fault}
+use Rattle.dita_doc.proofs.Orders.{equal_test}
 use Rattle.fault_report.specs.Report.{fault_order, put_by, put_fault, report_of, IsAmong, IsBeforeAll, IsRising, IsReport}
 use Rattle.fault_report.proofs.OrderLaws.{fault_order_total, same_fault}
-
-tied_by_test : (order : Ordering) → is_eq order ≡ true → order ≡ Equal
-tied_by_test Less e = absurd (cc)
-tied_by_test Equal e = refl
-tied_by_test Greater e = absurd (cc)
 
 less≢greater : Less ≡ Greater → ⊥
 less≢greater e = cc
@@ -76,7 +72,7 @@ module _ {X : Type 0} (seen : X → Fault) where
   kept : (fault : Fault) (xs : List X) → Shows fault xs → IsAmong fault (map seen (distinct xs))
   kept fault xs here =
       let same = Any-dedup (eq_by_cmp_equiv order_total) xs here.shown here.contains in
-      let is = here.is ∙ same_fault (seen here.shown) (seen same.1) (tied_by_test _ same.4) in
+      let is = here.is ∙ same_fault (seen here.shown) (seen same.1) (equal_test _ same.4) in
       subst (λ f. IsAmong f (map seen (distinct xs))) (sym is) (among (distinct xs) same.1 (same.0, same.2, same.3))
 
   pub report_of_sorted : (faults : List Fault) (xs sorted : List X) → map seen xs ≡ faults → IsPermutation xs sorted

@@ -1,21 +1,15 @@
 -- Rules of which none flags give no mark.
-use Rattle.std.specs.Prelude.{◌≡◌, ◌+◌, ◌||◌, ◌++◌, ℕ, Bool, true, false, List, [], ◌∷◌, Option, None, Some, filter, find, map, if◌then◌else◌}
+use Rattle.std.specs.Prelude.{◌≡◌, ◌+◌, ◌++◌, ℕ, Bool, true, false, List, [], ◌∷◌, Option, None, Some, find, map, if◌then◌else◌}
 use Rattle.std.specs.List.{flat_map, list_any}
 use Rattle.std.specs.Option.{option_map_or}
 use Rattle.std.proofs.Common.{refl, ap}
+use Rattle.std.proofs.lemmas.Bool.{or_parts}
 use Rattle.dita_doc.specs.ClassValue.{value_of, words_of}
 use Rattle.dita_doc.specs.declared.content.Rule.{Rule}
 use Rattle.dita_doc.specs.declared.doc.Attribute.{Attribute}
+use Rattle.dita_doc.proofs.Lists.{filter_none}
 use Rattle.ditaval_rules.specs.Verdict.{conditional_names, decided, is_default, is_for_attribute, is_for_token, is_grouped, or_else}
-use Rattle.flag_marks.specs.Marks.{flags, have_flag, is_flag, is_flagging, mark_text, marks_by, marks_from, marks_of_attribute, marks_of_tokens, marks_of_value}
-
-neither : (a b : Bool) → (a || b) ≡ false → (a ≡ false) × (b ≡ false)
-neither true b none = cc
-neither false b none = (refl, none)
-
-filter_none : {X : Type 0} (p : X → Bool) → ((x : X) → p x ≡ false) → (xs : List X) → filter p xs ≡ []
-filter_none p none [] = refl
-filter_none p none (x ∷ xs) = rw (none x) (filter_none p none xs)
+use Rattle.flag_marks.specs.Marks.{rule_flags, have_flag, is_flag, is_flagging, mark_text, marks_by, marks_from, marks_of_attribute, marks_of_tokens, marks_of_value}
 
 flat_none : {X Y : Type 0} (f : X → List Y) → ((x : X) → f x ≡ []) → (xs : List X) → flat_map f xs ≡ []
 flat_none f none [] = refl
@@ -26,7 +20,7 @@ flat_none f none (x ∷ xs) = rw (none x) (flat_none f none xs)
 found_none : (p : Rule → Bool) (rules : List Rule) → have_flag rules ≡ false → is_flag (decided (find p rules)) ≡ false
 found_none p [] none = refl
 found_none p (rule ∷ rules) none =
-    let each = neither (is_flagging rule) (have_flag rules) none in
+    let each = or_parts (is_flagging rule) (have_flag rules) none in
     by_test (p rule) each.0 (found_none p rules each.1)
   where
     by_test : (test : Bool) → is_flagging rule ≡ false → is_flag (decided (find p rules)) ≡ false
@@ -39,7 +33,7 @@ or_none : (one other : Option Rule) → is_flag (decided one) ≡ false → is_f
 or_none None other first second = second
 or_none (Some one) other first second = first
 
-flags_none : (rules : List Rule) → have_flag rules ≡ false → (att token : List ℕ) → flags rules att token ≡ false
+flags_none : (rules : List Rule) → have_flag rules ≡ false → (att token : List ℕ) → rule_flags rules att token ≡ false
 flags_none rules none att token =
     or_none (find (is_for_token att token) rules) _ (found_none (is_for_token att token) rules none)
     (or_none (find (is_for_attribute att) rules) (find is_default rules) (found_none (is_for_attribute att) rules none)
@@ -53,7 +47,7 @@ value_none rules none att value = by_test (is_grouped value)
     by_test : (grouped : Bool) → (if grouped then [] else marks_of_tokens rules att (words_of value)) ≡ []
     by_test true = refl
     by_test false =
-        ap (map (mark_text att)) (filter_none (flags rules att) (flags_none rules none att) (words_of value))
+        ap (map (mark_text att)) (filter_none (rule_flags rules att) (flags_none rules none att) (words_of value))
 
 attribute_none : (rules : List Rule) → have_flag rules ≡ false → (attributes : List Attribute) (att : List ℕ)
     → marks_of_attribute rules attributes att ≡ []
@@ -67,7 +61,7 @@ lists_none : (all : List (List Rule)) → list_any have_flag all ≡ false → (
     (attributes : List Attribute) → flat_map (marks_by declared attributes) all ≡ []
 lists_none [] none declared attributes = refl
 lists_none (rules ∷ all) none declared attributes =
-    let each = neither (have_flag rules) (list_any have_flag all) none in
+    let each = or_parts (have_flag rules) (list_any have_flag all) none in
     rw (flat_none (marks_of_attribute rules attributes) (attribute_none rules each.0 attributes)
     (conditional_names ++ declared))
     (lists_none all each.1 declared attributes)

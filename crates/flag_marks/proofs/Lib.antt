@@ -3,4 +3,3 @@ pub mod OnceLaws
 pub mod PlaceLaws
 pub mod ShownLaws
 pub mod TokenLaws
-pub mod WordLaws

@@ -14,72 +14,43 @@ use Rattle.std.proofs.lemmas.List.Folds.{list_any-append}
 use Rattle.std.proofs.lemmas.Map.Text.{is_eq-slice_cmp}
 use Rattle.std.proofs.lemmas.Slice.Eq.{bytes_eq-Decides}
 use Rattle.dita_doc.specs.declared.content.Mark.{Mark}
+use Rattle.dita_doc.proofs.Lists.{filter_both, filter_every, is_other, is_unseen}
+use Rattle.dita_doc.proofs.Tests.{not_either}
 use Rattle.ditaval_rules.specs.Domains.{first_of_each}
 use Rattle.flag_marks.specs.Marks.{at_place}
 
--- what two tests leave, by one that is both
-filter_both : {X : Type 0} (p q r : X → Bool) → ((x : X) → (q x && p x) ≡ r x) → (xs : List X)
-    → filter p (filter q xs) ≡ filter r xs
-filter_both p q r same [] = refl
-filter_both p q r same (x ∷ xs) = by_test (filter_both p q r same xs) (q x) (p x) refl refl
-  where
-    by_test : filter p (filter q xs) ≡ filter r xs → (a b : Bool) → q x ≡ a → p x ≡ b
-        → filter p (filter q (x ∷ xs)) ≡ filter r (x ∷ xs)
-    by_test behind true true e f =
-        let is : r x ≡ true = sym (same x) ∙ rw (e, f) refl in simp (e, f, is, behind) refl
-    by_test behind true false e f =
-        let is : r x ≡ false = sym (same x) ∙ rw (e, f) refl in simp (e, f, is, behind) refl
-    by_test behind false b e f =
-        let is : r x ≡ false = sym (same x) ∙ rw e refl in simp (e, is, behind) refl
-
-filter_all : {X : Type 0} (p : X → Bool) → ((x : X) → p x ≡ true) → (xs : List X) → filter p xs ≡ xs
-filter_all p all [] = refl
-filter_all p all (x ∷ xs) = simp (all x, filter_all p all xs) refl
-
 -- Texts behind others
-
-abbrev other : List ℕ → List ℕ → Bool
-other text each = not (bytes_eq text each)
-
-abbrev unseen : List (List ℕ) → List ℕ → Bool
-unseen before each = not (list_any (bytes_eq each) before)
 
 -- those that are kept of texts behind these
 abbrev pub kept : List (List ℕ) → List (List ℕ) → List (List ℕ)
-kept before texts = filter (unseen before) (first_of_each texts)
+kept before texts = filter (is_unseen before) (first_of_each texts)
 
 pub kept_whole : (texts : List (List ℕ)) → kept [] texts ≡ first_of_each texts
-kept_whole texts = filter_all (unseen []) (λ text. refl) (first_of_each texts)
-
-not_either : (a b : Bool) → (not b && not a) ≡ not (a || (b || false))
-not_either true true = refl
-not_either true false = refl
-not_either false true = refl
-not_either false false = refl
+kept_whole texts = filter_every (is_unseen []) (λ text. refl) (first_of_each texts)
 
 new_behind : (before : List (List ℕ)) (text each : List ℕ)
-    → (other text each && unseen before each) ≡ unseen (before ++ text ∷ []) each
+    → (is_other text each && is_unseen before each) ≡ is_unseen (before ++ text ∷ []) each
 new_behind before text each =
-    ap (λ same. not same && unseen before each) (nat_list_eq_equiv.symm text each)
+    ap (λ same. not same && is_unseen before each) (nat_list_eq_equiv.symm text each)
     ∙ not_either (list_any (bytes_eq each) before) (bytes_eq each text)
     ∙ ap not (sym (list_any-append (bytes_eq each) before (text ∷ [])))
 
 -- a text that was seen leaves none of its like behind
-old_behind : (before : List (List ℕ)) (text : List ℕ) → unseen before text ≡ false → (each : List ℕ)
-    → (other text each && unseen before each) ≡ unseen before each
-old_behind before text seen each = by_test (bytes_eq text each) (unseen before each) refl refl
+old_behind : (before : List (List ℕ)) (text : List ℕ) → is_unseen before text ≡ false → (each : List ℕ)
+    → (is_other text each && is_unseen before each) ≡ is_unseen before each
+old_behind before text seen each = by_test (bytes_eq text each) (is_unseen before each) refl refl
   where
-    by_test : (a b : Bool) → bytes_eq text each ≡ a → unseen before each ≡ b
-        → (other text each && unseen before each) ≡ unseen before each
+    by_test : (a b : Bool) → bytes_eq text each ≡ a → is_unseen before each ≡ b
+        → (is_other text each && is_unseen before each) ≡ is_unseen before each
     by_test true true e f =
-        absurd (true≢false (sym f ∙ ap (unseen before) (sym ((bytes_eq-Decides text each).0 e)) ∙ seen))
+        absurd (true≢false (sym f ∙ ap (is_unseen before) (sym ((bytes_eq-Decides text each).0 e)) ∙ seen))
     by_test true false e f = simp (e, f) refl
     by_test false b e f = simp e refl
 
-first_kept : (before : List (List ℕ)) (text : List ℕ) (texts : List (List ℕ)) (new : Bool) → unseen before text ≡ new
-    → filter (unseen before) (text ∷ filter (other text) (first_of_each texts))
-    ≡ (if new then text ∷ filter (unseen before) (filter (other text) (first_of_each texts))
-    else filter (unseen before) (filter (other text) (first_of_each texts)))
+first_kept : (before : List (List ℕ)) (text : List ℕ) (texts : List (List ℕ)) (new : Bool) → is_unseen before text ≡ new
+    → filter (is_unseen before) (text ∷ filter (is_other text) (first_of_each texts))
+    ≡ (if new then text ∷ filter (is_unseen before) (filter (is_other text) (first_of_each texts))
+    else filter (is_unseen before) (filter (is_other text) (first_of_each texts)))
 first_kept before text texts true e = simp e refl
 first_kept before text texts false e = simp e refl
 
@@ -87,14 +58,14 @@ pub new_kept : (before : List (List ℕ)) (text : List ℕ) (texts : List (List 
     → list_any (bytes_eq text) before ≡ false → kept before (text ∷ texts) ≡ text ∷ kept (before ++ text ∷ []) texts
 new_kept before text texts new =
     first_kept before text texts true (ap not new)
-    ∙ ap (λ more. text ∷ more) (filter_both (unseen before) (other text) (unseen (before ++ text ∷ []))
+    ∙ ap (λ more. text ∷ more) (filter_both (is_unseen before) (is_other text) (is_unseen (before ++ text ∷ []))
     (new_behind before text) (first_of_each texts))
 
 pub old_kept : (before : List (List ℕ)) (text : List ℕ) (texts : List (List ℕ)) → list_any (bytes_eq text) before ≡ true
     → kept before (text ∷ texts) ≡ kept before texts
 old_kept before text texts old =
     first_kept before text texts false (ap not old)
-    ∙ filter_both (unseen before) (other text) (unseen before) (old_behind before text (ap not old))
+    ∙ filter_both (is_unseen before) (is_other text) (is_unseen before) (old_behind before text (ap not old))
     (first_of_each texts)
 
 -- The set of those that were seen

@@ -3,8 +3,8 @@ use Rattle.std.specs.Prelude.{◌≡◌, ◌||◌, Bool, List, [], ◌∷◌}
 use Rattle.std.specs.Borrow.{Bor}
 use Rattle.std.specs.List.{list_any}
 use Rattle.std.proofs.Common.{refl, ap}
+use Rattle.dita_doc.specs.Shown.{shown}
 use Rattle.dita_doc.specs.declared.content.Rule.{Rule}
-use Rattle.flag_marks.specs.Shown.{shown}
 
 pub any_shown : (p : List Rule → Bool) (rules : List (Bor (List Rule)))
     → list_any (λ (some : Bor (List Rule)). p some.now) rules ≡ list_any p (shown rules)

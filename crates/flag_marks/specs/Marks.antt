@@ -29,14 +29,14 @@ abbrev pub have_flag : List Rule → Bool
 have_flag rules = list_any is_flagging rules
 
 -- the rules flag a token of an attribute
-abbrev pub flags : List Rule → List ℕ → List ℕ → Bool
-flags rules att token = is_flag (decided (deciding rules att token))
+abbrev pub rule_flags : List Rule → List ℕ → List ℕ → Bool
+rule_flags rules att token = is_flag (decided (deciding rules att token))
 
 abbrev pub mark_text : List ℕ → List ℕ → List ℕ
 mark_text att token = codes "flag-" ++ att ++ codes "-" ++ token
 
 abbrev pub marks_of_tokens : List Rule → List ℕ → List (List ℕ) → List (List ℕ)
-marks_of_tokens rules att tokens = map (mark_text att) (filter (flags rules att) tokens)
+marks_of_tokens rules att tokens = map (mark_text att) (filter (rule_flags rules att) tokens)
 
 -- a value of groups gives none
 abbrev pub marks_of_value : List Rule → List ℕ → List ℕ → List (List ℕ)

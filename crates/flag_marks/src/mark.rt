@@ -2,10 +2,10 @@
 
 ghost use Rattle.std.specs.Prelude.{◌≡◌, ◌<◌, ◌++◌, ◌^◌, length, map, IfOk, OnOk};
 ghost use Rattle.std.specs.List.{list_any};
+ghost use Rattle.dita_doc.specs.Shown as shown_spec;
 ghost use Rattle.ditaval_rules.specs.Domains as domains_spec;
 ghost use Rattle.flag_marks.specs.Marks as spec;
 ghost use Rattle.flag_marks.specs.Places as places_spec;
-ghost use Rattle.flag_marks.specs.Shown as shown_spec;
 
 use crate::element::texts_of;
 use dita_doc::{Action, List, Mark, NoMemory, Node, NodeKind, Resolved, Rule, Text};
@@ -18,40 +18,6 @@ use std::collections::BTreeSet;
 /// order, each mark of an element once (DITA 1.3, "Flagging"; the form of a mark is our own).
 /// `declared` has for each node the names of the attributes that are declared for it; those of the
 /// body itself may be passed. A value of groups gives none.
-///
-/// The cost is that of `marks_by`.
-///
-/// # Errors
-///
-/// Out of memory.
-pub fn marks(
-    alloc: Global,
-    body: &Resolved,
-    rules: &List<List<Rule>>,
-    declared: &List<List<Text>>,
-) -> Result<List<Mark>, NoMemory>
-    requires { length declared.now ≡ length body.now.doc.nodes }
-    ensures value { IfOk result (λ marks. marks
-        ≡ spec.marks_from rules.now 0 declared.now (map spec.attributes_at body.now.doc.nodes)) }
-    ensures places { IfOk result
-        (λ marks. places_spec.AreAtElements body.now.doc.nodes marks) }
-{
-    let lists = lists_of(alloc, rules.as_slice())?;
-    marks_by(alloc, body, &lists, declared)
-}
-
-// A reference to each list of rules.
-fn lists_of(alloc: Global, rules: &[List<Rule>]) -> Result<Vec<&List<Rule>>, NoMemory>
-    ensures { IfOk result (λ lists. shown_spec.shown lists.items ≡ rules.now) }
-{
-    let mut lists = Vec::new(alloc);
-    for some in rules {
-        lists.push(some)?;
-    }
-    Ok(lists)
-}
-
-/// The same by references to lists of rules.
 ///
 /// The rules are made ready once; then each element takes one look at its attributes for each list
 /// of rules and each name, each token a halving of the rules, and each one that is flagged a look

@@ -21,11 +21,11 @@ pub fn names_rise()
 pub fn versions_are_places()
     ensures name { (history : entries_spec.Entries) (n : ℕ) (name : Bytes)
         (stored : desk_spec.Stored)
-        → desk_spec.found (history_spec.sources history n) name ≡ Some stored
+        → desk_spec.stored_under (history_spec.sources history n) name ≡ Some stored
         → stored.name ≡ name }
     ensures entry { (history : entries_spec.Entries) (n : ℕ) (name : Bytes)
         (stored : desk_spec.Stored)
-        → desk_spec.found (history_spec.sources history n) name ≡ Some stored
+        → desk_spec.stored_under (history_spec.sources history n) name ≡ Some stored
         → entries_spec.ComesFrom (take n history) stored }
 {}
 
@@ -34,8 +34,8 @@ pub fn versions_are_places()
 pub fn versions_tell()
     ensures { (history : entries_spec.Entries) (m n : ℕ) (name : Bytes)
         (stored again : desk_spec.Stored)
-        → desk_spec.found (history_spec.sources history m) name ≡ Some stored
-        → desk_spec.found (history_spec.sources history n) name ≡ Some again
+        → desk_spec.stored_under (history_spec.sources history m) name ≡ Some stored
+        → desk_spec.stored_under (history_spec.sources history n) name ≡ Some again
         → stored.version ≡ again.version → stored ≡ again }
 {}
 
@@ -59,12 +59,12 @@ pub fn replies_are_the_desks()
 /// is not found, and each other name has what it had.
 pub fn other_names_stay()
     ensures stored { (state : desk_spec.State) (new : desk_spec.Stored)
-        → desk_spec.found (desk_spec.with_stored new state) new.name ≡ Some new }
+        → desk_spec.stored_under (desk_spec.with_stored new state) new.name ≡ Some new }
     ensures beside_stored { (state : desk_spec.State) (new : desk_spec.Stored) (name : Bytes)
         → new.name ≢ name
-        → desk_spec.found (desk_spec.with_stored new state) name ≡ desk_spec.found state name }
+        → desk_spec.stored_under (desk_spec.with_stored new state) name ≡ desk_spec.stored_under state name }
     ensures removed { (state : desk_spec.State) (name : Bytes)
-        → desk_spec.found (desk_spec.without_name name state) name ≡ None }
+        → desk_spec.stored_under (desk_spec.without_name name state) name ≡ None }
     ensures beside_removed { (state : desk_spec.State) (gone name : Bytes) → gone ≢ name
-        → desk_spec.found (desk_spec.without_name gone state) name ≡ desk_spec.found state name }
+        → desk_spec.stored_under (desk_spec.without_name gone state) name ≡ desk_spec.stored_under state name }
 {}

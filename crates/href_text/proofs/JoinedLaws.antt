@@ -2,7 +2,7 @@
 use Rattle.std.specs.Prelude.{◌≡◌, ◌==◌, ◌-◌, ◌≤◌, ℕ, suc, Bool, true, false, List, [], ◌∷◌, ◌++◌, Result, Ok, Err, length, codes, bytes_eq, if◌then◌else◌}
 use Rattle.std.specs.List.{flat_map}
 use Rattle.std.proofs.Common.{refl, arith, sym}
-use Rattle.std.proofs.lemmas.Bool.{eqb-true}
+use Rattle.std.proofs.lemmas.Bool.{eqb-true, false_from_ne_true}
 use Rattle.std.proofs.lemmas.List.{append-nil, nil_from_length}
 use Rattle.std.proofs.lemmas.Slice.Eq.{bytes_eq-Decides}
 use Rattle.dita_doc.specs.Bytes.{slash, is_slash, parts_by}
@@ -65,19 +65,15 @@ steps_cut stay path front back cut =
     rw (cut.whole, parts_after is_slash front back slash refl cut.first)
     (one_step stay front (parts_by is_slash back))
 
-not_so : (test : Bool) → (test ≡ true → ⊥) → test ≡ false
-not_so true so = absurd (so refl)
-not_so false so = refl
-
 differs : (segment other : List ℕ) → (segment ≡ other → ⊥) → bytes_eq segment other ≡ false
-differs segment other so = not_so _ (λ e. so ((bytes_eq-Decides segment other).0 e))
+differs segment other so = false_from_ne_true _ (λ e. so ((bytes_eq-Decides segment other).0 e))
 
 -- a segment that is neither empty, nor `.` nor `..` stays
 pub segment_stays : (stay : List (List ℕ)) (segment : List ℕ) → (segment ≡ [] → ⊥) → (segment ≡ codes "." → ⊥)
     → (segment ≡ codes ".." → ⊥) → followed stay (segment ∷ []) ≡ Ok (stay ++ segment ∷ [])
 segment_stays stay segment some here above =
     let full : (length segment == 0) ≡ false =
-    not_so _ (λ e. some (nil_from_length segment (eqb-true (length segment) 0 e))) in
+    false_from_ne_true _ (λ e. some (nil_from_length segment (eqb-true (length segment) 0 e))) in
     rw (full, differs segment (codes ".") here, differs segment (codes "..") above) refl
 
 -- Paths

@@ -1,5 +1,5 @@
 -- The parts of a reference, and values that name something outside.
-use Rattle.std.specs.Prelude.{◌≡◌, ◌==◌, ◌||◌, ◌&&◌, ◌+◌, ◌≤◌, ℕ, suc, Bool, true, false, not, List, [], ◌∷◌, ◌++◌, Ok, Err, length, take, drop}
+use Rattle.std.specs.Prelude.{◌≡◌, ◌==◌, ◌||◌, ◌&&◌, ◌≤◌, ℕ, Bool, true, false, not, List, [], ◌∷◌, ◌++◌, Ok, Err, length, drop}
 use Rattle.std.specs.List.{list_any, position_or_len, before_first, after_first}
 use Rattle.std.proofs.Common.{refl, sym, ap, ◌∙◌, arith}
 use Rattle.std.proofs.Math.Bool.{and-true, and-false}
@@ -8,14 +8,11 @@ use Rattle.std.proofs.lemmas.List.{take_at, drop_at, drop-drop}
 use Rattle.std.proofs.lemmas.List.Folds.{list_any-append}
 use Rattle.dita_doc.specs.Bytes.{slash, number_sign, is_slash, has_bytes, parts_by}
 use Rattle.dita_doc.specs.Cut.{Lacks, IsCutAt}
+use Rattle.dita_doc.proofs.CutLaws.{take_one_more}
 use Rattle.dita_doc.proofs.PartLaws.{parts_after, one_part}
 use Rattle.href_text.specs.Reference.{is_colon, is_number_sign, ends_scheme, is_external, reference_to, reference_with, reference_of}
 use Rattle.href_text.specs.declared.fault.RefFault.TheVariants as faults
 use Rattle.href_text.proofs.PartCountLaws.{has_two}
-
--- `take` computes at `suc`, and not at `1 +`
-take_one_more : (n b : ℕ) (bytes : List ℕ) → take (1 + n) (b ∷ bytes) ≡ b ∷ take n bytes
-take_one_more n b bytes = let e : 1 + n ≡ suc n = omega arith in rw e refl
 
 -- a byte that ends the scheme ends the search for a `:`
 pub external_ends : (b : ℕ) (bytes : List ℕ) → ends_scheme b ≡ true → is_external (b ∷ bytes) ≡ false

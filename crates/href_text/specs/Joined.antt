@@ -37,21 +37,21 @@ path_of (segment ∷ []) = segment
 path_of (segment ∷ next ∷ segments) = segment ++ slash ∷ path_of (next ∷ segments)
 
 -- the name that the segments that stay are
-abbrev pub named : List (List ℕ) → Result (List ℕ) RefFault
-named [] = Err faults.Empty
-named (segment ∷ segments) =
+abbrev pub name_of_segments : List (List ℕ) → Result (List ℕ) RefFault
+name_of_segments [] = Err faults.Empty
+name_of_segments (segment ∷ segments) =
     if is_name (path_of (segment ∷ segments)) then Ok (path_of (segment ∷ segments)) else Err faults.BadName
 
-abbrev pub named_by : Result (List (List ℕ)) RefFault → Result (List ℕ) RefFault
-named_by (Ok stay) = named stay
-named_by (Err fault) = Err fault
+abbrev pub name_if_followed : Result (List (List ℕ)) RefFault → Result (List ℕ) RefFault
+name_if_followed (Ok stay) = name_of_segments stay
+name_if_followed (Err fault) = Err fault
 
 -- the document that a file names from a document; an empty file names that document itself
 abbrev pub joined : List ℕ → List ℕ → Result (List ℕ) RefFault
 joined from file =
     if length file == 0 then Ok from
     else if slice_index file 0 == slash then Err faults.AboveRoot
-    else named_by (followed (folders_of from) (parts_by is_slash file))
+    else name_if_followed (followed (folders_of from) (parts_by is_slash file))
 
 -- the relative path: up to the root, once for each folder, and then the name
 abbrev pub relative_path : List ℕ → List ℕ → List ℕ

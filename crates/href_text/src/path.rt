@@ -74,7 +74,7 @@ fn follow_one<'a>(stay: &mut Vec<&'a str>, segment: &'a str) -> Result<(), Stop<
 
 // The name that the segments that stay are.
 fn name_of(alloc: Global, stay: &[&str]) -> Result<Name, Stop<RefFault>>
-    ensures { Gives result (spec.named (map (λ segment. segment.now) stay.now)) }
+    ensures { Gives result (spec.name_of_segments (map (λ segment. segment.now) stay.now)) }
 {
     let Some((first, others)) = stay.split_first() else {
         return Err(Stop::Fault(RefFault::Empty));

@@ -1,5 +1,5 @@
 -- Anchors that rise by their places: a search by halving finds what a search from the front finds.
-use Rattle.std.specs.Prelude.{◌≡◌, ◌+◌, ◌<◌, ◌≤◌, ◌==◌, slice_index, ℕ, zero, suc, true, false, List, [], ◌∷◌, Option, Some, None, Err, MatchOption, length, map}
+use Rattle.std.specs.Prelude.{◌≡◌, ◌+◌, ◌<◌, ◌≤◌, ◌==◌, slice_index, ℕ, zero, suc, false, List, [], ◌∷◌, Option, Some, None, Err, MatchOption, length, map}
 use Rattle.std.specs.Borrow.{Bor}
 use Rattle.std.specs.Cmp.{nat_cmp_is}
 use Rattle.std.specs.Option.{option_copied}
@@ -15,18 +15,16 @@ use Rattle.std.proofs.lemmas.Map.Keys.{below_from_sorted, sorted_from_strictly_i
 use Rattle.std.proofs.lemmas.Map.Lookups.{exact_unsigned}
 use Rattle.dita_doc.specs.declared.content.Anchor.{Anchor}
 use Rattle.dita_doc.proofs.LackLaws.{no_equal}
+use Rattle.dita_doc.proofs.Tests.{number_itself}
 use Rattle.html_blocks.specs.Anchors.{AreByPlace}
 use Rattle.html_spec.specs.Blocks.{anchor_at}
-
-same_test : (n : ℕ) → (n == n) ≡ true
-same_test n = grind arith
 
 -- an anchor before which no other has the place
 find_here : (anchors : List Anchor) (place at : ℕ) (d : Anchor)
     → ((k : ℕ) → k < at → ((get_or anchors k d).place == place) ≡ false) → at < length anchors
     → (get_or anchors at d).place ≡ place → Some (get_or anchors at d) ≡ anchor_at anchors place
 find_here [] place at d others within is = absurd (omega arith)
-find_here (anchor ∷ anchors) place zero d others within is = rw (is, same_test place) refl
+find_here (anchor ∷ anchors) place zero d others within is = rw (is, number_itself place) refl
 find_here (anchor ∷ anchors) place (suc at) d others within is =
     rw (others 0 (omega arith)) (find_here anchors place at d (λ k low. others (suc k) (omega arith)) (omega arith) is)
 

@@ -8,7 +8,7 @@ use Rattle.html_tables.proofs.ColumnLaws.{names_column, names_inside, names_othe
 use Rattle.map_spec.specs.Elements.{attribute, first_child, is_a, is_transparent, text_of}
 use Rattle.map_spec.specs.Written.{Element, Whole, Written, End, Chars, Node, written_in}
 use Rattle.html_spec.specs.Tables.{column_names}
-use Rattle.readers.specs.Named.{named}
+use Rattle.readers.specs.Named.{under_names}
 
 -- Columns
 
@@ -41,16 +41,17 @@ columns_same one other same = sym (bare_columns one) ∙ ap column_names same �
 
 -- Documents
 
-bare_named : (names : List (List ℕ)) (name : List ℕ) (c : Content) → bare (written_in name c) ≡ bare (named names c)
+bare_named : (names : List (List ℕ)) (name : List ℕ) (c : Content)
+    → bare (written_in name c) ≡ bare (under_names names c)
 bare_named names name tree.End = refl
 bare_named names name (tree.Chars text origin line rest) = ap (Chars text []) (bare_named names name rest)
 bare_named names name (tree.Element own attributes origin line inside rest) =
     let element : Element = record { name = own; attributes = attributes; doc = []; line = line; href_doc = [] } in
     ap (λ held. Node element held (bare (written_in name rest))) (bare_named names name inside)
-    ∙ ap (Node element (bare (named names inside))) (bare_named names name rest)
+    ∙ ap (Node element (bare (under_names names inside))) (bare_named names name rest)
 
 -- the text of the first child that was found
 pub child_found : (token : List ℕ) (names : List (List ℕ)) (name : List ℕ) (c : Content) (found : Option Whole)
-    → found ≡ first_child token (written_in name c) → text_of found ≡ text_of (first_child token (named names c))
+    → found ≡ first_child token (written_in name c) → text_of found ≡ text_of (first_child token (under_names names c))
 child_found token names name c found is =
-    ap text_of is ∙ text_same token (written_in name c) (named names c) (bare_named names name c)
+    ap text_of is ∙ text_same token (written_in name c) (under_names names c) (bare_named names name c)

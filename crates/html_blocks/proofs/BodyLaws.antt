@@ -7,15 +7,14 @@ use Rattle.dita_doc.specs.declared.content.Anchor.{Anchor}
 use Rattle.dita_doc.specs.declared.content.Mark.{Mark}
 use Rattle.dita_doc.specs.declared.content.Resolved.{Resolved}
 use Rattle.dita_doc.specs.declared.fact.Html.{Html}
-use Rattle.html_blocks.specs.Body.{AreNodesOf, with_own_hrefs}
 use Rattle.doc_elements.proofs.BareLaws.{bare, bare_element, text_same}
 use Rattle.html_blocks.proofs.BareLaws.{columns_same}
 use Rattle.map_spec.specs.Elements.{attribute, class_faults, has_types}
 use Rattle.map_spec.specs.Written.{Element, Written, End, Chars, Node, size}
 use Rattle.html_spec.specs.Blocks as blocks
-use Rattle.html_spec.specs.Blocks.{Context, Form, Overlay, alt_of, attribute_text, body_html, class_at, columns_in, content_or_label, element_shown, form_shown, href_at, linked_at, outside, row_for, row_shown, shown, shown_beside, shown_from, shown_with, start_of, within_type}
-use Rattle.html_spec.specs.Tables.{is_group}
-use Rattle.readers.specs.Named.{named_tree}
+use Rattle.html_spec.specs.Blocks.{HtmlContext, Form, Overlay, alt_of, attribute_text, body_html, class_at, columns_in, content_or_label, element_shown, form_shown, href_at, linked_at, outside, row_for, row_shown, shown, shown_beside, shown_from, shown_with, start_of, within_type}
+use Rattle.html_spec.specs.Tables.{is_column_group}
+use Rattle.readers.specs.Named.{AreNodesOf, named_tree, with_own_hrefs}
 
 own_bare : (nodes : Written) → bare (with_own_hrefs nodes) ≡ bare nodes
 own_bare End = refl
@@ -38,19 +37,19 @@ own_label anchors place End content = refl
 own_label anchors place (Chars text doc rest) content = refl
 own_label anchors place (Node element inside rest) content = refl
 
-own_columns : (element : Element) (inside : Written) (around : Context)
+own_columns : (element : Element) (inside : Written) (around : HtmlContext)
     → columns_in element (with_own_hrefs inside) around ≡ columns_in element inside around
 own_columns element inside around =
-    ap (λ names. if is_group element then record around { columns = names } else around)
+    ap (λ names. if is_column_group element then record around { columns = names } else around)
     (columns_same (with_own_hrefs inside) inside (own_bare inside))
 
 own_alt : (element : Element) (inside : Written) → alt_of element (with_own_hrefs inside) ≡ alt_of element inside
 own_alt element inside = ap (λ text. unwrap_or (attribute (codes "alt") element) text)
     (text_same (codes "topic/alt") (with_own_hrefs inside) inside (own_bare inside))
 
-module _ (around : Context) (overlay : Overlay) (place : ℕ) (element : Element) (inside : Written)
-    (content : Context → Html) where
-  held_same : (context : Context)
+module _ (around : HtmlContext) (overlay : Overlay) (place : ℕ) (element : Element) (inside : Written)
+    (content : HtmlContext → Html) where
+  held_same : (context : HtmlContext)
       → content_or_label overlay.anchors place (with_own_hrefs inside)
       (content (columns_in element (with_own_hrefs inside) context))
       ≡ content_or_label overlay.anchors place inside (content (columns_in element inside context))
@@ -97,7 +96,7 @@ module _ (around : Context) (overlay : Overlay) (place : ℕ) (element : Element
       ≡ element_shown around overlay place element inside content
   element_same = inside_same
 
-own_shown : (overlay : Overlay) (nodes : Written) (around : Context) (place : ℕ)
+own_shown : (overlay : Overlay) (nodes : Written) (around : HtmlContext) (place : ℕ)
     → shown_from around overlay place (with_own_hrefs nodes) ≡ shown_from around overlay place nodes
 own_shown overlay End around place = refl
 own_shown overlay (Chars text doc rest) around place =

@@ -11,17 +11,15 @@ use Rattle.std.proofs.lemmas.List.Sorted.{IsNonDecreasingBy-drop}
 use Rattle.dita_doc.specs.HtmlEscapes.{escaped_value, escaped_value_byte}
 use Rattle.dita_doc.specs.declared.content.Mark.{Mark}
 use Rattle.dita_doc.proofs.LackLaws.{no_equal}
+use Rattle.dita_doc.proofs.Tests.{less_before, not_zero, number_itself}
 use Rattle.html_blocks.specs.Marks.{AreRising, behind, class_text, class_with, texts_text}
 use Rattle.html_spec.specs.Blocks.{is_mark_at, marks_at, spaced}
 
 -- The first of some marks
 
-same_test : (n : ℕ) → (n == n) ≡ true
-same_test n = grind arith
-
 pub mark_here : (left among : List Mark) (mark : Mark) (place : ℕ) → left ≡ mark ∷ among → mark.place ≡ place
     → marks_at left place ≡ mark.text ∷ marks_at among place
-mark_here left among mark place first is = rw (first, is, same_test place) refl
+mark_here left among mark place first is = rw (first, is, number_itself place) refl
 
 pub mark_elsewhere : (left among : List Mark) (mark : Mark) (place : ℕ) → left ≡ mark ∷ among
     → (mark.place ≡ place → ⊥) → marks_at left place ≡ marks_at among place
@@ -63,9 +61,6 @@ kept_take p zero (mark ∷ marks) none = kept_none p (mark ∷ marks) none
 kept_take p (suc count) (mark ∷ marks) none = kept_if p mark _ _
     (kept_take p count marks (λ k d low high. none (suc k) d (omega arith) (omega arith)))
 
-before_back : (place i j : ℕ) → i ≤ j → nat_lt j place ≡ true → nat_lt i place ≡ true
-before_back place i j less is = grind (arith, nat_tests)
-
 within_back : (place i j : ℕ) → i ≤ j → nat_le j place ≡ true → nat_le i place ≡ true
 within_back place i j less is = grind (arith, nat_tests)
 
@@ -81,7 +76,7 @@ place_of mark = mark.place
 module _ (marks : List Mark) (rise : AreRising marks) (place : ℕ) where
   pub before_parted : IsPartitionedBy (λ (mark : Mark). nat_lt mark.place place) marks
   before_parted = λ i j d low high is.
-      before_back place (get_or marks i d).place (get_or marks j d).place (rise i j d low high) is
+      less_before place (get_or marks i d).place (get_or marks j d).place (rise i j d low high) is
 
   pub within_parted : IsPartitionedBy (λ (mark : Mark). nat_le mark.place place) marks
   within_parted = λ i j d low high is.
@@ -124,9 +119,6 @@ shown_value first marks = ap (λ more. codes " class=\"" ++ more)
     (flat_map-append escaped_value_byte first (flat_map (λ other. codes " " ++ other) marks)
     ∙ ap (λ more. escaped_value first ++ more) (behind_value marks))
     ∙ append_assoc (escaped_value first) (behind marks) (codes "\""))
-
-not_zero : (n : ℕ) → (suc n == 0) ≡ false
-not_zero n = no_equal (suc n) 0 (λ e. omega (arith, e))
 
 -- a text and marks behind it; if the text is empty and there are no marks, there is no class
 pub texts_shown : (first : List ℕ) (marks : List (List ℕ)) → class_text (spaced (first ∷ marks))

@@ -7,15 +7,15 @@ use Rattle.html_blocks.specs.Anchors.{IsLinkAt}
 use Rattle.html_blocks.specs.Opened.{HasMore, IsBegun, IsOpen, closing, content_begun, href_within, link_ended, start_by, whole_by}
 use Rattle.html_blocks.specs.Shown.{around_shown, tag_name}
 use Rattle.html_blocks.specs.Walk.{IsWithin, content_shown, element_of, inside_of, whole_shown}
-use Rattle.html_blocks.specs.declared.context.Context as declared
+use Rattle.html_blocks.specs.declared.context.HtmlContext as declared
 use Rattle.html_blocks.specs.declared.element.Element.{Element}
-use Rattle.html_blocks.specs.declared.page.Opened.{Opened}
-use Rattle.html_blocks.specs.declared.page.Page.{Page}
+use Rattle.html_blocks.specs.declared.page.OpenTag.{OpenTag}
+use Rattle.html_blocks.specs.declared.page.BodyText.{BodyText}
 use Rattle.html_blocks.proofs.RowLaws.{content_none, form_bytes, form_faults, form_whole, linked_bytes, linked_faults, none_shown, some_shown, untyped_shown}
 use Rattle.html_blocks.proofs.WayLaws.{more_as}
 use Rattle.html_tables.specs.declared.groups.Groups.{Groups}
 use Rattle.map_spec.specs.Elements.{class_faults, has_types, tokens_of}
-use Rattle.html_spec.specs.Blocks.{Context, Form, Overlay, content_or_label, context_in, end_tag, linked_by, marks_at, row_for, shown, shown_with}
+use Rattle.html_spec.specs.Blocks.{HtmlContext, Form, Overlay, content_or_label, context_in, end_tag, in_link, marks_at, row_for, shown, shown_with}
 
 -- types, by the words that were read
 pub typed : (tokens : List (List ℕ)) (element : Element) (none : Bool) → none ≡ (length tokens == 0)
@@ -29,7 +29,7 @@ regroup a b c d e =
     ∙ ap (λ end. (a ++ b) ++ end) (append_assoc c d e)
 
 -- the name of a form, by where its element stands
-pub tag_around : (groups : Groups) (context : declared.Context) (around : Context) (form : Form) (href : Option (List ℕ))
+pub tag_around : (groups : Groups) (context : declared.HtmlContext) (around : HtmlContext) (form : Form) (href : Option (List ℕ))
     → IsWithin groups context around
     → tag_name form href (around_shown context.around) around.depth context.tables.head context.tables.simple_head
     ≡ tag_name form href around.around around.depth around.head around.simple_head
@@ -38,7 +38,7 @@ tag_around groups context around form href is =
     ∙ ap (λ head. tag_name form href around.around around.depth head context.tables.simple_head) is.tables.head
     ∙ ap (tag_name form href around.around around.depth around.head) is.tables.simple_head
 
-module _ (old new : Page) (opened : Opened) (overlay : Overlay) (element : Element) (around : Context) where
+module _ (old new : BodyText) (opened : OpenTag) (overlay : Overlay) (element : Element) (around : HtmlContext) where
   abbrev whole : Html
   whole = whole_shown around overlay element
 
@@ -76,7 +76,7 @@ module _ (old new : Page) (opened : Opened) (overlay : Overlay) (element : Eleme
         let none = content_none context overlay (element.place + 1) inside in
         let same = none_shown around overlay element.place (element_of element) inside
         (content_shown overlay element) types row
-        ∙ ap (λ to. linked_by to (content_or_label overlay.anchors element.place inside content)) (sym link.leads) in
+        ∙ ap (λ to. in_link to (content_or_label overlay.anchors element.place inside content)) (sym link.leads) in
         record {
           before = shown (content_begun href inside label);
           context = context;
@@ -127,7 +127,7 @@ module _ (old new : Page) (opened : Opened) (overlay : Overlay) (element : Eleme
           }
 
 -- an element of a form that has no name is whole without its content
-module _ (old new : Page) (overlay : Overlay) (element : Element) (around : Context) (href : Option (List ℕ))
+module _ (old new : BodyText) (overlay : Overlay) (element : Element) (around : HtmlContext) (href : Option (List ℕ))
     (label : List ℕ) (link : IsLinkAt overlay.anchors element.place href label)
     (types : has_types (element_of element) ≡ true) (token : List ℕ) (form : Form)
     (row : row_for (element_of element) ≡ Some (token, form)) where

@@ -13,12 +13,12 @@ use Rattle.map_spec.specs.Elements.{class_faults, has_types}
 use Rattle.map_spec.specs.Written as written
 use Rattle.map_spec.specs.Written.{Element, Written}
 use Rattle.html_spec.specs.Blocks as blocks
-use Rattle.html_spec.specs.Blocks.{Context, Form, Overlay, attribute_text, content_or_label, context_in, element_shown, end_tag, form_shown, href_at, label_at, linked_by, marks_at, row_for, shown, shown_from, shown_with, start_tag}
+use Rattle.html_spec.specs.Blocks.{HtmlContext, Form, Overlay, attribute_text, content_or_label, context_in, element_shown, end_tag, form_shown, href_at, label_at, in_link, marks_at, row_for, shown, shown_from, shown_with, start_tag}
 
 -- Content
 
 -- nothing is shown of no content
-pub content_none : (within : Context) (overlay : Overlay) (place : ℕ) (inside : Written) → is_empty inside ≡ true
+pub content_none : (within : HtmlContext) (overlay : Overlay) (place : ℕ) (inside : Written) → is_empty inside ≡ true
     → shown_from within overlay place inside ≡ shown []
 content_none within overlay place written.End e = refl
 content_none within overlay place (written.Chars text doc rest) e = cc
@@ -36,7 +36,7 @@ module _ (anchors : List Anchor) (place : ℕ) (label : List ℕ) (content : Htm
 
   -- what stands before and behind content with a link around it
   pub linked_bytes : (href : Option (List ℕ)) (inside : Written) → (is_empty inside ≡ true → content ≡ shown [])
-      → (linked_by href (content_or_label anchors place inside content)).bytes
+      → (in_link href (content_or_label anchors place inside content)).bytes
       ≡ content_begun href inside label ++ (content.bytes ++ link_ended (is_some href))
   linked_bytes None written.End none =
       rw (none refl, same) (sym (append-nil (escaped (label_at anchors place))))
@@ -47,7 +47,7 @@ module _ (anchors : List Anchor) (place : ℕ) (label : List ℕ) (content : Htm
   linked_bytes (Some to) (written.Node element inside rest) none = around_held to
 
   pub linked_faults : (href : Option (List ℕ)) (inside : Written) → (is_empty inside ≡ true → content ≡ shown [])
-      → (linked_by href (content_or_label anchors place inside content)).faults ≡ content.faults
+      → (in_link href (content_or_label anchors place inside content)).faults ≡ content.faults
   linked_faults None written.End none = rw (none refl) refl
   linked_faults None (written.Chars text doc rest) none = refl
   linked_faults None (written.Node element inside rest) none = refl
@@ -57,7 +57,7 @@ module _ (anchors : List Anchor) (place : ℕ) (label : List ℕ) (content : Htm
 
 -- Forms
 
-module _ (around : Context) (overlay : Overlay) (place : ℕ) (element : Element) (inside : Written) (content : Html)
+module _ (around : HtmlContext) (overlay : Overlay) (place : ℕ) (element : Element) (inside : Written) (content : Html)
     (href : Option (List ℕ)) (leads : href ≡ href_at overlay.anchors place) where
   abbrev Named : Form → List ℕ → Type 0
   Named form name = tag_name form href around.around around.depth around.head around.simple_head ≡ Some name
@@ -66,7 +66,7 @@ module _ (around : Context) (overlay : Overlay) (place : ℕ) (element : Element
   pub form_bytes : (form : Form) (name : List ℕ) → Named form name
       → (form_shown around overlay place element inside content form).bytes
       ≡ (start_by around href (marks_at overlay.marks place) element name form
-      ++ (linked_by (href_within form href) content).bytes) ++ end_tag name
+      ++ (in_link (href_within form href) content).bytes) ++ end_tag name
   form_bytes (blocks.Tag tag class) name e = rw (← same_Some _ _ e, leads) refl
   form_bytes blocks.Topic name e = rw (← same_Some _ _ e, leads) refl
   form_bytes blocks.Title name e = rw (← same_Some _ _ e, leads) refl
@@ -80,7 +80,7 @@ module _ (around : Context) (overlay : Overlay) (place : ℕ) (element : Element
 
   pub form_faults : (form : Form) (name : List ℕ) → Named form name
       → (form_shown around overlay place element inside content form).faults
-      ≡ (linked_by (href_within form href) content).faults
+      ≡ (in_link (href_within form href) content).faults
   form_faults (blocks.Tag tag class) name e = rw leads refl
   form_faults blocks.Topic name e = rw leads refl
   form_faults blocks.Title name e = rw leads refl
@@ -112,14 +112,14 @@ module _ (around : Context) (overlay : Overlay) (place : ℕ) (element : Element
 
 -- Elements
 
-module _ (around : Context) (overlay : Overlay) (place : ℕ) (element : Element) (inside : Written)
-    (content : Context → Html) where
+module _ (around : HtmlContext) (overlay : Overlay) (place : ℕ) (element : Element) (inside : Written)
+    (content : HtmlContext → Html) where
   pub untyped_shown : has_types element ≡ false → element_shown around overlay place element inside content
       ≡ shown_with (class_faults element) (content around)
   untyped_shown e = rw e refl
 
   pub none_shown : has_types element ≡ true → row_for element ≡ None
-      → element_shown around overlay place element inside content ≡ linked_by (href_at overlay.anchors place)
+      → element_shown around overlay place element inside content ≡ in_link (href_at overlay.anchors place)
       (content_or_label overlay.anchors place inside (content (context_in element inside None around)))
   none_shown e row = rw (e, row) refl
 

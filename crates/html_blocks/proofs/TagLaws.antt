@@ -11,12 +11,12 @@ use Rattle.html_blocks.proofs.MarkLaws.{shown_value}
 use Rattle.map_spec.specs.Elements.{attribute}
 use Rattle.map_spec.specs.Titles.{id_of}
 use Rattle.map_spec.specs.Written.{Element}
-use Rattle.html_spec.specs.Blocks.{Context, attribute_text, id_shown, if_some_text, note_class, start_of}
+use Rattle.html_spec.specs.Blocks.{HtmlContext, attribute_text, id_attribute, if_some_text, note_class, start_of}
 
 -- Ids
 
-id_by : (around : Context) (topic : Bool) (id : List ℕ)
-    → id_behind (if topic then None else Some around.topic) id ≡ id_shown around topic id
+id_by : (around : HtmlContext) (topic : Bool) (id : List ℕ)
+    → id_behind (if topic then None else Some around.topic) id ≡ id_attribute around topic id
 id_by around true [] = refl
 id_by around false [] = refl
 id_by around true (b ∷ id) = refl
@@ -29,7 +29,7 @@ chain a b c d =
     ∙ ap (λ end. a ++ end) (sym (append_assoc b c d))
 
 -- a start tag is written in parts
-pub start_parts : (around : Context) (topic : Bool) (before : Option (List ℕ)) (element : Element) (name class more : List ℕ)
+pub start_parts : (around : HtmlContext) (topic : Bool) (before : Option (List ℕ)) (element : Element) (name class more : List ℕ)
     → before ≡ (if topic then None else Some around.topic)
     → ((name_begun name before (id_of element) ++ attribute_text (codes "class") (if_some_text class)) ++ more)
     ++ codes ">" ≡ start_of around topic element name class more
@@ -38,7 +38,7 @@ start_parts around topic before element name class more is =
     ap (λ id. codes "<" ++ ((((name ++ attribute_text (codes "id") id) ++ classed) ++ more) ++ codes ">"))
     (ap (λ front. id_behind front (id_of element)) is ∙ id_by around topic (id_of element))
     ∙ ap (λ middle. codes "<" ++ (middle ++ codes ">"))
-    (chain name (attribute_text (codes "id") (id_shown around topic (id_of element))) classed more)
+    (chain name (attribute_text (codes "id") (id_attribute around topic (id_of element))) classed more)
 
 -- what a reference has behind it, or another
 pub unwrap_now : (found : Option (Bor (List ℕ))) (other result : Bor (List ℕ)) → result ≡ unwrap_or found other

@@ -1,5 +1,4 @@
 pub mod Anchors
-pub mod Body
 pub mod Marks
 pub mod Opened
 pub mod Shown

@@ -8,15 +8,15 @@ use Rattle.html_blocks.specs.Marks.{class_with}
 use Rattle.html_blocks.specs.Shown.{counted}
 use Rattle.html_blocks.specs.Walk.{IsWithin, content_shown}
 use Rattle.html_blocks.specs.declared.element.Element as declared
-use Rattle.html_blocks.specs.declared.page.Opened.{Opened}
-use Rattle.html_blocks.specs.declared.page.Page.{Page}
+use Rattle.html_blocks.specs.declared.page.OpenTag.{OpenTag}
+use Rattle.html_blocks.specs.declared.page.BodyText.{BodyText}
 use Rattle.html_tables.specs.Walk.{KeepsGroups}
 use Rattle.map_spec.specs.Elements.{fault_at}
 use Rattle.map_spec.specs.Titles.{id_of}
 use Rattle.map_spec.specs.Written as written
 use Rattle.map_spec.specs.Written.{Element, Written}
 use Rattle.html_spec.specs.Blocks as blocks
-use Rattle.html_spec.specs.Blocks.{Context, Form, Overlay, alt_of, attribute_text, end_tag, if_some_text, is_type, note_class, shown, shown_with, spans, start_of, start_tag}
+use Rattle.html_spec.specs.Blocks.{HtmlContext, Form, Overlay, alt_of, attribute_text, end_tag, if_some_text, is_type, note_class, shown, shown_with, spans, start_of, start_tag}
 
 -- Where an element stands: what a token changes for those within
 
@@ -53,7 +53,7 @@ class_by element blocks.Left = []
 class_by element blocks.Foreign = []
 
 -- the attributes behind id and class
-abbrev pub more_by : Context → Option (List ℕ) → Element → Form → List ℕ
+abbrev pub more_by : HtmlContext → Option (List ℕ) → Element → Form → List ℕ
 more_by context href element (blocks.Tag name class) = []
 more_by context href element blocks.Topic = []
 more_by context href element blocks.Title = []
@@ -65,7 +65,7 @@ more_by context href element blocks.SimpleCell = []
 more_by context href element blocks.Left = []
 more_by context href element blocks.Foreign = []
 
-abbrev pub start_by : Context → Option (List ℕ) → List (List ℕ) → Element → List ℕ → Form → List ℕ
+abbrev pub start_by : HtmlContext → Option (List ℕ) → List (List ℕ) → Element → List ℕ → Form → List ℕ
 start_by context href marks element name form =
     start_of context (is_topic form) element name (class_with marks (class_by element form))
     (more_by context href element form)
@@ -116,11 +116,11 @@ abbrev pub file_text : Option (List ℕ) → Element → Written → List ℕ
 file_text href element inside = attribute_text (codes "src") (Some (unwrap_or href []))
     ++ attribute_text (codes "alt") (Some (alt_of element inside))
 
-abbrev pub image_by : Context → Option (List ℕ) → List (List ℕ) → Element → Written → List ℕ
+abbrev pub image_by : HtmlContext → Option (List ℕ) → List (List ℕ) → Element → Written → List ℕ
 image_by context href marks element inside =
     start_of context false element (codes "img") (class_with marks []) (file_text href element inside)
 
-abbrev pub whole_by : Context → Option (List ℕ) → List (List ℕ) → Element → Written → Form → Html
+abbrev pub whole_by : HtmlContext → Option (List ℕ) → List (List ℕ) → Element → Written → Form → Html
 whole_by context href marks element inside (blocks.Tag name class) = shown []
 whole_by context href marks element inside blocks.Topic = shown []
 whole_by context href marks element inside blocks.Title = shown []
@@ -136,31 +136,32 @@ whole_by context href marks element inside blocks.Foreign =
 -- Pages as they grow
 
 -- this was written more, and the groups that were known are known
-pub record HasMore (old new : Page) (html : Html) : Type 0 where
+pub record HasMore (old new : BodyText) (html : Html) : Type 0 where
   pub kept : KeepsGroups old.groups new.groups
   pub text : new.text ≡ old.text ++ html.bytes
   pub faults : new.faults ≡ old.faults ++ html.faults
 
 -- what stands behind the content of an element that is open
-abbrev pub closing : Opened → List ℕ
+abbrev pub closing : OpenTag → List ℕ
 closing opened = link_ended opened.is_linked ++ option_map_or end_tag (option_copied opened.name) []
 
 -- an element was begun, whose content stands there
-pub record IsBegun (old new : Page) (opened : Opened) (context : Context) (begun : List ℕ) : Type 0 where
+pub record IsBegun (old new : BodyText) (opened : OpenTag) (context : HtmlContext) (begun : List ℕ) : Type 0 where
   pub within : IsWithin new.groups opened.within context
   pub more : HasMore old new (shown begun)
 
 -- an element was opened: with its content and what closes it, it is whole
-pub record IsOpen (old new : Page) (opened : Opened) (overlay : Overlay) (element : declared.Element) (whole : Html) :
+pub record IsOpen (old new : BodyText) (opened : OpenTag) (overlay : Overlay) (element : declared.Element)
+    (whole : Html) :
     Type 0 where
   pub before : Html
-  pub context : Context
+  pub context : HtmlContext
   pub within : IsWithin new.groups opened.within context
   pub more : HasMore old new before
   pub bytes : whole.bytes ≡ before.bytes ++ ((content_shown overlay element context).bytes ++ closing opened)
   pub faults : whole.faults ≡ before.faults ++ (content_shown overlay element context).faults
 
 -- an element was opened, or written whole
-abbrev pub HasOpened : Page → Page → Option Opened → Overlay → declared.Element → Html → Type 0
+abbrev pub HasOpened : BodyText → BodyText → Option OpenTag → Overlay → declared.Element → Html → Type 0
 HasOpened old new None overlay element whole = HasMore old new whole
 HasOpened old new (Some opened) overlay element whole = IsOpen old new opened overlay element whole

@@ -1,8 +1,8 @@
 -- Parts of elements of HTML, as the code writes them.
 use Rattle.std.specs.Prelude.{◌-◌, ◌^◌, ℕ, Bool, List, [], ◌∷◌, ◌++◌, Option, Some, None, codes, min}
 use Rattle.dita_doc.specs.HtmlEscapes.{escaped_value}
-use Rattle.html_blocks.specs.declared.context.Around.{Around}
-use Rattle.html_blocks.specs.declared.context.Around.TheVariants as arounds
+use Rattle.html_blocks.specs.declared.context.TitlePlace.{TitlePlace}
+use Rattle.html_blocks.specs.declared.context.TitlePlace.TheVariants as arounds
 use Rattle.html_spec.specs.Blocks as blocks
 use Rattle.html_spec.specs.Blocks.{attribute_text, cell_tag, reference_tag, title_tag}
 
@@ -22,7 +22,7 @@ name_begun name topic id = codes "<" ++ name ++ attribute_text (codes "id") (id_
 
 -- Names
 
-abbrev pub around_shown : Around → blocks.Around
+abbrev pub around_shown : TitlePlace → blocks.TitlePlace
 around_shown arounds.Topic = blocks.InTopic
 around_shown arounds.Section = blocks.InSection
 around_shown arounds.Figure = blocks.InFigure
@@ -33,7 +33,8 @@ abbrev pub counted : ℕ → ℕ
 counted depth = min depth (2 ^ 32 - 1)
 
 -- the name of the element of HTML around the content, none if this is not shown
-abbrev pub tag_name : blocks.Form → Option (List ℕ) → blocks.Around → ℕ → (head simple_head : Bool) → Option (List ℕ)
+abbrev pub tag_name : blocks.Form → Option (List ℕ) → blocks.TitlePlace → ℕ → (head simple_head : Bool)
+    → Option (List ℕ)
 tag_name (blocks.Tag name class) href around depth head simple_head = Some name
 tag_name blocks.Topic href around depth head simple_head = Some (codes "article")
 tag_name blocks.Title href around depth head simple_head = Some (title_tag around depth)

@@ -4,16 +4,16 @@ ghost use Rattle.std.specs.Prelude.{◌≡◌, ◌+◌, ◌++◌, ◌<◌, IfOk,
 ghost use Rattle.dita_doc.specs.HtmlEscapes as html_escapes_spec;
 ghost use Rattle.dita_doc.specs.Siblings as siblings_spec;
 ghost use Rattle.dita_doc.specs.Tree as tree_spec;
-ghost use Rattle.html_blocks.specs.Body as body_spec;
+ghost use Rattle.readers.specs.Named.{AreNodesOf};
 ghost use Rattle.html_blocks.specs.Opened as opened_spec;
 ghost use Rattle.html_blocks.specs.Walk as walk_spec;
 ghost use Rattle.map_spec.specs.Written.{Written};
 ghost use Rattle.html_spec.specs.Blocks as blocks_spec;
 
-use crate::context::Context;
+use crate::context::HtmlContext;
 use crate::element::Element;
 use crate::overlay::Overlay;
-use crate::page::Page;
+use crate::page::BodyText;
 use dita_doc::{
     Anchor, First, Html, List, Mark, NoMemory, Node, Resolved, Siblings, Text, append_html,
 };
@@ -29,13 +29,20 @@ pub fn body_html(
     anchors: &List<Anchor>,
     marks: &List<Mark>,
 ) -> Result<Html, NoMemory>
-    ensures { (nodes : Written) → body_spec.AreNodesOf body.now nodes
+    ensures { (nodes : Written) → AreNodesOf body.now nodes
         → IfOk result (λ html. html ≡ blocks_spec.body_html anchors.now marks.now nodes) }
 {
-    let mut page = Page::new(alloc);
+    let mut page = BodyText::new(alloc);
     let overlay = Overlay::of(anchors.as_slice(), marks.as_slice());
     let siblings = Siblings::of(&body.doc);
-    append_siblings(alloc, &mut page, &overlay, siblings, 0, Context::outside())?;
+    append_siblings(
+        alloc,
+        &mut page,
+        &overlay,
+        siblings,
+        0,
+        HtmlContext::outside(),
+    )?;
     Ok(page.into_html())
 }
 
@@ -43,15 +50,15 @@ pub fn body_html(
 #[cycle(append)]
 fn append_siblings(
     alloc: Global,
-    page: &mut Page,
+    page: &mut BodyText,
     overlay: &Overlay<'_>,
     siblings: Siblings<'_>,
     place: u32,
-    context: Context<'_>,
+    context: HtmlContext<'_>,
 ) -> Result<(), NoMemory>
     requires { place + tree_spec.size_of (siblings_spec.content siblings)
-        < tree_spec.node_limit }
-    ensures { (around : blocks_spec.Context)
+        < tree_spec.doc_node_limit }
+    ensures { (around : blocks_spec.HtmlContext)
         → walk_spec.IsWithin page.old.groups context.entry around
         → OnOk result (opened_spec.HasMore page.old page.new (blocks_spec.shown_from around
         (walk_spec.overlay_of overlay.now) place (walk_spec.content_of siblings.entry))) }
@@ -90,14 +97,14 @@ fn append_siblings(
 #[cycle(append)]
 fn append_element(
     alloc: Global,
-    page: &mut Page,
+    page: &mut BodyText,
     overlay: &Overlay<'_>,
     element: Element<'_>,
-    context: Context<'_>,
+    context: HtmlContext<'_>,
 ) -> Result<(), NoMemory>
     requires { element.place + 1 + tree_spec.size_of (siblings_spec.content element.inside)
-        < tree_spec.node_limit }
-    ensures { (around : blocks_spec.Context)
+        < tree_spec.doc_node_limit }
+    ensures { (around : blocks_spec.HtmlContext)
         → walk_spec.IsWithin page.old.groups context.entry around
         → OnOk result (opened_spec.HasMore page.old page.new
         (walk_spec.whole_shown around (walk_spec.overlay_of overlay.now) element.entry)) }

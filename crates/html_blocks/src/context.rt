@@ -9,7 +9,7 @@ use html_tables::TableContext;
 
 /// The nearest of topic, section or example, figure and table around an element.
 #[derive(Clone, Copy)]
-pub(crate) enum Around {
+pub(crate) enum TitlePlace {
     Topic,
     Section,
     Figure,
@@ -19,14 +19,14 @@ pub(crate) enum Around {
 /// The id of the nearest topic, how many topics are around, the nearest of those above, and the
 /// tables around.
 #[derive(Clone, Copy)]
-pub(crate) struct Context<'a> {
+pub(crate) struct HtmlContext<'a> {
     pub topic: &'a str,
     pub depth: u32,
-    pub around: Around,
+    pub around: TitlePlace,
     pub tables: TableContext,
 }
 
-impl<'a> Context<'a> {
+impl<'a> HtmlContext<'a> {
     ghost use Rattle.std.specs.Prelude.{◌≡◌, ℕ, List};
     ghost use Rattle.doc_elements.specs.Walk as elements_walk;
     ghost use Rattle.html_blocks.specs.Opened as opened_spec;
@@ -36,20 +36,20 @@ impl<'a> Context<'a> {
     ghost use Rattle.html_spec.specs.Blocks as blocks_spec;
 
     /// Where nothing stands around.
-    pub fn outside() -> Context<'a>
+    pub fn outside() -> HtmlContext<'a>
         ensures { (groups : Groups) → walk_spec.IsWithin groups result blocks_spec.outside }
     {
-        Context {
+        HtmlContext {
             topic: "",
             depth: 0,
-            around: Around::Topic,
+            around: TitlePlace::Topic,
             tables: TableContext::outside(),
         }
     }
 
     /// Where what an element holds stands, by the token that counts for the element and the nearest
     /// group of rows.
-    pub fn within(self, token: &str, element: &'a Node, group: Option<usize>) -> Context<'a>
+    pub fn within(self, token: &str, element: &'a Node, group: Option<usize>) -> HtmlContext<'a>
         ensures topic { (name : List ℕ) → result.topic.now ≡ opened_spec.topic_within token.now
             (elements_walk.element_of name element.now) self.entry.topic.now }
         ensures depth { result.depth ≡ opened_spec.depth_within token.now self.entry.depth }
@@ -62,7 +62,7 @@ impl<'a> Context<'a> {
         ensures group { result.tables.group ≡ group }
     {
         let context = self.in_topic(token, element);
-        Context {
+        HtmlContext {
             topic: context.topic,
             depth: context.depth,
             around: around_in(token, context.around),
@@ -71,7 +71,7 @@ impl<'a> Context<'a> {
     }
 
     /// Where what an element of no form holds stands, by the nearest group of rows.
-    pub fn in_group(self, group: Option<usize>) -> Context<'a>
+    pub fn in_group(self, group: Option<usize>) -> HtmlContext<'a>
         ensures topic { result.topic.now ≡ self.entry.topic.now }
         ensures depth { result.depth ≡ self.entry.depth }
         ensures nearest { result.around ≡ self.entry.around }
@@ -83,11 +83,11 @@ impl<'a> Context<'a> {
             group,
             ..self.tables
         };
-        Context { tables, ..self }
+        HtmlContext { tables, ..self }
     }
 
     // Where what an element holds stands, by the topic that the element may be.
-    fn in_topic(self, token: &str, element: &'a Node) -> Context<'a>
+    fn in_topic(self, token: &str, element: &'a Node) -> HtmlContext<'a>
         ensures topic { (name : List ℕ) → result.topic.now ≡ opened_spec.topic_within token.now
             (elements_walk.element_of name element.now) self.entry.topic.now }
         ensures depth { result.depth ≡ opened_spec.depth_within token.now self.entry.depth }
@@ -97,7 +97,7 @@ impl<'a> Context<'a> {
         if !is_same(token.as_bytes(), b"topic/topic") {
             return self;
         }
-        Context {
+        HtmlContext {
             topic: element.value_of("id").unwrap_or(""),
             depth: self.depth.saturating_add(1),
             ..self
@@ -105,22 +105,22 @@ impl<'a> Context<'a> {
     }
 }
 
-fn around_in(token: &str, around: Around) -> Around
+fn around_in(token: &str, around: TitlePlace) -> TitlePlace
     ensures { shown_spec.around_shown result
         ≡ blocks_spec.around_in token.now (shown_spec.around_shown around) }
 {
     let token = token.as_bytes();
     if is_same(token, b"topic/topic") {
-        return Around::Topic;
+        return TitlePlace::Topic;
     }
     if is_same(token, b"topic/section") || is_same(token, b"topic/example") {
-        return Around::Section;
+        return TitlePlace::Section;
     }
     if is_same(token, b"topic/fig") {
-        return Around::Figure;
+        return TitlePlace::Figure;
     }
     if is_same(token, b"topic/table") {
-        return Around::Table;
+        return TitlePlace::Table;
     }
     around
 }

@@ -12,7 +12,7 @@ pub(crate) struct Element<'a> {
     pub place: u32,
     pub node: &'a Node,
     pub inside: Siblings<'a>,
-    pub ghost written: { node.now.origin < length (siblings_spec.document inside).origins },
+    pub ghost written: { node.now.origin < length (siblings_spec.doc_of_siblings inside).origins },
 }
 
 impl<'a> Element<'a> {
@@ -33,7 +33,7 @@ impl<'a> Element<'a> {
 
     /// The name of the document that it was written in.
     pub fn origin(self) -> &'a Name
-        ensures { result.now ≡ named_spec.name_at (walk_spec.names_of self.entry.inside)
+        ensures { result.now ≡ named_spec.name_at (walk_spec.origins_of self.entry.inside)
             self.entry.node.now.origin }
     {
         let origins = self.inside.doc().origins.as_slice();

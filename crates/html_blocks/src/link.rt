@@ -11,7 +11,7 @@ use dita_doc::{Anchor, Text};
 /// The link of an element: what it leads to, if it leads anywhere, and the text that it shows if
 /// the element has no content, which is empty if there is none.
 #[derive(Clone, Copy)]
-pub(crate) struct Link<'a> {
+pub(crate) struct ShownLink<'a> {
     pub href: Option<&'a str>,
     pub label: &'a str,
 }
@@ -41,16 +41,16 @@ impl<'a> Links<'a> {
     }
 
     /// The link of the element at a place: that of the first anchor there.
-    pub fn at(self, place: u32) -> Link<'a>
+    pub fn at(self, place: u32) -> ShownLink<'a>
         ensures { anchors_spec.IsLinkAt self.entry.anchors.now place (option_copied result.href)
             result.label.now }
     {
         match self.anchor_at(place) {
-            Some(anchor) => Link {
+            Some(anchor) => ShownLink {
                 href: href_of(anchor),
                 label: label_of(anchor),
             },
-            None => Link {
+            None => ShownLink {
                 href: None,
                 label: "",
             },

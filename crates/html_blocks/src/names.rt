@@ -6,13 +6,17 @@ ghost use Rattle.html_blocks.specs.Shown as shown_spec;
 ghost use Rattle.html_forms.specs.Shown.{form_shown_of};
 ghost use Rattle.html_spec.specs.Blocks as blocks_spec;
 
-use crate::context::{Around, Context};
-use crate::link::Link;
+use crate::context::{HtmlContext, TitlePlace};
+use crate::link::ShownLink;
 use html_forms::Form;
 
 /// The name of the element of HTML around the content of an element of this form. There is none if
 /// the content is not shown.
-pub(crate) fn name_of(form: Form, link: Link<'_>, context: Context<'_>) -> Option<&'static str>
+pub(crate) fn name_of(
+    form: Form,
+    link: ShownLink<'_>,
+    context: HtmlContext<'_>,
+) -> Option<&'static str>
     ensures { (depth : ℕ) → context.entry.depth ≡ shown_spec.counted depth
         → option_copied result ≡ shown_spec.tag_name (form_shown_of form)
         (option_copied link.entry.href) (shown_spec.around_shown context.entry.around) depth
@@ -32,15 +36,15 @@ pub(crate) fn name_of(form: Form, link: Link<'_>, context: Context<'_>) -> Optio
 
 // A heading by the depth of the topic, one deeper in a section, and a caption in a figure and in a
 // table.
-fn title_name(context: Context<'_>) -> &'static str
+fn title_name(context: HtmlContext<'_>) -> &'static str
     ensures { (depth : ℕ) → context.entry.depth ≡ shown_spec.counted depth → result.now
         ≡ blocks_spec.title_tag (shown_spec.around_shown context.entry.around) depth }
 {
     match context.around {
-        Around::Topic => heading(context.depth),
-        Around::Section => heading_below(context.depth),
-        Around::Figure => "figcaption",
-        Around::Table => "caption",
+        TitlePlace::Topic => heading(context.depth),
+        TitlePlace::Section => heading_below(context.depth),
+        TitlePlace::Figure => "figcaption",
+        TitlePlace::Table => "caption",
     }
 }
 
@@ -64,7 +68,7 @@ fn heading(depth: u32) -> &'static str
     }
 }
 
-fn reference_name(link: Link<'_>) -> &'static str
+fn reference_name(link: ShownLink<'_>) -> &'static str
     ensures { result.now ≡ blocks_spec.reference_tag (option_copied link.entry.href) }
 {
     if link.href.is_some() { "a" } else { "span" }

@@ -7,9 +7,9 @@ ghost use Rattle.html_blocks.specs.Opened as opened_spec;
 ghost use Rattle.html_blocks.specs.Walk as walk_spec;
 ghost use Rattle.html_forms.specs.Shown.{form_shown_of};
 
-use crate::context::Context;
+use crate::context::HtmlContext;
 use crate::element::Element;
-use crate::link::Link;
+use crate::link::ShownLink;
 use crate::mark::Marks;
 use crate::names::name_of;
 use crate::overlay::Overlay;
@@ -23,7 +23,7 @@ use std::alloc::{AllocError, Global};
 
 /// What was written of a body.
 #[derive(Drop)]
-pub(crate) struct Page {
+pub(crate) struct BodyText {
     pub text: Text,
     pub faults: List<Fault>,
     pub groups: Groups,
@@ -32,13 +32,13 @@ pub(crate) struct Page {
 /// An element that is open: where its content stands, the name of the element of HTML around it,
 /// and whether a link stands around the content.
 #[derive(Clone, Copy)]
-pub(crate) struct Opened<'a> {
-    pub within: Context<'a>,
+pub(crate) struct OpenTag<'a> {
+    pub within: HtmlContext<'a>,
     pub name: Option<&'static str>,
     pub is_linked: bool,
 }
 
-impl Page {
+impl BodyText {
     ghost use Rattle.std.specs.Prelude.{◌≡◌, ◌++◌, [], ◌∷◌, ℕ, List, Some, None, IfOk, OnOk, false, is_some, true};
     ghost use Rattle.std.specs.Option.{option_copied};
     ghost use Rattle.dita_doc.specs.ClassValue.{words_of};
@@ -53,11 +53,11 @@ impl Page {
     ghost use Rattle.html_spec.specs.Blocks as blocks_spec;
 
     /// Nothing was written.
-    pub fn new(alloc: Global) -> Page
+    pub fn new(alloc: Global) -> BodyText
         ensures text { result.text ≡ [] }
         ensures faults { result.faults ≡ [] }
     {
-        Page {
+        BodyText {
             text: Text::new(alloc),
             faults: List::new(alloc),
             groups: Groups::new(alloc),
@@ -69,7 +69,7 @@ impl Page {
         ensures bytes { result.bytes ≡ self.text }
         ensures faults { result.faults ≡ self.faults }
     {
-        let Page { text, faults, .. } = self;
+        let BodyText { text, faults, .. } = self;
         Html {
             bytes: text.into_bytes(),
             faults,
@@ -83,9 +83,9 @@ impl Page {
         alloc: Global,
         overlay: &Overlay<'_>,
         element: Element<'a>,
-        context: Context<'a>,
-    ) -> Result<Option<Opened<'a>>, NoMemory>
-        ensures { (around : blocks_spec.Context)
+        context: HtmlContext<'a>,
+    ) -> Result<Option<OpenTag<'a>>, NoMemory>
+        ensures { (around : blocks_spec.HtmlContext)
             → walk_spec.IsWithin self.old.groups context.entry around
             → IfOk result (λ opened. opened_spec.HasOpened self.old self.new opened
             (walk_spec.overlay_of overlay.now) element.entry
@@ -117,16 +117,16 @@ impl Page {
         &mut self,
         alloc: Global,
         element: Element<'a>,
-        context: Context<'a>,
-    ) -> Result<Opened<'a>, NoMemory>
-        ensures { (around : blocks_spec.Context) (overlay : blocks_spec.Overlay)
+        context: HtmlContext<'a>,
+    ) -> Result<OpenTag<'a>, NoMemory>
+        ensures { (around : blocks_spec.HtmlContext) (overlay : blocks_spec.Overlay)
             → walk_spec.IsWithin self.old.groups context.entry around
             → elements_spec.has_types (walk_spec.element_of element.entry) ≡ false
             → IfOk result (λ opened. opened_spec.IsOpen self.old self.new opened overlay
             element.entry (walk_spec.whole_shown around overlay element.entry)) }
     {
         self.append_class_fault(alloc, element)?;
-        Ok(Opened {
+        Ok(OpenTag {
             within: context,
             name: None,
             is_linked: false,
@@ -141,11 +141,11 @@ impl Page {
         token: &str,
         form: Form,
         element: Element<'a>,
-        link: Link<'_>,
+        link: ShownLink<'_>,
         marks: &Marks<'_>,
-        context: Context<'a>,
-    ) -> Result<Option<Opened<'a>>, NoMemory>
-        ensures { (around : blocks_spec.Context) (anchors : List Anchor)
+        context: HtmlContext<'a>,
+    ) -> Result<Option<OpenTag<'a>>, NoMemory>
+        ensures { (around : blocks_spec.HtmlContext) (anchors : List Anchor)
             → walk_spec.IsWithin self.old.groups context.entry around
             → words_of tokens.now ≡ elements_spec.tokens_of (walk_spec.element_of element.entry)
             → elements_spec.has_types (walk_spec.element_of element.entry) ≡ true
@@ -181,11 +181,11 @@ impl Page {
         name: &'static str,
         form: Form,
         element: Element<'a>,
-        link: Link<'_>,
+        link: ShownLink<'_>,
         marks: &Marks<'_>,
-        context: Context<'a>,
-    ) -> Result<Opened<'a>, NoMemory>
-        ensures begun { (around : blocks_spec.Context)
+        context: HtmlContext<'a>,
+    ) -> Result<OpenTag<'a>, NoMemory>
+        ensures begun { (around : blocks_spec.HtmlContext)
             → walk_spec.IsWithin self.old.groups context.entry around
             → words_of tokens.now ≡ elements_spec.tokens_of (walk_spec.element_of element.entry)
             → IfOk result (λ opened. opened_spec.IsBegun self.old self.new opened
@@ -215,7 +215,7 @@ impl Page {
         let group = self.enter(alloc, tokens, element, context)?;
         let href = href_within(form, link);
         let is_linked = open_content(&mut self.text, element, link.label, href)?;
-        Ok(Opened {
+        Ok(OpenTag {
             within: context.within(token, element.node, group),
             name: Some(name),
             is_linked,
@@ -228,10 +228,10 @@ impl Page {
         alloc: Global,
         tokens: &[u8],
         element: Element<'a>,
-        link: Link<'_>,
-        context: Context<'a>,
-    ) -> Result<Opened<'a>, NoMemory>
-        ensures begun { (around : blocks_spec.Context)
+        link: ShownLink<'_>,
+        context: HtmlContext<'a>,
+    ) -> Result<OpenTag<'a>, NoMemory>
+        ensures begun { (around : blocks_spec.HtmlContext)
             → walk_spec.IsWithin self.old.groups context.entry around
             → words_of tokens.now ≡ elements_spec.tokens_of (walk_spec.element_of element.entry)
             → IfOk result (λ opened. opened_spec.IsBegun self.old self.new opened
@@ -244,7 +244,7 @@ impl Page {
     {
         let group = self.enter(alloc, tokens, element, context)?;
         let is_linked = open_content(&mut self.text, element, link.label, link.href)?;
-        Ok(Opened {
+        Ok(OpenTag {
             within: context.in_group(group),
             name: None,
             is_linked,
@@ -252,7 +252,7 @@ impl Page {
     }
 
     /// Writes what stands behind the content of an element.
-    pub fn close(&mut self, opened: Opened<'_>) -> Result<(), AllocError>
+    pub fn close(&mut self, opened: OpenTag<'_>) -> Result<(), AllocError>
         ensures text { OnOk result (self.new.text ≡ self.old.text
             ++ opened_spec.closing opened.entry) }
         ensures faults { self.new.faults ≡ self.old.faults }
@@ -283,11 +283,11 @@ impl Page {
         alloc: Global,
         form: Form,
         element: Element<'_>,
-        link: Link<'_>,
+        link: ShownLink<'_>,
         marks: &Marks<'_>,
-        context: Context<'_>,
+        context: HtmlContext<'_>,
     ) -> Result<(), NoMemory>
-        ensures { (around : blocks_spec.Context) → context.entry.topic.now ≡ around.topic
+        ensures { (around : blocks_spec.HtmlContext) → context.entry.topic.now ≡ around.topic
             → OnOk result (opened_spec.HasMore self.old self.new (opened_spec.whole_by around
             (option_copied link.entry.href)
             (blocks_spec.marks_at marks.now.marks.now element.entry.place)
@@ -330,7 +330,7 @@ impl Page {
         alloc: Global,
         tokens: &[u8],
         element: Element<'_>,
-        context: Context<'_>,
+        context: HtmlContext<'_>,
     ) -> Result<Option<usize>, NoMemory>
         ensures kept { OnOk result (KeepsGroups self.old.groups self.new.groups) }
         ensures nearest { (columns : Names)
@@ -391,7 +391,7 @@ fn append_label(out: &mut Text, element: Element<'_>, label: &str) -> Result<(),
 }
 
 // Appends what stands behind the content of an element.
-fn append_closing(out: &mut Text, opened: Opened<'_>) -> Result<(), AllocError>
+fn append_closing(out: &mut Text, opened: OpenTag<'_>) -> Result<(), AllocError>
     ensures { OnOk result (out.new ≡ out.old ++ opened_spec.closing opened.entry) }
 {
     end_link(out, opened.is_linked)?;
@@ -412,7 +412,7 @@ fn end_link(out: &mut Text, is_linked: bool) -> Result<(), AllocError>
 }
 
 // What the link around the content leads to: a reference is a link itself.
-fn href_within(form: Form, link: Link<'_>) -> Option<&str>
+fn href_within(form: Form, link: ShownLink<'_>) -> Option<&str>
     ensures { option_copied result
         ≡ opened_spec.href_within (form_shown_of form) (option_copied link.entry.href) }
 {

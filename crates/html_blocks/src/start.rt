@@ -11,9 +11,9 @@ ghost use Rattle.map_spec.specs.Elements as elements_spec;
 ghost use Rattle.html_spec.specs.Blocks as blocks_spec;
 
 use crate::class::append_class;
-use crate::context::Context;
+use crate::context::HtmlContext;
 use crate::element::Element;
-use crate::link::Link;
+use crate::link::ShownLink;
 use crate::mark::Marks;
 use crate::tags::{append_attribute, append_name, append_span};
 use dita_doc::{Node, Siblings, Text};
@@ -30,11 +30,11 @@ pub(crate) fn append_start(
     name: &str,
     form: Form,
     element: Element<'_>,
-    link: Link<'_>,
+    link: ShownLink<'_>,
     marks: &Marks<'_>,
-    context: Context<'_>,
+    context: HtmlContext<'_>,
 ) -> Result<(), AllocError>
-    ensures { (around : blocks_spec.Context) → walk_spec.IsWithin groups.now context.entry around
+    ensures { (around : blocks_spec.HtmlContext) → walk_spec.IsWithin groups.now context.entry around
         → OnOk result (out.new ≡ out.old ++ opened_spec.start_by around
         (option_copied link.entry.href)
         (blocks_spec.marks_at marks.now.marks.now element.entry.place)
@@ -47,7 +47,7 @@ pub(crate) fn append_start(
 }
 
 // The id of the topic that stands before the id of an element; a topic has none.
-fn topic_before<'a>(form: Form, context: Context<'a>) -> Option<&'a str>
+fn topic_before<'a>(form: Form, context: HtmlContext<'a>) -> Option<&'a str>
     ensures { option_copied result ≡ (if opened_spec.is_topic (form_shown_of form) then None
         else Some context.entry.topic.now) }
 {
@@ -64,10 +64,10 @@ fn append_more(
     groups: &Groups,
     form: Form,
     element: &Node,
-    link: Link<'_>,
-    context: Context<'_>,
+    link: ShownLink<'_>,
+    context: HtmlContext<'_>,
 ) -> Result<(), AllocError>
-    ensures { (name : List ℕ) (around : blocks_spec.Context)
+    ensures { (name : List ℕ) (around : blocks_spec.HtmlContext)
         → HasColumns groups.now context.entry.tables.group around.columns
         → OnOk result (out.new ≡ out.old ++ opened_spec.more_by around
         (option_copied link.entry.href) (elements_walk.element_of name element.now)
@@ -80,7 +80,7 @@ fn append_more(
     }
 }
 
-fn append_href(out: &mut Text, link: Link<'_>) -> Result<(), AllocError>
+fn append_href(out: &mut Text, link: ShownLink<'_>) -> Result<(), AllocError>
     ensures { OnOk result (out.new ≡ out.old ++ blocks_spec.attribute_text (codes "href")
         (option_copied link.entry.href)) }
 {
@@ -96,9 +96,9 @@ fn append_spans(
     out: &mut Text,
     groups: &Groups,
     cell: &Node,
-    context: Context<'_>,
+    context: HtmlContext<'_>,
 ) -> Result<(), AllocError>
-    ensures { (name : List ℕ) (around : blocks_spec.Context)
+    ensures { (name : List ℕ) (around : blocks_spec.HtmlContext)
         → HasColumns groups.now context.entry.tables.group around.columns
         → OnOk result (out.new ≡ out.old
         ++ blocks_spec.spans around (elements_walk.element_of name cell.now)) }
@@ -114,11 +114,11 @@ pub(crate) fn append_image(
     alloc: Global,
     out: &mut Text,
     image: Element<'_>,
-    link: Link<'_>,
+    link: ShownLink<'_>,
     marks: &Marks<'_>,
-    context: Context<'_>,
+    context: HtmlContext<'_>,
 ) -> Result<(), AllocError>
-    ensures { (around : blocks_spec.Context) → context.entry.topic.now ≡ around.topic
+    ensures { (around : blocks_spec.HtmlContext) → context.entry.topic.now ≡ around.topic
         → OnOk result (out.new ≡ out.old ++ opened_spec.image_by around
         (option_copied link.entry.href)
         (blocks_spec.marks_at marks.now.marks.now image.entry.place)
@@ -135,7 +135,7 @@ fn append_file(
     alloc: Global,
     out: &mut Text,
     image: Element<'_>,
-    link: Link<'_>,
+    link: ShownLink<'_>,
 ) -> Result<(), AllocError>
     ensures { OnOk result (out.new ≡ out.old ++ opened_spec.file_text
         (option_copied link.entry.href) (walk_spec.element_of image.entry)

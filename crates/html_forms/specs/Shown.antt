@@ -20,13 +20,13 @@ form_shown_of forms.Left = blocks.Left
 form_shown_of forms.Foreign = blocks.Foreign
 
 -- a token with its form
-abbrev pub Row : Type 0
-Row = Bor (List ℕ) × Form
+abbrev pub FormRow : Type 0
+FormRow = Bor (List ℕ) × Form
 
-abbrev pub row_shown_of : Row → List ℕ × blocks.Form
+abbrev pub row_shown_of : FormRow → List ℕ × blocks.Form
 row_shown_of row = (row.0.now, form_shown_of row.1)
 
-abbrev pub row_found : Option Row → Option (List ℕ × blocks.Form)
+abbrev pub row_found : Option FormRow → Option (List ℕ × blocks.Form)
 row_found row = option_map row_shown_of row
 
 abbrev pub form_found : Option Form → Option blocks.Form

@@ -19,7 +19,7 @@ use Rattle.map_spec.specs.Pages.{page_for}
 use Rattle.map_spec.specs.Target.{is_far, local_file, target_by}
 use Rattle.map_spec.specs.Titles.{first_in, first_of_document, id_of, topics}
 use Rattle.map_spec.specs.Written.{Element, Whole, Written, document}
-use Rattle.html_spec.specs.Anchors.{Added, Here, Lead, Linked, Read, added_all, added_by, added_of, anchors, answer_of, as_file, defined_key, element_links, format_of, fragment, has_form, holds_link, if_defined, image_added, image_by, image_by_href, image_href, image_of, in_topic, is_image, is_link, is_this_page, is_xref, key_faults_of, keyref_of, lead_by_key, lead_of, lead_to, lead_to_page, link_added, link_label, linked_added, linked_of, linked_with, nothing_added, read_as, read_href, scope_of, shows_href, text_of_target, topic_here, topic_or_first}
+use Rattle.html_spec.specs.Anchors.{Added, Here, Lead, Linked, HrefRead, added_all, added_by, added_of, anchors, answer_of, as_file, defined_key, element_links, format_of, fragment, has_form, holds_link, if_defined, image_added, image_by, image_by_href, image_href, image_of, in_topic, is_image, is_link, is_this_page, is_xref, key_faults_of, keyref_of, lead_by_key, lead_of_target, lead_of_document, lead_of_page, link_added, link_label, linked_added, linked_of, linked_with, nothing_added, read_as, read_href, scope_of, shows_href, text_of_target, topic_here, topic_or_first}
 use Rattle.map_spec.specs.Places.{Standing, TopicAt, all_standing, is_topic}
 use Rattle.html_laws.specs.Utf8.{IsUtf8Anchor, IsUtf8Content, IsUtf8Element, IsUtf8Link, IsUtf8Page, IsUtf8Target, IsUtf8World}
 use Rattle.html_laws.proofs.ContentUtf8Laws.{IsUtf8Whole, utf8_attribute_of, utf8_child, utf8_id, utf8_plain, utf8_title_in, utf8_topics}
@@ -41,7 +41,7 @@ LeadsInUtf8 lead = IfSome lead.href IsUtf8
 abbrev IsUtf8Linked : Linked → Type 0
 IsUtf8Linked linked = LeadsInUtf8 linked.lead × IsUtf8 linked.label
 
-abbrev IsUtf8Read : Read → Type 0
+abbrev IsUtf8Read : HrefRead → Type 0
 IsUtf8Read read = IsUtf8Target read.target
 
 abbrev IsUtf8Added : Added → Type 0
@@ -102,7 +102,7 @@ module _ (here : Here) (of_here : IsUtf8Here here) where
   -- Leads
 
   utf8_lead_to_page : (element : Element) (name topic id : List ℕ) (page : Option ℕ) → IsUtf8 topic → IsUtf8 id
-      → LeadsInUtf8 (lead_to_page here element name topic id page)
+      → LeadsInUtf8 (lead_of_page here element name topic id page)
   utf8_lead_to_page element name topic id None first second = tt
   utf8_lead_to_page element name topic id (Some page) first second =
       of_option_map IsUtf8Page IsUtf8
@@ -112,11 +112,12 @@ module _ (here : Here) (of_here : IsUtf8Here here) where
       (of_place IsUtf8Page here.pages page of_here.pages)
 
   utf8_lead_to : (element : Element) (name topic id : List ℕ) → IsUtf8 topic → IsUtf8 id
-      → LeadsInUtf8 (lead_to here element name topic id)
+      → LeadsInUtf8 (lead_of_document here element name topic id)
   utf8_lead_to element name topic id first second =
       utf8_lead_to_page element name topic id (page_for here.pages name here.page.id) first second
 
-  utf8_lead_of : (element : Element) (target : Target) → IsUtf8Target target → LeadsInUtf8 (lead_of here element target)
+  utf8_lead_of : (element : Element) (target : Target) → IsUtf8Target target
+      → LeadsInUtf8 (lead_of_target here element target)
   utf8_lead_of element targets.Nothing is = tt
   utf8_lead_of element (targets.Local name reference) is =
       utf8_lead_to element name reference.topic reference.element is.1 is.2
@@ -223,11 +224,12 @@ module _ (here : Here) (of_here : IsUtf8Here here) where
 
   -- What an element adds
 
-  utf8_image_added : (standing : Standing) (read : Read) → IsUtf8Read read
+  utf8_image_added : (standing : Standing) (read : HrefRead) → IsUtf8Read read
       → IsUtf8Added (image_added here standing read)
   utf8_image_added standing read is = (
     (
-      chosen IsUtf8If (has_form shows_href standing.whole.0) (lead_of here standing.whole.0 read.target).href None
+      chosen IsUtf8If (has_form shows_href standing.whole.0)
+          (lead_of_target here standing.whole.0 read.target).href None
           (utf8_lead_of standing.whole.0 read.target is) tt,
       tt,
     ),

@@ -8,7 +8,7 @@ use Rattle.dita_doc.specs.declared.fact.Html.{Html}
 use Rattle.map_spec.specs.Elements.{has_types}
 use Rattle.map_spec.specs.Titles.{id_of}
 use Rattle.map_spec.specs.Written.{Element, Written, End, Chars, Node, size}
-use Rattle.html_spec.specs.Blocks.{Context, Form, Tag, Topic, Title, Note, Reference, Image, Cell, SimpleCell, Left, Foreign, Overlay, alt_of, attribute_text, body_html, cell_tag, class_at, columns_in, content_or_label, element_shown, form_shown, href_at, id_shown, if_some_text, image_tag, label_at, linked_at, linked_by, note_class, outside, reference_tag, row_for, row_shown, shown_from, span_text, spans, tagged, title_tag, within_type}
+use Rattle.html_spec.specs.Blocks.{HtmlContext, Form, Tag, Topic, Title, Note, Reference, Image, Cell, SimpleCell, Left, Foreign, Overlay, alt_of, attribute_text, body_html, cell_tag, class_at, columns_in, content_or_label, element_shown, form_shown, href_at, id_attribute, if_some_text, image_tag, label_at, linked_at, in_link, note_class, outside, reference_tag, row_for, row_shown, shown_from, span_text, spans, tagged, title_tag, within_type}
 use Rattle.html_spec.specs.Tables.{columns_of, rows_of}
 use Rattle.html_laws.specs.Markup.{IsMarkup, attribute_names, element_names, is_among, void_names}
 use Rattle.html_laws.proofs.FormLaws.{IsKnownRow, has_known_name, row_known, title_name}
@@ -40,7 +40,7 @@ span_by : (name : List ℕ) (count : ℕ) (few : Bool) → nat_le count 1 ≡ fe
 span_by name count true e known = rw e no_attributes
 span_by name count false e known = rw e (attribute_known name (Some (decimal count)) known)
 
-pub spans_known : (context : Context) (element : Element) → AreAttributes (spans context element)
+pub spans_known : (context : HtmlContext) (element : Element) → AreAttributes (spans context element)
 unfolding attribute_names
 spans_known context element =
     attributes_beside (span_text (codes "rowspan") (rows_of element))
@@ -50,30 +50,31 @@ spans_known context element =
 
 -- Elements
 
-tagged_markup : (context : Context) (is_topic : Bool) (element : Element) (name class more : List ℕ) (content : Html)
+tagged_markup : (context : HtmlContext) (is_topic : Bool) (element : Element) (name class more : List ℕ)
+    (content : Html)
     → is_among element_names name ≡ true → AreAttributes more → IsMarkup content.bytes
     → IsMarkup (tagged context is_topic element name class more content).bytes
 tagged_markup context is_topic element name class more content known are within =
     markup_element name
-    (attribute_text (codes "id") (id_shown context is_topic (id_of element))
+    (attribute_text (codes "id") (id_attribute context is_topic (id_of element))
     ++ attribute_text (codes "class") (if_some_text class) ++ more)
     content.bytes known
-    (start_attributes (id_shown context is_topic (id_of element)) (if_some_text class) more are) within
+    (start_attributes (id_attribute context is_topic (id_of element)) (if_some_text class) more are) within
 
-image_markup : (context : Context) (overlay : Overlay) (place : ℕ) (element : Element) (inside : Written)
+image_markup : (context : HtmlContext) (overlay : Overlay) (place : ℕ) (element : Element) (inside : Written)
     → IsMarkup (image_tag context overlay place element inside)
 unfolding void_names attribute_names
 image_markup context overlay place element inside =
     let source = Some (unwrap_or (href_at overlay.anchors place) []) in
     let other = Some (alt_of element inside) in
     markup_void (codes "img") _ refl
-    (start_attributes (id_shown context false (id_of element)) (if_some_text (class_at overlay place []))
+    (start_attributes (id_attribute context false (id_of element)) (if_some_text (class_at overlay place []))
     (attribute_text (codes "src") source ++ attribute_text (codes "alt") other)
     (attributes_beside (attribute_text (codes "src") source) (attribute_text (codes "alt") other)
     (attribute_known (codes "src") source refl) (attribute_known (codes "alt") other refl)))
 
 linked_markup : (href : Option (List ℕ)) (content : Html) → IsMarkup content.bytes
-    → IsMarkup (linked_by href content).bytes
+    → IsMarkup (in_link href content).bytes
 unfolding element_names
 linked_markup None content within = within
 linked_markup (Some href) content within =
@@ -96,7 +97,7 @@ unfolding element_names
 reference_name None = refl
 reference_name (Some href) = refl
 
-form_markup : (context : Context) (overlay : Overlay) (place : ℕ) (element : Element) (inside : Written)
+form_markup : (context : HtmlContext) (overlay : Overlay) (place : ℕ) (element : Element) (inside : Written)
     (content : Html) (form : Form) → has_known_name form ≡ true → IsMarkup content.bytes
     → IsMarkup (form_shown context overlay place element inside content form).bytes
 unfolding element_names
@@ -135,9 +136,9 @@ form_markup context overlay place element inside content SimpleCell known within
 form_markup context overlay place element inside content Left known within = markup_none
 form_markup context overlay place element inside content Foreign known within = markup_none
 
-row_markup : (context : Context) (overlay : Overlay) (place : ℕ) (element : Element) (inside : Written)
-    (content : Context → Html) (row : Option (List ℕ × Form)) → IfSome row IsKnownRow
-    → ((within : Context) → IsMarkup (content within).bytes)
+row_markup : (context : HtmlContext) (overlay : Overlay) (place : ℕ) (element : Element) (inside : Written)
+    (content : HtmlContext → Html) (row : Option (List ℕ × Form)) → IfSome row IsKnownRow
+    → ((within : HtmlContext) → IsMarkup (content within).bytes)
     → IsMarkup (row_shown context overlay place element inside content row).bytes
 row_markup context overlay place element inside content None known each =
     let context_in = columns_in element inside context in
@@ -149,9 +150,9 @@ row_markup context overlay place element inside content (Some row) known each =
     row.1
     known (label_markup overlay.anchors place inside (content context_in) (each context_in))
 
-element_markup : (context : Context) (overlay : Overlay) (place : ℕ) (element : Element) (inside : Written)
-    (content : Context → Html) (typed : Bool) → has_types element ≡ typed
-    → ((within : Context) → IsMarkup (content within).bytes)
+element_markup : (context : HtmlContext) (overlay : Overlay) (place : ℕ) (element : Element) (inside : Written)
+    (content : HtmlContext → Html) (typed : Bool) → has_types element ≡ typed
+    → ((within : HtmlContext) → IsMarkup (content within).bytes)
     → IsMarkup (element_shown context overlay place element inside content).bytes
 element_markup context overlay place element inside content true e each =
     rw e (row_markup context overlay place element inside content (row_for element) (row_known element) each)
@@ -159,14 +160,14 @@ element_markup context overlay place element inside content false e each = rw e 
 
 -- Content
 
-nodes_markup : (context : Context) (overlay : Overlay) (place : ℕ) (nodes : Written)
+nodes_markup : (context : HtmlContext) (overlay : Overlay) (place : ℕ) (nodes : Written)
     → IsMarkup (shown_from context overlay place nodes).bytes
 nodes_markup context overlay place End = markup_none
 nodes_markup context overlay place (Chars text doc rest) =
     markup_beside _ (shown_from context overlay (place + 1) rest).bytes (markup_text text)
     (nodes_markup context overlay (place + 1) rest)
 nodes_markup context overlay place (Node element inside rest) =
-    let content = λ (within : Context). shown_from within overlay (place + 1) inside in
+    let content = λ (within : HtmlContext). shown_from within overlay (place + 1) inside in
     markup_beside (element_shown context overlay place element inside content).bytes
     (shown_from context overlay (place + 1 + size inside) rest).bytes
     (element_markup context overlay place element inside content (has_types element) refl

@@ -7,8 +7,8 @@ use Rattle.dita_doc.specs.declared.fact.Html.{Html}
 use Rattle.map_spec.specs.Elements.{attribute, has_types, is_a, is_transparent, is_whole, without_transparent}
 use Rattle.map_spec.specs.Titles.{id_of}
 use Rattle.map_spec.specs.Written.{Element, Whole, Written, End, Chars, Node, side_by_side, siblings, size}
-use Rattle.html_spec.specs.Blocks.{Context, Form, Tag, Topic, Title, Note, Reference, Image, Cell, SimpleCell, Left, Foreign, Overlay, alt_of, attribute_text, body_html, cell_tag, class_at, columns_in, content_or_label, element_shown, form_shown, href_at, id_shown, if_some_text, image_tag, label_at, linked_at, linked_by, note_class, outside, reference_tag, row_for, row_shown, shown_from, spans, tagged, title_tag, within_type}
-use Rattle.html_spec.specs.Tables.{column_names, is_group}
+use Rattle.html_spec.specs.Blocks.{HtmlContext, Form, Tag, Topic, Title, Note, Reference, Image, Cell, SimpleCell, Left, Foreign, Overlay, alt_of, attribute_text, body_html, cell_tag, class_at, columns_in, content_or_label, element_shown, form_shown, href_at, id_attribute, if_some_text, image_tag, label_at, linked_at, in_link, note_class, outside, reference_tag, row_for, row_shown, shown_from, spans, tagged, title_tag, within_type}
+use Rattle.html_spec.specs.Tables.{column_names, is_column_group}
 use Rattle.html_laws.specs.Markup.{attribute_names, element_names, is_among, void_names}
 use Rattle.html_laws.specs.Tags.{HaveSameTags, with_texts}
 use Rattle.html_laws.proofs.BlocksLaws.{cell_name, href_known, reference_name, spans_known, start_attributes}
@@ -107,10 +107,11 @@ columns_same texts place inside =
     names_are (siblings (without_transparent (with_texts texts place inside)))
     ∙ ap names_by (heads_same texts place inside) ∙ sym (names_are (siblings (without_transparent inside)))
 
-context_same : (texts : ℕ → List ℕ) (place : ℕ) (element : Element) (inside : Written) (context : Context)
+context_same : (texts : ℕ → List ℕ) (place : ℕ) (element : Element) (inside : Written) (context : HtmlContext)
     → columns_in element (with_texts texts place inside) context ≡ columns_in element inside context
 context_same texts place element inside context =
-    ap (λ (names : List (Option (List ℕ))). if is_group element then record context { columns = names } else context)
+    ap (λ (names : List (Option (List ℕ))). if is_column_group element then record context { columns = names } else
+    context)
     (columns_same texts place inside)
 
 -- Elements
@@ -118,18 +119,18 @@ context_same texts place element inside context =
 abbrev AreAlike : Html → Html → Type 0
 AreAlike content other = HaveSameTags content.bytes other.bytes
 
-tagged_alike : (context : Context) (is_topic : Bool) (element : Element) (name class more : List ℕ) (content other : Html)
+tagged_alike : (context : HtmlContext) (is_topic : Bool) (element : Element) (name class more : List ℕ) (content other : Html)
     → is_among element_names name ≡ true → AreAttributes more → AreAlike content other
     → AreAlike (tagged context is_topic element name class more content)
     (tagged context is_topic element name class more other)
 tagged_alike context is_topic element name class more content other known are is =
-    let attributes = attribute_text (codes "id") (id_shown context is_topic (id_of element))
+    let attributes = attribute_text (codes "id") (id_attribute context is_topic (id_of element))
     ++ attribute_text (codes "class") (if_some_text class) ++ more in
     element_alike name attributes attributes content.bytes other.bytes known
-    (same_names attributes (start_attributes (id_shown context is_topic (id_of element)) (if_some_text class) more are)) is
+    (same_names attributes (start_attributes (id_attribute context is_topic (id_of element)) (if_some_text class) more are)) is
 
 linked_alike : (href : Option (List ℕ)) (content other : Html) → AreAlike content other
-    → AreAlike (linked_by href content) (linked_by href other)
+    → AreAlike (in_link href content) (in_link href other)
 unfolding element_names
 linked_alike None content other is = is
 linked_alike (Some href) content other is =
@@ -137,12 +138,12 @@ linked_alike (Some href) content other is =
     element_alike (codes "a") attributes attributes content.bytes other.bytes refl
     (same_names attributes (href_known (Some href))) is
 
-image_alike : (context : Context) (overlay : Overlay) (place : ℕ) (element : Element) (inside within : Written)
+image_alike : (context : HtmlContext) (overlay : Overlay) (place : ℕ) (element : Element) (inside within : Written)
     → HaveSameTags (image_tag context overlay place element inside) (image_tag context overlay place element within)
 unfolding void_names attribute_names
 image_alike context overlay place element inside within =
     let class = class_at overlay place [] in
-    let id = id_shown context false (id_of element) in
+    let id = id_attribute context false (id_of element) in
     let front = attribute_text (codes "id") id ++ attribute_text (codes "class") (if_some_text class) in
     let source = attribute_text (codes "src") (Some (unwrap_or (href_at overlay.anchors place) [])) in
     let first = attribute_text (codes "alt") (Some (alt_of element inside)) in
@@ -165,7 +166,7 @@ label_alike texts anchors place (Chars text doc rest) content other is = is
 label_alike texts anchors place (Node element inside rest) content other is = is
 
 module _ (texts : ℕ → List ℕ) (overlay : Overlay) where
-  form_alike : (context : Context) (place : ℕ) (element : Element) (inside within : Written) (content other : Html)
+  form_alike : (context : HtmlContext) (place : ℕ) (element : Element) (inside within : Written) (content other : Html)
       (form : Form) → has_known_name form ≡ true → AreAlike content other
       → AreAlike (form_shown context overlay place element inside content form)
       (form_shown context overlay place element within other form)
@@ -208,10 +209,11 @@ module _ (texts : ℕ → List ℕ) (overlay : Overlay) where
   form_alike context place element inside within content other Left known is = itself_alike [] markup_none
   form_alike context place element inside within content other Foreign known is = itself_alike [] markup_none
 
-  abbrev AreAlikeIn : (Context → Html) → (Context → Html) → Type 0
-  AreAlikeIn content other = (within : Context) → AreAlike (content within) (other within)
+  abbrev AreAlikeIn : (HtmlContext → Html) → (HtmlContext → Html) → Type 0
+  AreAlikeIn content other = (within : HtmlContext) → AreAlike (content within) (other within)
 
-  row_alike : (context : Context) (place : ℕ) (element : Element) (inside : Written) (content other : Context → Html)
+  row_alike : (context : HtmlContext) (place : ℕ) (element : Element) (inside : Written)
+      (content other : HtmlContext → Html)
       (row : Option (List ℕ × Form)) → IfSome row IsKnownRow → AreAlikeIn content other
       → AreAlike (row_shown context overlay place element inside content row)
       (row_shown context overlay place element (with_texts texts (place + 1) inside) other row)
@@ -221,7 +223,7 @@ module _ (texts : ℕ → List ℕ) (overlay : Overlay) where
       linked_alike (href_at overlay.anchors place) (content_or_label overlay.anchors place inside (content here))
       (content_or_label overlay.anchors place (with_texts texts (place + 1) inside) (other there))
       (label_alike texts overlay.anchors place inside (content here) (other there)
-      (subst (λ (found : Context). AreAlike (content here) (other found))
+      (subst (λ (found : HtmlContext). AreAlike (content here) (other found))
       (sym (context_same texts (place + 1) element inside context)) (each here)))
   row_alike context place element inside content other (Some row) known each =
       let typed = within_type row.0 element context in
@@ -231,10 +233,11 @@ module _ (texts : ℕ → List ℕ) (overlay : Overlay) where
       (content_or_label overlay.anchors place inside (content here))
       (content_or_label overlay.anchors place (with_texts texts (place + 1) inside) (other there)) row.1 known
       (label_alike texts overlay.anchors place inside (content here) (other there)
-      (subst (λ (found : Context). AreAlike (content here) (other found))
+      (subst (λ (found : HtmlContext). AreAlike (content here) (other found))
       (sym (context_same texts (place + 1) element inside typed)) (each here)))
 
-  element_tags : (context : Context) (place : ℕ) (element : Element) (inside : Written) (content other : Context → Html)
+  element_tags : (context : HtmlContext) (place : ℕ) (element : Element) (inside : Written)
+      (content other : HtmlContext → Html)
       (typed : Bool) → has_types element ≡ typed → AreAlikeIn content other
       → AreAlike (element_shown context overlay place element inside content)
       (element_shown context overlay place element (with_texts texts (place + 1) inside) other)
@@ -242,7 +245,7 @@ module _ (texts : ℕ → List ℕ) (overlay : Overlay) where
       rw e (row_alike context place element inside content other (row_for element) (row_known element) each)
   element_tags context place element inside content other false e each = rw e (each context)
 
-  nodes_alike : (context : Context) (place : ℕ) (nodes : Written)
+  nodes_alike : (context : HtmlContext) (place : ℕ) (nodes : Written)
       → AreAlike (shown_from context overlay place nodes)
       (shown_from context overlay place (with_texts texts place nodes))
   nodes_alike context place End = itself_alike [] markup_none
@@ -254,8 +257,8 @@ module _ (texts : ℕ → List ℕ) (overlay : Overlay) where
       let inside_too = with_texts texts (place + 1) inside in
       let next = place + 1 + size inside in
       let rest_too = with_texts texts next rest in
-      let content = λ (within : Context). shown_from within overlay (place + 1) inside in
-      let other = λ (within : Context). shown_from within overlay (place + 1) inside_too in
+      let content = λ (within : HtmlContext). shown_from within overlay (place + 1) inside in
+      let other = λ (within : HtmlContext). shown_from within overlay (place + 1) inside_too in
       let size_is : size inside_too ≡ size inside = size_same texts (place + 1) inside in
       let behind = subst (λ count. AreAlike (shown_from context overlay next rest)
       (shown_from context overlay (place + 1 + count) rest_too)) (sym size_is) (nodes_alike context next rest) in

@@ -13,8 +13,8 @@ use Rattle.dita_doc.specs.declared.fact.Html.{Html}
 use Rattle.map_spec.specs.Elements.{attribute, first_child, has_types, text_of}
 use Rattle.map_spec.specs.Titles.{id_of}
 use Rattle.map_spec.specs.Written.{Element, Written, End, Chars, Node, size}
-use Rattle.html_spec.specs.Blocks.{Context, Form, Tag, Topic, Title, Note, Reference, Image, Cell, SimpleCell, Left, Foreign, Overlay, alt_of, anchor_at, attribute_text, body_html, cell_tag, class_at, columns_in, content_or_label, element_shown, end_tag, form_shown, href_at, id_shown, if_some_text, image_tag, is_anchor_at, is_mark_at, is_type, label_at, linked_at, linked_by, marks_at, note_class, outside, reference_tag, row_for, row_shown, shown_from, span_text, spaced, spans, start_of, start_tag, tagged, title_tag, within_type}
-use Rattle.html_spec.specs.Tables.{column_names, columns_of, is_group, rows_of}
+use Rattle.html_spec.specs.Blocks.{HtmlContext, Form, Tag, Topic, Title, Note, Reference, Image, Cell, SimpleCell, Left, Foreign, Overlay, alt_of, anchor_at, attribute_text, body_html, cell_tag, class_at, columns_in, content_or_label, element_shown, end_tag, form_shown, href_at, id_attribute, if_some_text, image_tag, is_anchor_at, is_mark_at, is_type, label_at, linked_at, in_link, marks_at, note_class, outside, reference_tag, row_for, row_shown, shown_from, span_text, spaced, spans, start_of, start_tag, tagged, title_tag, within_type}
+use Rattle.html_spec.specs.Tables.{column_names, columns_of, is_column_group, rows_of}
 use Rattle.html_laws.specs.Utf8.{IsUtf8Anchor, IsUtf8Content, IsUtf8Mark}
 use Rattle.html_laws.proofs.BlocksLaws.{cell_name, reference_name}
 use Rattle.html_laws.proofs.ContentUtf8Laws.{HasUtf8Values, utf8_attribute_of, utf8_child, utf8_id, utf8_text_of}
@@ -29,19 +29,19 @@ utf8_some_text : (text : List ℕ) → IsUtf8 text → IfSome (if_some_text text
 utf8_some_text [] first = tt
 utf8_some_text (b ∷ text) first = first
 
-utf8_id_shown : (context : Context) (is_topic : Bool) (id : List ℕ) → IsUtf8 context.topic → IsUtf8 id
-    → IfSome (id_shown context is_topic id) IsUtf8
+utf8_id_shown : (context : HtmlContext) (is_topic : Bool) (id : List ℕ) → IsUtf8 context.topic → IsUtf8 id
+    → IfSome (id_attribute context is_topic id) IsUtf8
 utf8_id_shown context is_topic [] topic first = tt
 utf8_id_shown context true (b ∷ id) topic first = first
 utf8_id_shown context false (b ∷ id) topic first =
     utf8_three context.topic (codes "__") (b ∷ id) topic (utf8_codes (codes "__") refl) first
 
 -- what an element begins with
-utf8_start_of : (context : Context) (is_topic : Bool) (element : Element) (name class more : List ℕ)
+utf8_start_of : (context : HtmlContext) (is_topic : Bool) (element : Element) (name class more : List ℕ)
     → IsUtf8 context.topic → HasUtf8Values element → IsUtf8 name → IsUtf8 class → IsUtf8 more
     → IsUtf8 (start_of context is_topic element name class more)
 utf8_start_of context is_topic element name class more topic values named classed others =
-    let id = id_shown context is_topic (id_of element) in
+    let id = id_attribute context is_topic (id_of element) in
     let class_is = if_some_text class in
     utf8_start name (attribute_text (codes "id") id ++ attribute_text (codes "class") class_is ++ more) named
     (utf8_three (attribute_text (codes "id") id) (attribute_text (codes "class") class_is) more
@@ -53,7 +53,7 @@ utf8_span : (name : List ℕ) (count : ℕ) → IsUtf8 name → IsUtf8 (span_tex
 utf8_span name count named = chosen IsUtf8 (nat_le count 1) [] (attribute_text name (Some (decimal count))) IsUtf8-nil
     (utf8_attribute name (Some (decimal count)) named (utf8_decimal count))
 
-utf8_spans : (context : Context) (element : Element) → IsUtf8 (spans context element)
+utf8_spans : (context : HtmlContext) (element : Element) → IsUtf8 (spans context element)
 utf8_spans context element =
     IsUtf8-append (span_text (codes "rowspan") (rows_of element))
     (span_text (codes "colspan") (columns_of context.columns element))
@@ -115,14 +115,14 @@ utf8_href_text : (href : Option (List ℕ)) → IfSome href IsUtf8 → IsUtf8 (a
 utf8_href_text href is = utf8_attribute (codes "href") href (utf8_codes (codes "href") refl) is
 
 utf8_linked : (href : Option (List ℕ)) (content : Html) → IfSome href IsUtf8 → IsUtf8 content.bytes
-    → IsUtf8 (linked_by href content).bytes
+    → IsUtf8 (in_link href content).bytes
 utf8_linked None content is within = within
 utf8_linked (Some href) content is within =
     utf8_three (start_tag (codes "a") (attribute_text (codes "href") (Some href))) content.bytes (end_tag (codes "a"))
     (utf8_start (codes "a") (attribute_text (codes "href") (Some href)) (utf8_codes (codes "a") refl)
     (utf8_href_text (Some href) is)) within (utf8_end (codes "a") (utf8_codes (codes "a") refl))
 
-utf8_tagged : (context : Context) (is_topic : Bool) (element : Element) (name class more : List ℕ) (content : Html)
+utf8_tagged : (context : HtmlContext) (is_topic : Bool) (element : Element) (name class more : List ℕ) (content : Html)
     → IsUtf8 context.topic → HasUtf8Values element → IsUtf8 name → IsUtf8 class → IsUtf8 more → IsUtf8 content.bytes
     → IsUtf8 (tagged context is_topic element name class more content).bytes
 utf8_tagged context is_topic element name class more content topic values named classed others within =
@@ -147,7 +147,7 @@ utf8_alt element inside values all =
     (utf8_attribute_of (codes "alt") element values)
     (utf8_text_of (first_child (codes "topic/alt") inside) (utf8_child (codes "topic/alt") inside all))
 
-utf8_image : (context : Context) (overlay : Overlay) (place : ℕ) (element : Element) (inside : Written)
+utf8_image : (context : HtmlContext) (overlay : Overlay) (place : ℕ) (element : Element) (inside : Written)
     → IsUtf8 context.topic → HasUtf8Values element → IsUtf8Content inside → IsUtf8Overlay overlay
     → IsUtf8 (image_tag context overlay place element inside)
 utf8_image context overlay place element inside topic values all known =
@@ -161,7 +161,7 @@ utf8_image context overlay place element inside topic values all known =
     (of_option IsUtf8 (href_at overlay.anchors place) [] (utf8_href overlay.anchors known.0 place) IsUtf8-nil))
     (utf8_attribute (codes "alt") other (utf8_codes (codes "alt") refl) (utf8_alt element inside values all)))
 
-module _ (context : Context) (overlay : Overlay) (place : ℕ) (element : Element) (inside : Written)
+module _ (context : HtmlContext) (overlay : Overlay) (place : ℕ) (element : Element) (inside : Written)
     (content : Html) (topic : IsUtf8 context.topic) (known : IsUtf8Overlay overlay)
     (values : HasUtf8Values element) (all : IsUtf8Content inside) (within : IsUtf8 content.bytes) where
   around_link : (is_topic : Bool) (name class more : List ℕ) → IsUtf8 name → IsUtf8 class → IsUtf8 more → IsUtf8
@@ -203,25 +203,25 @@ module _ (context : Context) (overlay : Overlay) (place : ℕ) (element : Elemen
 
 -- Contexts: the id of the nearest topic stays UTF-8
 
-abbrev HasUtf8Topic : Context → Type 0
+abbrev HasUtf8Topic : HtmlContext → Type 0
 HasUtf8Topic context = IsUtf8 context.topic
 
-columns_topic : (element : Element) (inside : Written) (context : Context) → HasUtf8Topic context
+columns_topic : (element : Element) (inside : Written) (context : HtmlContext) → HasUtf8Topic context
     → HasUtf8Topic (columns_in element inside context)
 columns_topic element inside context topic =
-    chosen HasUtf8Topic (is_group element) (record context { columns = column_names inside }) context topic topic
+    chosen HasUtf8Topic (is_column_group element) (record context { columns = column_names inside }) context topic topic
 
-within_topic : (token : List ℕ) (element : Element) (context : Context) → HasUtf8Values element
+within_topic : (token : List ℕ) (element : Element) (context : HtmlContext) → HasUtf8Values element
     → HasUtf8Topic context → HasUtf8Topic (within_type token element context)
 within_topic token element context values topic =
     chosen HasUtf8Topic (is_type (codes "topic") token)
     (record context { topic = id_of element; depth = context.depth + 1 }) context (utf8_id element values) topic
 
-abbrev IsUtf8Within : (Context → Html) → Type 0
-IsUtf8Within content = (within : Context) → HasUtf8Topic within → IsUtf8 (content within).bytes
+abbrev IsUtf8Within : (HtmlContext → Html) → Type 0
+IsUtf8Within content = (within : HtmlContext) → HasUtf8Topic within → IsUtf8 (content within).bytes
 
-utf8_row : (context : Context) (overlay : Overlay) (place : ℕ) (element : Element) (inside : Written)
-    (content : Context → Html) (row : Option (List ℕ × Form)) → IfSome row IsUtf8Row → HasUtf8Topic context
+utf8_row : (context : HtmlContext) (overlay : Overlay) (place : ℕ) (element : Element) (inside : Written)
+    (content : HtmlContext → Html) (row : Option (List ℕ × Form)) → IfSome row IsUtf8Row → HasUtf8Topic context
     → IsUtf8Overlay overlay → HasUtf8Values element → IsUtf8Content inside → IsUtf8Within content
     → IsUtf8 (row_shown context overlay place element inside content row).bytes
 utf8_row context overlay place element inside content None is topic known values all each =
@@ -240,8 +240,8 @@ utf8_row context overlay place element inside content (Some row) is topic known 
     (columns_topic element inside (within_type row.0 element context) (within_topic row.0 element context values topic))))
     row.1 is
 
-utf8_element : (context : Context) (overlay : Overlay) (place : ℕ) (element : Element) (inside : Written)
-    (content : Context → Html) (typed : Bool) → has_types element ≡ typed → HasUtf8Topic context
+utf8_element : (context : HtmlContext) (overlay : Overlay) (place : ℕ) (element : Element) (inside : Written)
+    (content : HtmlContext → Html) (typed : Bool) → has_types element ≡ typed → HasUtf8Topic context
     → IsUtf8Overlay overlay → HasUtf8Values element → IsUtf8Content inside → IsUtf8Within content
     → IsUtf8 (element_shown context overlay place element inside content).bytes
 utf8_element context overlay place element inside content true e topic known values all each =
@@ -252,7 +252,7 @@ utf8_element context overlay place element inside content false e topic known va
 
 -- Content
 
-utf8_nodes : (context : Context) (overlay : Overlay) (place : ℕ) (nodes : Written) → HasUtf8Topic context
+utf8_nodes : (context : HtmlContext) (overlay : Overlay) (place : ℕ) (nodes : Written) → HasUtf8Topic context
     → IsUtf8Overlay overlay → IsUtf8Content nodes
     → IsUtf8 (shown_from context overlay place nodes).bytes
 utf8_nodes context overlay place End topic known all = IsUtf8-nil
@@ -260,7 +260,7 @@ utf8_nodes context overlay place (Chars text doc rest) topic known all =
     IsUtf8-append (escaped text) (shown_from context overlay (place + 1) rest).bytes (utf8_escaped text all.0)
     (utf8_nodes context overlay (place + 1) rest topic known all.1)
 utf8_nodes context overlay place (Node element inside rest) topic known all =
-    let content = λ (within : Context). shown_from within overlay (place + 1) inside in
+    let content = λ (within : HtmlContext). shown_from within overlay (place + 1) inside in
     IsUtf8-append (element_shown context overlay place element inside content).bytes
     (shown_from context overlay (place + 1 + size inside) rest).bytes
     (utf8_element context overlay place element inside content (has_types element) refl topic known all.0.0 all.1

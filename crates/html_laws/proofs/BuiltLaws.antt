@@ -25,7 +25,7 @@ use Rattle.html_spec.specs.Anchors.{anchor_faults, anchors, element_links}
 use Rattle.html_spec.specs.Blocks.{body_html}
 use Rattle.conref_spec.specs.Content.{Made}
 use Rattle.link_spec.specs.Links.{row_faults}
-use Rattle.part_spec.specs.Parts.{Rooms, build_by, build_of, clean_build, content_of_root, contents_part, here_of, links_of, marks_in, names_of, page_of_root, page_part, page_parts, page_rules, no_html, page_with, pages_with, parts_of, rooms, total_limit, total_of}
+use Rattle.part_spec.specs.Parts.{Rooms, build_by, build_of, clean_build, content_of_root, contents_part, here_of, all_page_links, marks_in, names_of_pages, page_of_root, page_part, page_parts, page_rules, no_html, page_with, pages_with, parts_of, rooms, total_limit, total_of}
 use Rattle.html_laws.specs.Markup.{IsPage}
 use Rattle.html_laws.proofs.BlocksLaws.{body_markup}
 use Rattle.html_laws.proofs.ContentsLaws.{contents_is_page}
@@ -124,7 +124,7 @@ module _ (room : Rooms) (world : World) (plan : Plan) (val : Option (List ℕ)) 
       let body = body_html (anchors here made.nodes) (marks_in rules made) made.nodes in
       page_is_page room.bytes root.0.doc root.0.line (title_in world page.id.doc [])
       (record { bytes = body.bytes; faults = made.faults ++ anchor_faults here made.nodes ++ body.faults ++ row_faults plan })
-      (links_of world plan index (element_links here made.nodes))
+      (all_page_links world plan index (element_links here made.nodes))
       (body_markup (anchors here made.nodes) (marks_in rules made) made.nodes)
 
   root_is_page : (index : ℕ) (page : PagePlan) (root : Option Whole) → IsThere root
@@ -178,7 +178,7 @@ done_if false total made pages found report e = absurd (cc)
 
 -- a build that is done has the pages of its parts
 pub done_pages : (limit : ℕ) (plan : Plan) (parts : List Html) (pages : List Page) (report : List Fault)
-    → build_of limit plan parts ≡ Done pages report → pages_with (names_of plan) parts ≡ pages
+    → build_of limit plan parts ≡ Done pages report → pages_with (names_of_pages plan) parts ≡ pages
 done_pages limit plan parts pages report e =
     done_if (nat_le (total_of parts) limit) _ _ pages _ report e
 
@@ -193,8 +193,8 @@ built_by world map val pages report (Ok plan) e is =
     subst (AllByRecursion kind) (sym known.are) (page_kinds world known.nodes) in
     let parts = parts_of rooms world plan val in
     subst (All IsPageHere) (done_pages total_limit plan parts pages report is)
-    (All-from_recursion IsPageHere (pages_with (names_of plan) parts)
-    (with_names (names_of plan) parts (parts_are_pages rooms world plan val kinds_are)))
+    (All-from_recursion IsPageHere (pages_with (names_of_pages plan) parts)
+    (with_names (names_of_pages plan) parts (parts_are_pages rooms world plan val kinds_are)))
 
 pub build_is_pages : (world : World) (map : List ℕ) (val : Option (List ℕ)) (pages : List Page) (report : List Fault)
     → clean_build world map val ≡ Done pages report → All IsPageHere pages

@@ -29,7 +29,7 @@ use Rattle.html_spec.specs.Anchors.{anchor_faults, anchors, element_links}
 use Rattle.html_spec.specs.Blocks.{body_html}
 use Rattle.conref_spec.specs.Content.{nothing_made}
 use Rattle.link_spec.specs.Links.{row_faults}
-use Rattle.part_spec.specs.Parts.{Rooms, build_by, clean_build, clean_terms, content_of_root, contents_part, here_of, links_of, marks_in, names_of, no_html, page_content, page_of_root, page_part, page_parts, page_rules, page_terms, page_titles, pages_with, parts_of, rooms, setting_of, terms_by, terms_in, terms_part, too_many, total_limit, total_of}
+use Rattle.part_spec.specs.Parts.{Rooms, build_by, clean_build, clean_terms, content_of_root, contents_part, here_of, all_page_links, marks_in, names_of_pages, no_html, page_content, page_of_root, page_part, page_parts, page_rules, page_terms, page_titles, pages_with, parts_of, rooms, setting_of, terms_by, terms_in, terms_part, too_many, total_limit, total_of}
 use Rattle.html_laws.specs.Utf8.{IsUtf8Node, IsUtf8Page, IsUtf8Plan, IsUtf8World}
 use Rattle.html_laws.proofs.AnchorUtf8Laws.{IsUtf8Here, utf8_anchors, utf8_element_links}
 use Rattle.html_laws.proofs.BlocksUtf8Laws.{body_utf8}
@@ -157,7 +157,7 @@ module _ (room : Rooms) (world : World) (plan : Plan) (val : Option (List ℕ)) 
       let body = body_html (anchors here made.nodes) marks made.nodes in
       page_utf8 room.bytes root.0.doc root.0.line (title_in world page.id.doc [])
       (record { bytes = body.bytes; faults = made.faults ++ anchor_faults here made.nodes ++ body.faults ++ row_faults plan })
-      (links_of world plan index (element_links here made.nodes)) (utf8_title_in world page.id.doc [] all is.0)
+      (all_page_links world plan index (element_links here made.nodes)) (utf8_title_in world page.id.doc [] all is.0)
       (body_utf8 (anchors here made.nodes) marks made.nodes (utf8_anchors here here_is made.nodes made_is.0)
       (utf8_marks rules made.declared made.nodes made_is.1 made_is.0) made_is.0)
       (utf8_links_of world plan all of_plan.pages index (element_links here made.nodes)
@@ -226,8 +226,8 @@ utf8_built_by world val pages report (Err stop) all planned is = absurd (cc)
 utf8_built_by world val pages report (Ok plan) all planned is =
     let parts = parts_of rooms world plan val in
     subst (All HasUtf8Bytes) (done_pages total_limit plan parts pages report is)
-    (All-from_recursion HasUtf8Bytes (pages_with (names_of plan) parts)
-    (utf8_with_names (names_of plan) parts (utf8_parts rooms world plan val all planned)))
+    (All-from_recursion HasUtf8Bytes (pages_with (names_of_pages plan) parts)
+    (utf8_with_names (names_of_pages plan) parts (utf8_parts rooms world plan val all planned)))
 
 pub build_utf8 : (world : World) (map : List ℕ) (val : Option (List ℕ)) (pages : List Page) (report : List Fault)
     → IsUtf8World world → IsUtf8 map → clean_build world map val ≡ Done pages report → All HasUtf8Bytes pages

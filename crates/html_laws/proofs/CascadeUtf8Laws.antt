@@ -10,7 +10,7 @@ use Rattle.dita_doc.specs.declared.plan.PlanNode.{PlanNode}
 use Rattle.dita_doc.proofs.Utf8Laws.{utf8_cons}
 use Rattle.ditaval_rules.specs.Verdict.{conditional_names, is_grouped}
 use Rattle.reader_spec.specs.World.{World}
-use Rattle.map_spec.specs.Cascade.{attribute_at, cascaded, cascaded_from, cascaded_on, cascaded_value, default_of, if_not_grouped, is_in_table, merged, merges, named_tokens, nearest, nearest_names, own_tokens, passed, places_up, spaced, stays_behind, stops_at, tokens_on, walk, with_new}
+use Rattle.map_spec.specs.Cascade.{attribute_at, cascaded, cascaded_from, cascaded_on, cascaded_value, default_of, if_not_grouped, is_in_table, merged_tokens, merges, named_tokens, nearest, nearest_names, own_tokens, passed, places_up, spaced, stays_behind, stops_at, tokens_on, walk, with_new}
 use Rattle.map_spec.specs.Scopes.{scoped_from}
 use Rattle.html_laws.specs.Utf8.{HasUtf8Value, IsUtf8Node, IsUtf8World}
 use Rattle.html_laws.proofs.ContentUtf8Laws.{utf8_attribute_at}
@@ -34,7 +34,7 @@ abbrev AreUtf8Tokens : Option (List (List ℕ)) → Type 0
 AreUtf8Tokens tokens = IfSome tokens (AllByRecursion IsUtf8)
 
 utf8_merged : (merges : Bool) (own : Option (List (List ℕ))) (tokens : List (List ℕ)) → AreUtf8Tokens own
-    → AllByRecursion IsUtf8 tokens → AllByRecursion IsUtf8 (merged merges own tokens)
+    → AllByRecursion IsUtf8 tokens → AllByRecursion IsUtf8 (merged_tokens merges own tokens)
 utf8_merged merges None tokens first second = second
 utf8_merged true (Some own) tokens first second = utf8_with_new tokens own second first
 utf8_merged false (Some own) tokens first second = first

@@ -122,20 +122,20 @@ pub utf8_topics : (nodes : Written) → IsUtf8Content nodes → AllByRecursion I
 utf8_topics nodes all =
     of_kept IsUtf8Whole (is_whole (codes "topic/topic")) (elements_below nodes) (utf8_elements nodes all)
 
-abbrev IsUtf8If : Option Whole → Type 0
-IsUtf8If whole = IfSome whole IsUtf8Whole
+abbrev pub IsUtf8Root : Option Whole → Type 0
+IsUtf8Root root = IfSome root IsUtf8Whole
 
 utf8_title : (name topic : List ℕ) (all : List Whole) → IsUtf8 name → AllByRecursion IsUtf8Whole all
     → IsUtf8 (title_among name topic all)
 utf8_title name topic all named each =
     let wholes : List (Option Whole) = topic_named topic all ∷ slice_get all 0 ∷ [] in
-    let topic_is : IsUtf8If (topic_named topic all) =
-    chosen IsUtf8If (length topic == 0) None (find (has_id topic) all) tt
+    let topic_is : IsUtf8Root (topic_named topic all) =
+    chosen IsUtf8Root (length topic == 0) None (find (has_id topic) all) tt
     (of_found IsUtf8Whole (has_id topic) all each) in
     let titles : List (List ℕ) = filter_map (option_map title_of_topic) wholes in
     utf8_first (titles ++ name ∷ [])
     (of_both IsUtf8 titles (name ∷ [])
-    (of_filter_map IsUtf8If IsUtf8 (option_map title_of_topic) wholes
+    (of_filter_map IsUtf8Root IsUtf8 (option_map title_of_topic) wholes
     (λ whole is. of_option_map IsUtf8Whole IsUtf8 title_of_topic whole utf8_title_of_topic is)
     (topic_is, (of_place IsUtf8Whole all 0 each, tt))) (named, tt))
 
@@ -150,14 +150,14 @@ utf8_title_in world name topic all named =
 utf8_element_at : (nodes : Written) (place : ℕ) → IsUtf8Content nodes → IfSome (element_at nodes place) IsUtf8Whole
 utf8_element_at End place all = tt
 utf8_element_at (Chars text doc rest) place all =
-    chosen IsUtf8If (place == 0) None (element_at rest (place - 1)) tt (utf8_element_at rest (place - 1) all.1)
+    chosen IsUtf8Root (place == 0) None (element_at rest (place - 1)) tt (utf8_element_at rest (place - 1) all.1)
 utf8_element_at (Node element inside rest) place all =
     let behind = place - (1 + size inside) in
     let rest_is = utf8_element_at rest behind all.2 in
     let inside_is = utf8_element_at inside (place - 1) all.1 in
-    chosen IsUtf8If (place == 0) (Some (element, inside))
+    chosen IsUtf8Root (place == 0) (Some (element, inside))
     (if nat_lt (size inside) place then element_at rest behind else element_at inside (place - 1)) (all.0, all.1)
-    (chosen IsUtf8If (nat_lt (size inside) place) (element_at rest behind) (element_at inside (place - 1)) rest_is
+    (chosen IsUtf8Root (nat_lt (size inside) place) (element_at rest behind) (element_at inside (place - 1)) rest_is
     inside_is)
 
 pub utf8_element_in : (world : World) (name : List ℕ) (place : ℕ) → IsUtf8World world → IsUtf8 name
@@ -169,7 +169,7 @@ utf8_element_in world name place all named =
 pub utf8_whole_at : (world : World) (node : PlanNode) → IsUtf8World world → IsUtf8 node.doc
     → IfSome (whole_at world node) IsUtf8Whole
 utf8_whole_at world node all named =
-    chosen IsUtf8If (has_element node.kind) (element_in world node.doc node.place) None
+    chosen IsUtf8Root (has_element node.kind) (element_in world node.doc node.place) None
     (utf8_element_in world node.doc node.place all named) tt
 
 pub utf8_attribute_at : (world : World) (name : List ℕ) (node : PlanNode) → IsUtf8World world → IsUtf8 node.doc

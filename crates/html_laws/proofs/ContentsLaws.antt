@@ -7,12 +7,13 @@ use Rattle.dita_doc.specs.HtmlEscapes.{escaped}
 use Rattle.dita_doc.specs.declared.doc.Attribute.{Attribute}
 use Rattle.dita_doc.specs.declared.plan.Plan.{Plan}
 use Rattle.dita_doc.specs.declared.plan.PlanNode.{PlanNode}
+use Rattle.dita_doc.proofs.Lists.{joined_five}
 use Rattle.ditaval_rules.specs.Verdict.{conditional_names, is_conditional}
 use Rattle.reader_spec.specs.World.{World}
 use Rattle.map_spec.specs.Scopes.{places}
 use Rattle.html_spec.specs.Blocks.{attribute_text}
 use Rattle.html_spec.specs.Contents.{contents, contents_body, contents_title, data_text, href_by, is_item, item_text, items, items_from, label_of, linked, list_text, node_items}
-use Rattle.link_spec.specs.Links.{is_child, target_of}
+use Rattle.link_spec.specs.Links.{is_child, plan_target}
 use Rattle.html_laws.specs.Markup.{IsMarkup, IsPage, attribute_names, element_names, is_among}
 use Rattle.html_laws.proofs.BlocksLaws.{attribute_known}
 use Rattle.html_laws.proofs.MarkupLaws.{AreAttributes, attributes_beside, markup_beside, markup_element, markup_none, markup_text, no_attributes}
@@ -59,8 +60,8 @@ item_markup : (world : World) (plan : Plan) (at : ℕ) (node : PlanNode) (below 
     → IsMarkup (item_text world plan at node below)
 unfolding element_names
 item_markup world plan at node below within =
-    let label = linked (href_by plan at (target_of plan at)) (escaped (label_of world plan at node)) in
-    let label_is = linked_markup (href_by plan at (target_of plan at)) (escaped (label_of world plan at node))
+    let label = linked (href_by plan at (plan_target plan at)) (escaped (label_of world plan at node)) in
+    let label_is = linked_markup (href_by plan at (plan_target plan at)) (escaped (label_of world plan at node))
     (markup_text (label_of world plan at node)) in
     let attributes = flat_map data_text node.cascaded in
     subst IsMarkup
@@ -90,9 +91,6 @@ items_markup (suc steps) world plan parent = markup_each (λ at. option_map_or
 
 -- The page
 
-flat_body : (a title b list c : List ℕ) → a ++ title ++ b ++ list ++ c ≡ a ++ (title ++ (b ++ (list ++ c)))
-flat_body a title b list c = simp append_assoc
-
 nested_body : (a b title c list d : List ℕ)
     → a ++ ((b ++ title ++ c) ++ list) ++ d ≡ a ++ (b ++ (title ++ (c ++ (list ++ d))))
 nested_body a b title c list d = simp append_assoc
@@ -102,7 +100,7 @@ body_parts : (title list : List ℕ)
     ≡ element (codes "nav") (attribute_text (codes "class") (Some (codes "toc")))
     (element (codes "h1") [] title ++ list)
 body_parts title list =
-    flat_body (codes "<nav class=\"toc\"><h1>") title (codes "</h1>") list (codes "</nav>")
+    joined_five (codes "<nav class=\"toc\"><h1>") title (codes "</h1>") list (codes "</nav>")
     ∙ sym (nested_body (codes "<nav class=\"toc\">") (codes "<h1>") title (codes "</h1>") list (codes "</nav>"))
 
 contents_markup : (world : World) (plan : Plan) → IsMarkup (contents_body world plan)

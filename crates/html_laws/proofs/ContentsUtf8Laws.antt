@@ -20,7 +20,7 @@ use Rattle.map_spec.specs.Scopes.{places}
 use Rattle.map_spec.specs.Written.{Whole}
 use Rattle.html_spec.specs.Blocks.{attribute_text, end_tag, start_tag}
 use Rattle.html_spec.specs.Contents.{contents, contents_body, contents_title, data_text, href_by, is_item, is_keyed, is_local, is_locked, is_text, item_text, items, items_from, label_by_target, label_of, linked, list_text, navtitle_element, navtitle_of, node_items, page_named, title_written}
-use Rattle.link_spec.specs.Links.{is_child, page_of_node, target_of}
+use Rattle.link_spec.specs.Links.{is_child, page_of_node, plan_target}
 use Rattle.html_laws.specs.Utf8.{HasUtf8Value, IsUtf8Node, IsUtf8Page, IsUtf8Plan, IsUtf8Target, IsUtf8World}
 use Rattle.html_laws.proofs.ContentUtf8Laws.{IsUtf8Whole, utf8_attribute_at, utf8_attribute_of, utf8_child, utf8_first, utf8_text_of, utf8_title_in, utf8_under, utf8_whole_at}
 use Rattle.html_laws.proofs.EachLaws.{always, chosen, of_and_then, of_any, of_map_or, of_option, of_option_map, of_place}
@@ -96,7 +96,7 @@ module _ (world : World) (plan : Plan) (all : IsUtf8World world) (of_plan : IsUt
       IsUtf8-nil)
   utf8_by_target node (targets.Other value) named is = is
 
-  utf8_target : (at : ℕ) → IsUtf8Target (target_of plan at)
+  utf8_target : (at : ℕ) → IsUtf8Target (plan_target plan at)
   utf8_target at =
       of_option IsUtf8Target (slice_get plan.targets at) targets.Nothing (of_place IsUtf8Target plan.targets at of_plan.targets)
       tt
@@ -104,9 +104,9 @@ module _ (world : World) (plan : Plan) (all : IsUtf8World world) (of_plan : IsUt
   utf8_item_label : (at : ℕ) (node : PlanNode) → IsUtf8 node.doc → IsUtf8 (label_of world plan at node)
   utf8_item_label at node named =
       chosen IsUtf8
-      (is_text (navtitle_of world node) && (is_locked world node || not (is_local (target_of plan at))))
-      (navtitle_of world node) (label_by_target world plan node (target_of plan at)) (utf8_navtitle node named)
-      (utf8_by_target node (target_of plan at) named (utf8_target at))
+      (is_text (navtitle_of world node) && (is_locked world node || not (is_local (plan_target plan at))))
+      (navtitle_of world node) (label_by_target world plan node (plan_target plan at)) (utf8_navtitle node named)
+      (utf8_by_target node (plan_target plan at) named (utf8_target at))
 
   -- Links
 
@@ -131,11 +131,11 @@ module _ (world : World) (plan : Plan) (all : IsUtf8World world) (of_plan : IsUt
       → IsUtf8 (item_text world plan at node below)
   utf8_item at node below is within =
       let attributes = flat_map data_text node.cascaded in
-      let href = href_by plan at (target_of plan at) in
+      let href = href_by plan at (plan_target plan at) in
       let label = escaped (label_of world plan at node) in
       let start = utf8_start (codes "li") attributes (utf8_codes (codes "li") refl)
       (utf8_each HasUtf8Value data_text node.cascaded (λ given value. data_by given _ refl value) is.1) in
-      let link = utf8_linked href label (utf8_href_by at (target_of plan at) (utf8_target at))
+      let link = utf8_linked href label (utf8_href_by at (plan_target plan at) (utf8_target at))
       (utf8_escaped (label_of world plan at node) (utf8_item_label at node is.0)) in
       utf8_three (start_tag (codes "li") attributes ++ linked href label) (list_text below) (end_tag (codes "li"))
       (IsUtf8-append (start_tag (codes "li") attributes) (linked href label) start link) (utf8_list below within)

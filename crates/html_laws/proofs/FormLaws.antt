@@ -8,7 +8,7 @@ use Rattle.std.proofs.lemmas.Bool.Decides.{nat_tests}
 use Rattle.std.proofs.lemmas.Fmt.{decimal_digit}
 use Rattle.map_spec.specs.Elements.{tokens_of}
 use Rattle.map_spec.specs.Written.{Element}
-use Rattle.html_spec.specs.Blocks.{Form, Tag, Topic, Title, Note, Reference, Image, Cell, SimpleCell, Left, Foreign, forms, Around, InTopic, InSection, InFigure, InTable, heading, is_form_of, last_of, row_for, row_of, title_tag}
+use Rattle.html_spec.specs.Blocks.{Form, Tag, Topic, Title, Note, Reference, Image, Cell, SimpleCell, Left, Foreign, forms, TitlePlace, InTopic, InSection, InFigure, InTable, heading, is_form_of, last_of, row_for, row_of, title_tag}
 use Rattle.html_laws.specs.Markup.{element_names, is_among}
 use Rattle.html_laws.proofs.EachLaws.{of_any, of_filter_map, of_found}
 
@@ -91,7 +91,7 @@ heading_by depth false false d z =
 heading_name : (depth : ℕ) → is_among element_names (heading depth) ≡ true
 heading_name depth = heading_by depth (nat_lt 6 depth) (depth == 0) refl refl
 
-pub title_name : (around : Around) (depth : ℕ) → is_among element_names (title_tag around depth) ≡ true
+pub title_name : (around : TitlePlace) (depth : ℕ) → is_among element_names (title_tag around depth) ≡ true
 unfolding element_names
 title_name InTopic depth = heading_name depth
 title_name InSection depth = heading_name (depth + 1)

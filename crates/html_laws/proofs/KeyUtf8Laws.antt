@@ -12,7 +12,7 @@ use Rattle.dita_doc.specs.declared.plan.Target.TheVariants as targets
 use Rattle.reader_spec.specs.World.{World}
 use Rattle.map_spec.specs.Cascade.{attribute_at, cascaded_value, walk, whole_at}
 use Rattle.map_spec.specs.Elements.{first_under, text_of}
-use Rattle.map_spec.specs.Keys.{Chain, answer_of_chain, chain, href_target, id_of_key, if_text, key_answer, key_of, label_or, last_of, metadata_texts, target_at, target_of_chain, text_of_chain, text_of_definition, texts_of_node, title_of_target, undefined, untitled_at}
+use Rattle.map_spec.specs.Keys.{Chain, answer_of_chain, chain, href_target, id_of_key, if_text, key_answer, key_of, label_or, last_of, metadata_texts, target_of_definition, target_of_chain, text_of_chain, text_of_definition, texts_of_node, title_of_target, undefined, untitled_at}
 use Rattle.map_spec.specs.Target.{target_by}
 use Rattle.map_spec.specs.Titles.{first_text}
 use Rattle.map_spec.specs.Written.{Whole, Written}
@@ -51,7 +51,7 @@ utf8_label_or key (b ∷ text) first second = second
 module _ (world : World) (nodes : List PlanNode) (all : IsUtf8World world) (docs : AllByRecursion HasUtf8Doc nodes) where
   -- the target of the last definition
   utf8_target_at : (node : PlanNode) (around : List PlanNode) → IsUtf8 node.doc
-      → IsUtf8Lead (target_at world nodes node around)
+      → IsUtf8Lead (target_of_definition world node around)
   utf8_target_at node around named =
       of_and_then IsUtf8 IsUtf8Target (λ href. target_by href (cascaded_value world (codes "format") around)
       (cascaded_value world (codes "scope") around) node.doc) (attribute_at world (codes "href") node)
@@ -61,7 +61,7 @@ module _ (world : World) (nodes : List PlanNode) (all : IsUtf8World world) (docs
 
   utf8_href_target : (at : ℕ) → IsUtf8Lead (href_target world nodes at)
   utf8_href_target at =
-      of_and_then HasUtf8Doc IsUtf8Target (λ node. target_at world nodes node (walk nodes at)) (slice_get nodes at)
+      of_and_then HasUtf8Doc IsUtf8Target (λ node. target_of_definition world node (walk nodes at)) (slice_get nodes at)
       (λ node is. utf8_target_at node (walk nodes at) is) (of_place HasUtf8Doc nodes at docs)
 
   utf8_target_of_chain : (met : List ℕ) → IsUtf8Target (target_of_chain world nodes met)

@@ -9,7 +9,7 @@ use Rattle.href_text.specs.Joined.{relative_path}
 use Rattle.reader_spec.specs.World.{World}
 use Rattle.map_spec.specs.Titles.{title_in}
 use Rattle.link_spec.specs.Links.{LinkTo, family_links, links_of_kind, page_link, page_links, row_links, to_each_once}
-use Rattle.part_spec.specs.Parts.{hrefs_once, links_of}
+use Rattle.part_spec.specs.Parts.{hrefs_once, all_page_links}
 use Rattle.html_laws.specs.Utf8.{IsUtf8Link, IsUtf8Page, IsUtf8World}
 use Rattle.html_laws.proofs.ContentUtf8Laws.{utf8_title_in}
 use Rattle.html_laws.proofs.EachLaws.{of_any, of_both, of_filter_map, of_kept, of_map_or, of_option_map, of_place}
@@ -41,7 +41,7 @@ module _ (world : World) (plan : Plan) (all : IsUtf8World world) (pages : AllByR
 
   -- with the links of the page's own elements
   pub utf8_links_of : (index : ℕ) (own : List PageLink) → AllByRecursion IsUtf8Link own
-      → AllByRecursion IsUtf8Link (links_of world plan index own)
+      → AllByRecursion IsUtf8Link (all_page_links world plan index own)
   utf8_links_of index own is =
       let families = family_links world plan index in
       let rows = row_links world plan index in

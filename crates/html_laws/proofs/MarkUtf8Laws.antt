@@ -8,7 +8,7 @@ use Rattle.dita_doc.specs.ClassValue.{value_of, words_of}
 use Rattle.dita_doc.specs.declared.content.Rule.{Rule}
 use Rattle.dita_doc.specs.declared.doc.Attribute.{Attribute}
 use Rattle.ditaval_rules.specs.Verdict.{conditional_names, is_grouped}
-use Rattle.flag_marks.specs.Marks.{at_place, flags, mark_text, marks_by, marks_from, marks_of_attribute, marks_of_element, marks_of_tokens, marks_of_value}
+use Rattle.flag_marks.specs.Marks.{at_place, rule_flags, mark_text, marks_by, marks_from, marks_of_attribute, marks_of_element, marks_of_tokens, marks_of_value}
 use Rattle.map_spec.specs.Written.{Written, End, Chars, Node}
 use Rattle.part_spec.specs.Parts.{attributes_in}
 use Rattle.html_laws.specs.Utf8.{HasUtf8Value, IsUtf8Content, IsUtf8Mark}
@@ -41,9 +41,9 @@ utf8_of_value : (rules : List Rule) (att value : List ℕ) → IsUtf8 att → Is
     → AllByRecursion IsUtf8 (marks_of_value rules att value)
 utf8_of_value rules att value named is =
     chosen (AllByRecursion IsUtf8) (is_grouped value) [] (marks_of_tokens rules att (words_of value)) tt
-    (of_mapped IsUtf8 IsUtf8 (mark_text att) (filter (flags rules att) (words_of value))
+    (of_mapped IsUtf8 IsUtf8 (mark_text att) (filter (rule_flags rules att) (words_of value))
     (λ token one. utf8_mark att token named one)
-    (of_kept IsUtf8 (flags rules att) (words_of value) (utf8_words value is)))
+    (of_kept IsUtf8 (rule_flags rules att) (words_of value) (utf8_words value is)))
 
 module _ (declared : List (List ℕ)) (attributes : List Attribute) (names : AreUtf8Names declared)
     (all : AllByRecursion HasUtf8Value attributes) where

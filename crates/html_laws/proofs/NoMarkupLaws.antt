@@ -1,7 +1,8 @@
 -- Some bytes are no markup: a lone sign, a tag without its other half, and an element of another name.
 use Rattle.std.specs.Prelude.{◌≡◌, ℕ, true, false, List, [], ◌∷◌, ◌++◌, codes, drop}
 use Rattle.std.specs.List.{list_all}
-use Rattle.std.proofs.Common.{refl, sym, ap, subst, ◌∙◌, append_assoc, append-nil, arith}
+use Rattle.std.proofs.Common.{refl, sym, ap, subst, ◌∙◌, append-nil, arith}
+use Rattle.dita_doc.proofs.Lists.{joined_four}
 use Rattle.html_laws.specs.Markup.{Ampersand, AreNodes, Attribute, DoubleQuote, Element, GreaterThan, IsMarkup, Itself, LessThan, Nodes, NoNodes, Piece, Text, Void, element_names, end_bytes, is_among, is_attribute, is_text_piece, nodes_bytes, piece_bytes, start_bytes, void_names}
 use Rattle.html_laws.proofs.OnceLaws.{AreSame, kind_behind, kind_of, kind_of_nodes, node_kind, start_once}
 use Rattle.html_laws.proofs.WordLaws.{element_word, is_word, void_word}
@@ -61,10 +62,6 @@ no_lone_ampersand is = no_text is.0 is.1 (sym (begins_as (codes "&") is.0 is.1 i
 
 -- Tags
 
-three_parts : (start inside ends more : List ℕ)
-    → start ++ inside ++ ends ++ more ≡ start ++ (inside ++ (ends ++ more))
-three_parts start inside ends more = simp append_assoc
-
 some_behind : (front : List ℕ) (b : ℕ) (back : List ℕ) → front ++ b ∷ back ≡ [] → ⊥
 some_behind [] b back e = cc
 some_behind (c ∷ front) b back e = cc
@@ -91,7 +88,7 @@ no_other name rest (Void own attributes more) word none other are kind e =
     cc
 no_other name rest (Element own attributes inside more) word none other are kind e =
     let behind = nodes_bytes inside ++ (end_bytes own ++ nodes_bytes more) in
-    let whole = e ∙ three_parts (start_bytes own attributes) (nodes_bytes inside) (end_bytes own) (nodes_bytes more) in
+    let whole = e ∙ joined_four (start_bytes own attributes) (nodes_bytes inside) (end_bytes own) (nodes_bytes more) in
     let same = tag_of name rest own attributes behind word (element_word own are.0) are.1 whole in
     let clash : is_among element_names name ≡ true =
     subst (λ text. is_among element_names text ≡ true) (sym same.names) are.0 in
@@ -115,7 +112,7 @@ no_end name (Void own attributes more) word none are kind e =
     cc
 no_end name (Element own attributes inside more) word none are kind e =
     let behind = nodes_bytes inside ++ (end_bytes own ++ nodes_bytes more) in
-    let whole = e ∙ three_parts (start_bytes own attributes) (nodes_bytes inside) (end_bytes own) (nodes_bytes more) in
+    let whole = e ∙ joined_four (start_bytes own attributes) (nodes_bytes inside) (end_bytes own) (nodes_bytes more) in
     let same = tag_of name [] own attributes behind word (element_word own are.0) are.1 whole in
     some_behind (nodes_bytes inside) 60 (codes "/" ++ own ++ codes ">" ++ nodes_bytes more) (sym same.behind)
 

@@ -7,6 +7,7 @@ use Rattle.dita_doc.specs.declared.content.LinkKind.{LinkKind}
 use Rattle.dita_doc.specs.declared.content.LinkKind.TheVariants as links
 use Rattle.dita_doc.specs.declared.content.PageLink.{PageLink}
 use Rattle.dita_doc.specs.declared.fact.Html.{Html}
+use Rattle.dita_doc.proofs.Lists.{joined_four}
 use Rattle.html_spec.specs.Blocks.{attribute_text}
 use Rattle.html_spec.specs.PageHtml.{kind_text, link_item, page_text, page_within, related_line}
 use Rattle.html_laws.specs.Markup.{IsMarkup, IsPage, Itself, NoNodes, Text, attribute_names, element_names, void_names}
@@ -69,9 +70,6 @@ item_markup link =
     (element (codes "li") (codes " " ++ codes "class" ++ codes "=\"" ++ shown ++ codes "\"") inside))
     (kind_shown link.kind) whole)
 
-flat_nav : (a items b end : List ℕ) → a ++ items ++ b ++ end ≡ a ++ (items ++ (b ++ end))
-flat_nav a items b end = simp append_assoc
-
 nested_nav : (a b items c d end : List ℕ)
     → a ++ (b ++ items ++ c) ++ d ++ end ≡ a ++ (b ++ (items ++ (c ++ (d ++ end))))
 nested_nav a b items c d end = simp append_assoc
@@ -81,7 +79,7 @@ nav_parts : (items : List ℕ)
     ≡ element (codes "nav") (attribute_text (codes "class") (Some (codes "related"))) (element (codes "ul") [] items)
     ++ line_end
 nav_parts items =
-    flat_nav (codes "<nav class=\"related\"><ul>") items (codes "</ul></nav>") line_end
+    joined_four (codes "<nav class=\"related\"><ul>") items (codes "</ul></nav>") line_end
     ∙ sym (nested_nav (codes "<nav class=\"related\">") (codes "<ul>") items (codes "</ul>") (codes "</nav>") line_end)
 
 related_markup : (related : List PageLink) → IsMarkup (related_line related)

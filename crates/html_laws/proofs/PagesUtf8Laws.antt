@@ -21,7 +21,7 @@ use Rattle.map_spec.specs.Branches.{each_once}
 use Rattle.map_spec.specs.Cascade.{attribute_at, cascaded_value, is_in_table, walk}
 use Rattle.map_spec.specs.Included.{is_reference}
 use Rattle.map_spec.specs.Keys.{key_answer, key_of}
-use Rattle.map_spec.specs.Pages.{Aim, Use, aim_at, aim_by_href, aim_by_key, aim_of, aim_read, aim_with, base_of, before_last_dot, contents_name, documents_of, first_uses, folders, free_from, free_name, good_base, html, is_dot, is_normal, is_page_kind, is_page_name, last_segment, local_name, named_from, no_aim, on_last_segment, page_used_at, pages_of, targets_of, undefined_key, use_at, use_of, used_at, with_affix, with_affixes, with_more, with_number, without_extension}
+use Rattle.map_spec.specs.Pages.{Aim, Use, aim_at, aim_by_href, aim_by_key, aim_of, aim_read, aim_with, base_of, before_last_dot, contents_name, documents_of, first_uses, folders, free_from, free_name, good_base, html, is_dot, is_normal, is_page_kind, is_page_name, last_segment, local_name, named_from, no_aim, on_last_segment, page_used_at, pages_of, node_targets, undefined_key, use_at, use_of, used_at, with_affix, with_affixes, with_more, with_number, without_extension}
 use Rattle.map_spec.specs.Scopes.{places, scope_at}
 use Rattle.map_spec.specs.Target.{target_by}
 use Rattle.map_spec.specs.Titles.{kind_in}
@@ -220,7 +220,7 @@ module _ (world : World) (nodes : List PlanNode) (all : IsUtf8World world)
       of_map_or HasUtf8Doc AimsAtUtf8 (aim_of world nodes at) (slice_get nodes at) no_aim
       (λ node is. utf8_aim_of at node is) (of_place HasUtf8Doc nodes at docs) tt
 
-  pub utf8_targets : AllByRecursion IsUtf8Target (targets_of world nodes)
+  pub utf8_targets : AllByRecursion IsUtf8Target (node_targets world nodes)
   utf8_targets =
       let any : ℕ → Type 0 = λ at. Unit {0} in
       of_mapped any IsUtf8Target (λ at. (aim_at world nodes at).target) (places nodes) (λ at is. utf8_aim_at at)

@@ -10,7 +10,7 @@ use Rattle.reader_spec.specs.World.{World}
 use Rattle.map_spec.specs.Elements.{attribute}
 use Rattle.map_spec.specs.Written.{Element, Whole, Written, End, Chars, Node, document, element_in, side_by_side, size}
 use Rattle.map_spec.specs.Places.{Standing, all_standing}
-use Rattle.map_spec.specs.Pushes.{AllPushes, PushInto, PushTarget, Pushing, acts, all_pushes, all_side_by_side, at_place, copy_beside, copy_instead, id_written, is_after, is_before, is_into, is_replace, is_replaced_by, itself_or, no_pushes, push_kind, push_of, pushed, pushed_element, pushed_from, pushes_at, pushes_behind, pushes_into, pushing_at, pushing_in, pushing_of, with_id_of, with_pushing, without_acting, without_names, pushing_names, twice_fault}
+use Rattle.map_spec.specs.Pushes.{AllPushes, PushInto, PushTarget, Pushing, has_conaction, all_pushes, all_side_by_side, pushed_at, copy_beside, copy_instead, id_written, is_after, is_before, is_into, is_replace, is_replaced_by, itself_or, no_pushes, push_kind, push_of, pushed, pushed_element, pushed_from, pushes_at, pushes_behind, pushes_into, pushing_at, pushing_in, pushing_of, with_id_of, with_pushing, without_acting, without_names, pushing_names, twice_fault}
 use Rattle.html_laws.specs.Utf8.{HasUtf8Value, IsUtf8Content, IsUtf8Element, IsUtf8World}
 use Rattle.html_laws.proofs.ContentUtf8Laws.{IsUtf8Whole, utf8_attribute_of, utf8_beside, utf8_element_in}
 use Rattle.html_laws.proofs.EachLaws.{always, chosen, of_both, of_filter_map, of_found, of_kept, of_lists, of_map_or, of_mapped, of_option_map}
@@ -86,7 +86,7 @@ utf8_without_acting : (nodes : Written) → IsUtf8Content nodes → IsUtf8Conten
 utf8_without_acting End all = tt
 utf8_without_acting (Chars text doc rest) all = (all.0, utf8_without_acting rest all.1)
 utf8_without_acting (Node element inside rest) all =
-    chosen IsUtf8Content (acts element) (without_acting rest) (Node element (without_acting inside) (without_acting rest))
+    chosen IsUtf8Content (has_conaction element) (without_acting rest) (Node element (without_acting inside) (without_acting rest))
     (utf8_without_acting rest all.2) (all.0, utf8_without_acting inside all.1, utf8_without_acting rest all.2)
 
 utf8_pushed_element : (element : Element) → IsUtf8Element element → IsUtf8Element (pushed_element element)
@@ -148,7 +148,7 @@ module _ (world : World) (all : IsUtf8World world) where
 
   utf8_at_place : (pushes : List Push) (place : ℕ) (element : Element) (inside : Written)
       → AllByRecursion IsFromUtf8 pushes → IsUtf8Element element → IsUtf8Content inside
-      → IsUtf8Content (at_place world pushes place element inside)
+      → IsUtf8Content (pushed_at world pushes place element inside)
   utf8_at_place pushes place element inside named first second =
       let before = all_side_by_side (map (copy_beside world) (pushes_at is_before place pushes)) in
       let after = all_side_by_side (map (copy_beside world) (pushes_at is_after place pushes)) in
@@ -169,8 +169,8 @@ module _ (world : World) (all : IsUtf8World world) where
       let further = pushed_from world pushes (place + 1 + size inside) rest in
       let further_is = utf8_pushed_from pushes (place + 1 + size inside) rest named is.2 in
       let within = pushed_from world pushes (place + 1) inside in
-      let here = at_place world pushes place element within in
-      chosen IsUtf8Content (acts element) further (side_by_side here further) further_is
+      let here = pushed_at world pushes place element within in
+      chosen IsUtf8Content (has_conaction element) further (side_by_side here further) further_is
       (utf8_beside here further
       (utf8_at_place pushes place element within named is.0 (utf8_pushed_from pushes (place + 1) inside named is.1))
       further_is)

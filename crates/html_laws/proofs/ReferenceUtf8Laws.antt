@@ -17,7 +17,7 @@ use Rattle.dita_doc.specs.declared.plan.Target.TheVariants as targets
 use Rattle.dita_doc.proofs.Utf8Laws.{AreHigh, utf8_cons, utf8_cut_at, utf8_grows, utf8_parts}
 use Rattle.href_text.specs.declared.fault.RefFault.{RefFault}
 use Rattle.href_text.specs.declared.fault.RefFault.TheVariants as faults
-use Rattle.href_text.specs.Joined.{folders_of, followed, is_above, is_here, joined, named, named_by, path_of, relative_path, without_last}
+use Rattle.href_text.specs.Joined.{folders_of, followed, is_above, is_here, joined, name_of_segments, name_if_followed, path_of, relative_path, without_last}
 use Rattle.href_text.specs.Reference.{is_external, is_number_sign, reference_of, reference_to, reference_with}
 use Rattle.map_spec.specs.Target.{file_named, file_of, if_read, is_far, local_file, local_topic, rest_of, target_by}
 use Rattle.html_laws.specs.Utf8.{IsUtf8Target}
@@ -112,13 +112,13 @@ utf8_path (segment ∷ next ∷ segments) all = IsUtf8-append segment (47 ∷ pa
 abbrev IsUtf8Name : Result (List ℕ) RefFault → Type 0
 IsUtf8Name result = IfOk result IsUtf8
 
-utf8_named : (segments : List (List ℕ)) → AllByRecursion IsUtf8 segments → IsUtf8Name (named segments)
+utf8_named : (segments : List (List ℕ)) → AllByRecursion IsUtf8 segments → IsUtf8Name (name_of_segments segments)
 utf8_named [] all = tt
 utf8_named (segment ∷ segments) all =
     let path = path_of (segment ∷ segments) in
     chosen IsUtf8Name (is_name path) (Ok path) (Err faults.BadName) (utf8_path (segment ∷ segments) all) tt
 
-utf8_named_by : (stay : Result (List (List ℕ)) RefFault) → IsUtf8Path stay → IsUtf8Name (named_by stay)
+utf8_named_by : (stay : Result (List (List ℕ)) RefFault) → IsUtf8Path stay → IsUtf8Name (name_if_followed stay)
 utf8_named_by (Ok stay) all = utf8_named stay all
 utf8_named_by (Err fault) all = tt
 
@@ -127,7 +127,7 @@ utf8_folders name utf8 = utf8_without_last (parts_by is_slash name) (utf8_segmen
 
 utf8_joined : (doc file : List ℕ) → IsUtf8 doc → IsUtf8 file → IsUtf8Name (joined doc file)
 utf8_joined doc file first second =
-    let behind = named_by (followed (folders_of doc) (parts_by is_slash file)) in
+    let behind = name_if_followed (followed (folders_of doc) (parts_by is_slash file)) in
     let within = utf8_named_by (followed (folders_of doc) (parts_by is_slash file))
     (utf8_followed (folders_of doc) (parts_by is_slash file) (utf8_folders doc first) (utf8_segments file second)) in
     chosen IsUtf8Name (length file == 0) (Ok doc)

@@ -16,7 +16,7 @@ use Rattle.map_spec.specs.Judged.{group_faults}
 use Rattle.map_spec.specs.Keys.{id_of_key, key_of}
 use Rattle.map_spec.specs.Target.{if_read, is_same_topic}
 use Rattle.map_spec.specs.Written.{Element, Written, End, Chars, Node, size}
-use Rattle.conref_spec.specs.Content.{Around, Followed, Found, Made, Place, Range, Resolve, Setting, Sought, around_for, by_conref, by_key, conref_named, declared_around, declared_there, element_made, element_resolved, end_id, followed, followed_from, followed_to, found_by, found_in, goes, has_end_id, has_reference, is_written_in, key_faults, key_named, made_beside, made_of, made_with, merged_element, names_not_taken, nothing_around, nothing_made, page_root, path_limit, range_behind, range_by, range_from, ranges_made, refused_by, resolved_among, resolved_from, resolved_in, resolved_page, sought_by, specified, taken_or, text_made, takes_href, around_within, unchanged, up_to_end, value_used, without_id}
+use Rattle.conref_spec.specs.Content.{ContentAround, Followed, Found, Made, Place, Range, Resolve, ResolveInput, Sought, around_for, by_conref, by_key, conref_named, declared_around_written, declared_there, element_made, element_resolved, end_id, followed, followed_from, followed_to, found_by, found_in, goes, has_end_id, has_reference, is_written_in, conkeyref_faults, key_named, made_beside, made_of, made_with, merged_element, names_not_taken, nothing_around, nothing_made, page_root, path_limit, range_behind, range_by, range_from, ranges_made, refused_by, resolved_among, resolved_from, resolved_in, resolved_page, sought_by, specified, taken_or, text_made, takes_href, around_within, unchanged, up_to_end, value_used, without_id}
 use Rattle.map_spec.specs.Places.{Standing, target_in}
 use Rattle.map_spec.specs.Pushes.{without_names}
 use Rattle.html_laws.specs.Utf8.{HasUtf8Value, IsUtf8Content, IsUtf8Element, IsUtf8Target}
@@ -28,7 +28,7 @@ use Rattle.html_laws.proofs.PlaceUtf8Laws.{IsUtf8Standing, utf8_target_in}
 use Rattle.html_laws.proofs.PushUtf8Laws.{utf8_without_names}
 use Rattle.html_laws.proofs.ReferenceUtf8Laws.{IsUtf8Reference, utf8_join, utf8_refer}
 
-pub record IsUtf8Setting (setting : Setting) : Type 0 where
+pub record IsUtf8Setting (setting : ResolveInput) : Type 0 where
   pub page : IsUtf8 setting.page
   pub pushed : (name : List ℕ) → IsUtf8 name → IfSome (setting.pushed name) IsUtf8Content
   pub key : (key : List ℕ) → IsUtf8 key → IsUtf8Answer (setting.key key)
@@ -79,20 +79,20 @@ utf8_range_behind (Node element inside rest) around path all names = ((all, name
 -- Names that are declared
 
 utf8_around : (around : List (List ℕ)) (nodes : Written) (place : ℕ) → AreUtf8Names around → IsUtf8Content nodes
-    → AreUtf8Names (declared_around around nodes place)
+    → AreUtf8Names (declared_around_written around nodes place)
 utf8_around around End place names all = names
 utf8_around around (Chars text doc rest) place names all =
-    chosen AreUtf8Names (place == 0) around (declared_around around rest (place - 1)) names
+    chosen AreUtf8Names (place == 0) around (declared_around_written around rest (place - 1)) names
     (utf8_around around rest (place - 1) names all.1)
 utf8_around around (Node element inside rest) place names all =
     let behind = place - (1 + size inside) in
     let within = declared_by around element.attributes in
     chosen AreUtf8Names (place == 0) around
-    (if nat_lt (size inside) place then declared_around around rest behind
-    else declared_around within inside (place - 1))
+    (if nat_lt (size inside) place then declared_around_written around rest behind
+    else declared_around_written within inside (place - 1))
     names
-    (chosen AreUtf8Names (nat_lt (size inside) place) (declared_around around rest behind)
-    (declared_around within inside (place - 1)) (utf8_around around rest behind names all.2)
+    (chosen AreUtf8Names (nat_lt (size inside) place) (declared_around_written around rest behind)
+    (declared_around_written within inside (place - 1)) (utf8_around around rest behind names all.2)
     (utf8_around within inside (place - 1) (utf8_declared_by around element.attributes names all.0.0) all.1))
 
 -- Attributes
@@ -122,7 +122,7 @@ utf8_without_id false element is = is
 abbrev pub IsUtf8Made : Made → Type 0
 IsUtf8Made made = IsUtf8Content made.nodes × AllByRecursion AreUtf8Names made.declared
 
-module _ (setting : Setting) (of_setting : IsUtf8Setting setting) where
+module _ (setting : ResolveInput) (of_setting : IsUtf8Setting setting) where
   -- Targets
 
   utf8_found_in : (doc topic element : List ℕ) → IsUtf8 doc → IfSome (found_in setting doc topic element) IsUtf8Found
@@ -202,7 +202,7 @@ module _ (setting : Setting) (of_setting : IsUtf8Setting setting) where
       let range_is : IsUtf8Content range =
       of_option IsUtf8Content (range_by target.standing (attribute (codes "conrefend") element)) End
       (utf8_range_by target.standing (attribute (codes "conrefend") element) is.0) tt in
-      let around = declared_around [] target.nodes target.standing.place in
+      let around = declared_around_written [] target.nodes target.standing.place in
       let names = utf8_around [] target.nodes target.standing.place tt is.1 in
       let found = follow longer target.standing.whole.0 target.standing.whole.1 in
       let onward = follows longer target.standing.whole.0 target.standing.whole.1 is.0.whole.0 is.0.whole.1 in
@@ -223,7 +223,7 @@ module _ (setting : Setting) (of_setting : IsUtf8Setting setting) where
   utf8_followed_to follow depth path element inside sought None follows first second is =
       utf8_unchanged element inside path _ first second
   utf8_followed_to follow depth path element inside sought (Some target) follows first second is =
-      utf8_taken_or follow path element inside (key_faults setting sought.conkeyref) target
+      utf8_taken_or follow path element inside (conkeyref_faults setting sought.conkeyref) target
       (refused_by (value_used setting sought) depth path element target) follows first second is
 
   utf8_followed_from : (steps : ℕ) (topic : List ℕ) (depth : ℕ) → FollowsInUtf8 (followed_from steps setting topic depth)
@@ -249,17 +249,17 @@ module _ (setting : Setting) (of_setting : IsUtf8Setting setting) where
     of_both AreUtf8Names first.declared second.declared one.1 other.1,
   )
 
-  abbrev IsUtf8Around : Around → Type 0
+  abbrev IsUtf8Around : ContentAround → Type 0
   IsUtf8Around around = AreUtf8Names around.declared
 
   abbrev ResolvesInUtf8 : Resolve → Type 0
-  ResolvesInUtf8 resolve = (is_range : Bool) (around : Around) (depth : ℕ) (path : List Place) (nodes : Written)
+  ResolvesInUtf8 resolve = (is_range : Bool) (around : ContentAround) (depth : ℕ) (path : List Place) (nodes : Written)
       → IsUtf8Around around → IsUtf8Content nodes → IsUtf8Made (resolve is_range around depth path nodes)
 
-  abbrev ResolvesOwnInUtf8 : (Around → Made) → Type 0
-  ResolvesOwnInUtf8 own = (here : Around) → IsUtf8Around here → IsUtf8Made (own here)
+  abbrev ResolvesOwnInUtf8 : (ContentAround → Made) → Type 0
+  ResolvesOwnInUtf8 own = (here : ContentAround) → IsUtf8Around here → IsUtf8Made (own here)
 
-  utf8_ranges : (resolve : Resolve) (around : Around) (depth : ℕ) (ranges : List Range) → ResolvesInUtf8 resolve
+  utf8_ranges : (resolve : Resolve) (around : ContentAround) (depth : ℕ) (ranges : List Range) → ResolvesInUtf8 resolve
       → AllByRecursion IsUtf8Range ranges → IsUtf8Made (ranges_made resolve around depth ranges)
   utf8_ranges resolve around depth [] resolves all = (tt, tt)
   utf8_ranges resolve around depth (range ∷ ranges) resolves all =
@@ -274,7 +274,7 @@ module _ (setting : Setting) (of_setting : IsUtf8Setting setting) where
   utf8_element_made is_range declared element content names first second =
       ((utf8_without_id is_range element first, second.0, tt), (names, second.1))
 
-  utf8_made_of : (resolve : Resolve) (is_range : Bool) (around : Around) (depth : ℕ) (own : Around → Made)
+  utf8_made_of : (resolve : Resolve) (is_range : Bool) (around : ContentAround) (depth : ℕ) (own : ContentAround → Made)
       (found : Followed) → ResolvesInUtf8 resolve → IsUtf8Around around → ResolvesOwnInUtf8 own → IsUtf8Followed found
       → IsUtf8Made (made_of resolve setting is_range around depth own found)
   utf8_made_of resolve is_range around depth own found resolves names owns is =
@@ -291,8 +291,8 @@ module _ (setting : Setting) (of_setting : IsUtf8Setting setting) where
       (resolves false there (depth + 1) found.path found.content is.declared is.content)))
       (utf8_element_made is_range around.declared found.element (own here) names is.element (owns here names))
 
-  utf8_element : (resolve : Resolve) (is_range : Bool) (around : Around) (depth : ℕ) (path : List Place)
-      (element : Element) (inside : Written) (own : Around → Made) → ResolvesInUtf8 resolve → IsUtf8Around around
+  utf8_element : (resolve : Resolve) (is_range : Bool) (around : ContentAround) (depth : ℕ) (path : List Place)
+      (element : Element) (inside : Written) (own : ContentAround → Made) → ResolvesInUtf8 resolve → IsUtf8Around around
       → IsUtf8Element element → IsUtf8Content inside → ResolvesOwnInUtf8 own
       → IsUtf8Made (element_resolved resolve setting is_range around depth path element inside own)
   utf8_element resolve is_range around depth path element inside own resolves names first second owns =
@@ -308,7 +308,8 @@ module _ (setting : Setting) (of_setting : IsUtf8Setting setting) where
       (utf8_made_of resolve is_range here depth own found resolves names_here owns found_is)
       (utf8_ranges resolve around depth found.ranges resolves found_is.ranges))
 
-  utf8_among : (resolve : Resolve) (is_range : Bool) (around : Around) (depth : ℕ) (path : List Place) (nodes : Written)
+  utf8_among : (resolve : Resolve) (is_range : Bool) (around : ContentAround) (depth : ℕ) (path : List Place)
+      (nodes : Written)
       → ResolvesInUtf8 resolve → IsUtf8Around around → IsUtf8Content nodes
       → IsUtf8Made (resolved_among resolve setting is_range around depth path nodes)
   utf8_among resolve is_range around depth path End resolves names all = (tt, tt)
@@ -316,7 +317,7 @@ module _ (setting : Setting) (of_setting : IsUtf8Setting setting) where
       utf8_made_beside (text_made text doc) (resolved_among resolve setting is_range around depth path rest)
       ((all.0, tt), (tt, tt)) (utf8_among resolve is_range around depth path rest resolves names all.1)
   utf8_among resolve is_range around depth path (Node element inside rest) resolves names all =
-      let own = λ (here : Around). resolved_among resolve setting false here (depth + 1) path inside in
+      let own = λ (here : ContentAround). resolved_among resolve setting false here (depth + 1) path inside in
       utf8_made_beside (element_resolved resolve setting is_range around depth path element inside own)
       (resolved_among resolve setting is_range around depth path rest)
       (utf8_element resolve is_range around depth path element inside own resolves names all.0 all.1

@@ -7,11 +7,12 @@ use Rattle.dita_doc.specs.declared.content.TermEntry.{TermEntry}
 use Rattle.dita_doc.specs.declared.fact.Html.{Html}
 use Rattle.dita_doc.specs.declared.plan.Plan.{Plan}
 use Rattle.dita_doc.specs.declared.plan.PlanStop.{PlanStop}
+use Rattle.dita_doc.proofs.Lists.{joined_five}
 use Rattle.reader_spec.specs.World.{World}
 use Rattle.map_spec.specs.PlanOf.{limits, plan_of}
 use Rattle.html_spec.specs.Blocks.{attribute_text}
 use Rattle.html_spec.specs.PageHtml.{page_limit, page_text}
-use Rattle.html_spec.specs.Terms.{Pages, below, body_of, ends, item, items_of, levels_of, list_of, page_link, pages_ended, pages_of, terms_html, texts_of, within}
+use Rattle.html_spec.specs.Terms.{IndexPages, below, body_of, ends, item, items_of, levels_of, list_of, index_link, pages_ended, index_pages, terms_html, texts_of, within}
 use Rattle.part_spec.specs.Parts.{clean_terms, parts_of, rooms, terms_by, terms_in, terms_part, page_titles, total_limit, total_of}
 use Rattle.html_laws.specs.Markup.{IsMarkup, IsPage, Itself, NoNodes, Text, attribute_names, element_names}
 use Rattle.html_laws.proofs.BlocksLaws.{attribute_known}
@@ -24,10 +25,6 @@ use Rattle.html_laws.proofs.PageLaws.{element, markup_each, text_is_page}
 markup_space : IsMarkup (codes " ")
 markup_space = (Text (Itself 32) NoNodes, (refl, tt), refl)
 
--- both sides in their parts, one behind the other
-flat_link : (a href b title c : List ℕ) → a ++ href ++ b ++ title ++ c ≡ a ++ (href ++ (b ++ (title ++ c)))
-flat_link a href b title c = simp append_assoc
-
 nested_link : (space start href quote close title end : List ℕ)
     → space ++ ((start ++ href ++ quote ++ close) ++ title ++ end)
     ≡ space ++ (start ++ (href ++ (quote ++ (close ++ (title ++ end)))))
@@ -37,10 +34,10 @@ link_parts : (href title : List ℕ)
     → codes " <a href=\"" ++ href ++ codes "\">" ++ title ++ codes "</a>"
     ≡ codes " " ++ element (codes "a") (codes " " ++ codes "href" ++ codes "=\"" ++ href ++ codes "\"") title
 link_parts href title =
-    flat_link (codes " <a href=\"") href (codes "\">") title (codes "</a>")
+    joined_five (codes " <a href=\"") href (codes "\">") title (codes "</a>")
     ∙ sym (nested_link (codes " ") (codes "<a href=\"") href (codes "\"") (codes ">") title (codes "</a>"))
 
-link_markup : (pages : Pages) (at : ℕ) → IsMarkup (page_link pages at)
+link_markup : (pages : IndexPages) (at : ℕ) → IsMarkup (index_link pages at)
 unfolding element_names attribute_names
 link_markup pages at =
     let href = unwrap_or (slice_get pages.names at) [] in
@@ -63,20 +60,20 @@ item_parts : (start text links list end : List ℕ)
     → start ++ text ++ links ++ list ++ end ≡ start ++ (text ++ links ++ list) ++ end
 item_parts start text links list end = simp append_assoc
 
-item_markup : (pages : Pages) (items : List TermEntry → List ℕ) (text : List ℕ) (entries : List TermEntry)
+item_markup : (pages : IndexPages) (items : List TermEntry → List ℕ) (text : List ℕ) (entries : List TermEntry)
     → IsMarkup (items entries) → IsMarkup (item pages items text entries)
 unfolding element_names
 item_markup pages items text entries within =
-    let links = flat_map (page_link pages) (pages_ended entries) in
+    let links = flat_map (index_link pages) (pages_ended entries) in
     let list = list_of (items entries) entries in
     let inside = markup_beside (escaped text ++ links) list
     (markup_beside (escaped text) links (markup_text text)
-    (markup_each (page_link pages) (pages_ended entries) (link_markup pages)))
+    (markup_each (index_link pages) (pages_ended entries) (link_markup pages)))
     (list_markup (items entries) entries within) in
     subst IsMarkup (sym (item_parts (codes "<li>") (escaped text) links list (codes "</li>")))
     (markup_element (codes "li") [] (escaped text ++ links ++ list) refl no_attributes inside)
 
-items_markup : (levels : ℕ) (pages : Pages) (entries : List TermEntry) → IsMarkup (items_of levels pages entries)
+items_markup : (levels : ℕ) (pages : IndexPages) (entries : List TermEntry) → IsMarkup (items_of levels pages entries)
 items_markup zero pages entries = markup_none
 items_markup (suc levels) pages entries =
     markup_each (λ text. item pages (items_of levels pages) text (below text entries)) (texts_of entries)
@@ -105,7 +102,7 @@ index_parts items =
     ∙ sym (nested_index (codes "<nav class=\"terms\">") (codes "<h1>Index</h1>") (codes "<ul>") items (codes "</ul>")
     (codes "</nav>"))
 
-body_markup : (pages : Pages) (entries : List TermEntry) → IsMarkup (body_of pages entries)
+body_markup : (pages : IndexPages) (entries : List TermEntry) → IsMarkup (body_of pages entries)
 unfolding element_names attribute_names
 body_markup pages entries =
     let items = items_of (levels_of entries) pages entries in
@@ -134,7 +131,7 @@ html_page : (entries : List TermEntry) (plan : Plan) (titles : List (List ℕ))
     → ArePages (terms_html entries plan titles)
 html_page [] plan titles = tt
 html_page (entry ∷ entries) plan titles =
-    let pages = pages_of plan titles in
+    let pages = index_pages plan titles in
     within_page page_limit (body_of pages (entry ∷ entries)) (body_markup pages (entry ∷ entries))
 
 terms_page : (world : World) (val : Option (List ℕ)) (made : Result Plan PlanStop)

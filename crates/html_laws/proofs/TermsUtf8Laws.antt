@@ -17,8 +17,9 @@ use Rattle.dita_doc.specs.declared.plan.Plan.{Plan}
 use Rattle.dita_doc.proofs.EscapeUtf8Laws.{utf8_folded}
 use Rattle.map_spec.specs.Written.{Written, End, Chars, Node}
 use Rattle.html_spec.specs.PageHtml.{page_limit, page_text}
-use Rattle.html_spec.specs.Terms.{Pages, below, body_of, ends, entry_behind, first_text, has_text, holds_term, is_apart, is_term, item, items_of, levels_of, list_of, own_characters, page_link, pages_ended, pages_of, path_behind, paths_among, term_text, terms_html, terms_of, texts_of, within}
+use Rattle.html_spec.specs.Terms.{IndexPages, below, body_of, ends, entry_behind, first_text, has_text, holds_term, is_apart, is_term, item, items_of, levels_of, list_of, own_characters, index_link, pages_ended, index_pages, path_behind, paths_among, term_text, terms_html, terms_of, texts_of, within}
 use Rattle.html_laws.specs.Utf8.{IsUtf8Content, IsUtf8Page}
+use Rattle.html_laws.proofs.DomainUtf8Laws.{AreUtf8Names}
 use Rattle.html_laws.proofs.EachLaws.{chosen, of_any, of_both, of_filter_map, of_kept, of_map_or, of_mapped, of_option, of_place}
 use Rattle.html_laws.proofs.PageUtf8Laws.{text_utf8, utf8_each}
 use Rattle.html_laws.proofs.TextUtf8Laws.{utf8_codes, utf8_escaped, utf8_three, utf8_value}
@@ -33,11 +34,8 @@ utf8_own (Node element inside rest) all =
     (chosen IsUtf8 (is_apart element) [] (own_characters inside) IsUtf8-nil (utf8_own inside all.1))
     (utf8_own rest all.2)
 
-abbrev IsUtf8Path : List (List ℕ) → Type 0
-IsUtf8Path path = AllByRecursion IsUtf8 path
-
-utf8_paths : (around : List (List ℕ)) (nodes : Written) → IsUtf8Path around → IsUtf8Content nodes
-    → AllByRecursion IsUtf8Path (paths_among around nodes)
+utf8_paths : (around : List (List ℕ)) (nodes : Written) → AreUtf8Names around → IsUtf8Content nodes
+    → AllByRecursion AreUtf8Names (paths_among around nodes)
 utf8_paths around End above all = tt
 utf8_paths around (Chars text doc rest) above all = utf8_paths around rest above all.1
 utf8_paths around (Node element inside rest) above all =
@@ -47,23 +45,23 @@ utf8_paths around (Node element inside rest) above all =
     let whole = longer ∷ [] in
     let deeper = paths_among longer inside in
     let other = paths_among around inside in
-    of_both IsUtf8Path
+    of_both AreUtf8Names
     (if is_term element then if holds_term inside then deeper else whole else other) (paths_among around rest)
-    (chosen (AllByRecursion IsUtf8Path) (is_term element) (if holds_term inside then deeper else whole) other
-    (chosen (AllByRecursion IsUtf8Path) (holds_term inside) deeper whole (utf8_paths longer inside longer_is all.1)
+    (chosen (AllByRecursion AreUtf8Names) (is_term element) (if holds_term inside then deeper else whole) other
+    (chosen (AllByRecursion AreUtf8Names) (holds_term inside) deeper whole (utf8_paths longer inside longer_is all.1)
     (longer_is, tt))
     (utf8_paths around inside above all.1))
     (utf8_paths around rest above all.2)
 
 abbrev pub IsUtf8Entry : TermEntry → Type 0
-IsUtf8Entry entry = IsUtf8Path entry.path
+IsUtf8Entry entry = AreUtf8Names entry.path
 
 pub utf8_terms : (page : ℕ) (nodes : Written) → IsUtf8Content nodes → AllByRecursion IsUtf8Entry (terms_of page nodes)
 utf8_terms page nodes all =
     let paths = paths_among [] nodes in
     let made = λ (path : List (List ℕ)). (let entry : TermEntry = record { path = path; page = page } in entry) in
-    of_mapped IsUtf8Path IsUtf8Entry made (filter (λ path. list_all has_text path) paths) (λ path is. is)
-    (of_kept IsUtf8Path (λ path. list_all has_text path) paths (utf8_paths [] nodes tt all))
+    of_mapped AreUtf8Names IsUtf8Entry made (filter (λ path. list_all has_text path) paths) (λ path is. is)
+    (of_kept AreUtf8Names (λ path. list_all has_text path) paths (utf8_paths [] nodes tt all))
 
 -- Texts in order
 
@@ -91,26 +89,26 @@ utf8_texts entries all =
     of_folded IsUtf8 (slice_cmp nat_cmp) [] (filter_map first_text entries) tt
     (of_filter_map IsUtf8Entry IsUtf8 first_text entries (λ entry is. of_place IsUtf8 entry.path 0 is) all)
 
-utf8_behind : (text : List ℕ) (path : List (List ℕ)) → IsUtf8Path path → IfSome (path_behind text path) IsUtf8Path
+utf8_behind : (text : List ℕ) (path : List (List ℕ)) → AreUtf8Names path → IfSome (path_behind text path) AreUtf8Names
 utf8_behind text [] all = tt
 utf8_behind text (first ∷ more) all =
-    chosen (λ (path : Option (List (List ℕ))). IfSome path IsUtf8Path) (bytes_eq first text) (Some more) None all.1 tt
+    chosen (λ (path : Option (List (List ℕ))). IfSome path AreUtf8Names) (bytes_eq first text) (Some more) None all.1 tt
 
 utf8_below : (text : List ℕ) (entries : List TermEntry) → AllByRecursion IsUtf8Entry entries
     → AllByRecursion IsUtf8Entry (below text entries)
 utf8_below text entries all =
     of_filter_map IsUtf8Entry IsUtf8Entry (entry_behind text) entries
-    (λ entry is. of_map_or IsUtf8Path (λ (found : Option TermEntry). IfSome found IsUtf8Entry)
+    (λ entry is. of_map_or AreUtf8Names (λ (found : Option TermEntry). IfSome found IsUtf8Entry)
     (λ path. Some (record { path = path; page = entry.page })) (path_behind text entry.path) None (λ path one. one)
     (utf8_behind text entry.path is) tt) all
 
 -- Items
 
-abbrev pub AreUtf8Pages : Pages → Type 0
+abbrev pub AreUtf8Pages : IndexPages → Type 0
 AreUtf8Pages pages = AllByRecursion IsUtf8 pages.names × AllByRecursion IsUtf8 pages.titles
 
-module _ (pages : Pages) (known : AreUtf8Pages pages) where
-  utf8_link : (at : ℕ) → IsUtf8 (page_link pages at)
+module _ (pages : IndexPages) (known : AreUtf8Pages pages) where
+  utf8_link : (at : ℕ) → IsUtf8 (index_link pages at)
   utf8_link at =
       let name = unwrap_or (slice_get pages.names at) [] in
       let title = unwrap_or (slice_get pages.titles at) [] in
@@ -132,10 +130,10 @@ module _ (pages : Pages) (known : AreUtf8Pages pages) where
       → IsUtf8 (items entries) → IsUtf8 (item pages items text entries)
   utf8_item items text entries is within =
       let any : ℕ → Type 0 = λ at. Unit {0} in
-      let links = flat_map (page_link pages) (pages_ended entries) in
+      let links = flat_map (index_link pages) (pages_ended entries) in
       utf8_three (codes "<li>" ++ escaped text ++ links) (list_of (items entries) entries) (codes "</li>")
       (utf8_three (codes "<li>") (escaped text) links (utf8_codes (codes "<li>") refl) (utf8_escaped text is)
-      (utf8_each any (page_link pages) (pages_ended entries) (λ at one. utf8_link at)
+      (utf8_each any (index_link pages) (pages_ended entries) (λ at one. utf8_link at)
       (of_any any (pages_ended entries) (λ at. tt))))
       (utf8_list (items entries) entries within) (utf8_codes (codes "</li>") refl)
 
@@ -171,7 +169,7 @@ pub utf8_terms_html : (entries : List TermEntry) (plan : Plan) (titles : List (L
     → IfSome (terms_html entries plan titles) HasUtf8Html
 utf8_terms_html [] plan titles all known titled = tt
 utf8_terms_html (entry ∷ entries) plan titles all known titled =
-    let pages = pages_of plan titles in
+    let pages = index_pages plan titles in
     utf8_within page_limit (body_of pages (entry ∷ entries))
     (utf8_body pages
     (of_mapped IsUtf8Page IsUtf8 (λ (page : PagePlan). page.name) plan.pages (λ page is. is.1) known, titled)

@@ -13,14 +13,14 @@ use Rattle.dita_doc.specs.declared.plan.PlanNode.{PlanNode}
 use Rattle.reader_spec.specs.World.{World}
 use Rattle.map_spec.specs.Branches.{Branch, affix_written, all_beside, all_marked, branch_of, branches_of, copied, copies, copy_below, copy_for, ditavalrefs, group_for, has_branches, is_ditavalref, is_map_node, is_no_text, marked, metadata_text, names_in_copy, with_scope_names}
 use Rattle.map_spec.specs.Elements.{attribute, class_faults, first_under, is_transparent}
-use Rattle.map_spec.specs.Included.{Around, around_below, if_map, includes_map, is_map, kind_of, map_in, map_included, new_head, node_made, nodes_among, nodes_by, nodes_of_element, root_in, root_place, submap_found, submap_named, submap_of, fault_alone}
+use Rattle.map_spec.specs.Included.{MapAround, around_below, if_map, includes_map, is_map, kind_of, map_in, map_included, new_head, map_node_made, nodes_among, nodes_by, nodes_of_element, root_in, root_place, submap_found, submap_named, submap_of, fault_alone}
 use Rattle.map_spec.specs.Judged.{filtered, has_element, is_excluded, judged, kept, whole_of}
 use Rattle.map_spec.specs.MapTree.{Grown, Head, MapNode, MapTree, NoNodes, beneath, beside, count, nodes_below, plan_nodes, trees_beside, with_faults}
-use Rattle.map_spec.specs.Target.{Document, Elsewhere, Named, Unreadable, default_scope, file_named, is_far, named_by, named_of}
+use Rattle.map_spec.specs.Target.{Document, Elsewhere, Named, Unreadable, default_scope, file_named, is_far, named_if_read, named_of}
 use Rattle.map_spec.specs.Written.{Element, Whole, Written, End, Chars, Node, document, element_in, first_sibling, size}
 use Rattle.href_text.specs.Reference.{is_external}
 use Rattle.html_laws.specs.Utf8.{IsUtf8Content, IsUtf8Element, IsUtf8World}
-use Rattle.html_laws.proofs.ContentUtf8Laws.{IsUtf8Whole, utf8_attribute_of, utf8_element_in, utf8_text_of, utf8_under}
+use Rattle.html_laws.proofs.ContentUtf8Laws.{IsUtf8Root, IsUtf8Whole, utf8_attribute_of, utf8_element_in, utf8_text_of, utf8_under}
 use Rattle.html_laws.proofs.EachLaws.{chosen, of_and_then, of_both, of_lists, of_mapped, of_option, of_option_map}
 use Rattle.html_laws.proofs.ReferenceUtf8Laws.{utf8_file_named}
 
@@ -53,9 +53,9 @@ abbrev GivesUtf8 : (Element → Grown) → Type 0
 GivesUtf8 submap = (element : Element) → IsUtf8Element element → IsUtf8Grown (submap element)
 
 module _ (submap : Element → Grown) (gives : GivesUtf8 submap) where
-  utf8_node_made : (kind : PlanKind) (around : Around) (place : ℕ) (element : Element) (below : Grown)
+  utf8_node_made : (kind : PlanKind) (around : MapAround) (place : ℕ) (element : Element) (below : Grown)
       → IsUtf8Element element → IsUtf8Grown below
-      → IsUtf8Grown (node_made submap kind around place element below)
+      → IsUtf8Grown (map_node_made submap kind around place element below)
   utf8_node_made kind around place element below first second =
       chosen IsUtf8Grown (includes_map kind around element)
       (beneath (new_head kinds.Included element around.level place) (beside (submap element) below))
@@ -66,28 +66,30 @@ module _ (submap : Element → Grown) (gives : GivesUtf8 submap) where
       )
       (utf8_new_head kind element around.level place first, second, tt)
 
-  utf8_nodes_by : (kind : Option PlanKind) (around : Around) (place : ℕ) (element : Element) (below : Around → Grown)
-      → IsUtf8Element element → ((within : Around) → IsUtf8Grown (below within))
+  utf8_nodes_by : (kind : Option PlanKind) (around : MapAround) (place : ℕ) (element : Element)
+      (below : MapAround → Grown)
+      → IsUtf8Element element → ((within : MapAround) → IsUtf8Grown (below within))
       → IsUtf8Grown (nodes_by submap kind around place element below)
   utf8_nodes_by None around place element below first second = tt
   utf8_nodes_by (Some kind) around place element below first second =
       utf8_node_made kind around place element (below (around_below kind around)) first
       (second (around_below kind around))
 
-  utf8_nodes_of : (around : Around) (place : ℕ) (element : Element) (below : Around → Grown) → IsUtf8Element element
-      → ((within : Around) → IsUtf8Grown (below within))
+  utf8_nodes_of : (around : MapAround) (place : ℕ) (element : Element) (below : MapAround → Grown)
+      → IsUtf8Element element
+      → ((within : MapAround) → IsUtf8Grown (below within))
       → IsUtf8Grown (nodes_of_element submap around place element below)
   utf8_nodes_of around place element below first second =
       chosen IsUtf8Grown (is_transparent element) (with_faults (class_faults element) (below around))
       (nodes_by submap (kind_of element) around place element below) (second around)
       (utf8_nodes_by (kind_of element) around place element below first second)
 
-  utf8_among : (around : Around) (place : ℕ) (nodes : Written) → IsUtf8Content nodes
+  utf8_among : (around : MapAround) (place : ℕ) (nodes : Written) → IsUtf8Content nodes
       → IsUtf8Grown (nodes_among submap around place nodes)
   utf8_among around place End all = tt
   utf8_among around place (Chars text doc rest) all = utf8_among around (place + 1) rest all.1
   utf8_among around place (Node element inside rest) all =
-      let below = λ (within : Around). nodes_among submap within (place + 1) inside in
+      let below = λ (within : MapAround). nodes_among submap within (place + 1) inside in
       utf8_trees (nodes_of_element submap around place element below).tree
       (nodes_among submap around (place + 1 + size inside) rest).tree
       (utf8_nodes_of around place element below all.0 (λ within. utf8_among within (place + 1) inside all.1))
@@ -105,9 +107,6 @@ pub utf8_root_in : (world : World) (name : List ℕ) → IsUtf8World world → I
 utf8_root_in world name all named =
     of_and_then IsUtf8Content IsUtf8Whole first_sibling (document world name) utf8_first_sibling (all name named)
 
-abbrev IsUtf8Root : Option Whole → Type 0
-IsUtf8Root root = IfSome root IsUtf8Whole
-
 utf8_map_in : (world : World) (name : List ℕ) → IsUtf8World world → IsUtf8 name → IsUtf8Root (map_in world name)
 utf8_map_in world name all named =
     of_and_then IsUtf8Whole IsUtf8Whole if_map (root_in world name)
@@ -118,7 +117,7 @@ IsUtf8Named (Document name) = IsUtf8 name
 IsUtf8Named Elsewhere = Unit {0}
 IsUtf8Named Unreadable = Unit {0}
 
-utf8_named_by : (name : Option (List ℕ)) → IfSome name IsUtf8 → IsUtf8Named (named_by name)
+utf8_named_by : (name : Option (List ℕ)) → IfSome name IsUtf8 → IsUtf8Named (named_if_read name)
 utf8_named_by None is = tt
 utf8_named_by (Some name) is = is
 
@@ -127,7 +126,7 @@ utf8_named_of : (element : Element) (value : List ℕ) → IsUtf8Element element
 utf8_named_of element value first second =
     chosen IsUtf8Named
     (is_far (unwrap_or (attribute (codes "scope") element) default_scope) || is_external value) Elsewhere
-    (named_by (file_named element.doc value)) tt
+    (named_if_read (file_named element.doc value)) tt
     (utf8_named_by (file_named element.doc value) (utf8_file_named element.doc value first.1 second))
 
 record IsUtf8Branch (branch : Branch) : Type 0 where

@@ -50,26 +50,27 @@ fragment [] [] = []
 fragment (b ∷ topic) [] = codes "#" ++ b ∷ topic
 fragment topic (b ∷ element) = codes "#" ++ topic ++ codes "__" ++ b ∷ element
 
-abbrev pub lead_to_page : Here → Element → List ℕ → List ℕ → List ℕ → Option ℕ → Lead
-lead_to_page here element name topic id None =
+abbrev pub lead_of_page : Here → Element → List ℕ → List ℕ → List ℕ → Option ℕ → Lead
+lead_of_page here element name topic id None =
     record no_lead { faults = fault_at element faults.LinkNoPage name ∷ [] }
-lead_to_page here element name topic id (Some page) = record no_lead {
+lead_of_page here element name topic id (Some page) = record no_lead {
   page = Some page;
   href = option_map (λ (other : PagePlan). relative_path here.page.name other.name ++ fragment topic id)
       (slice_get here.pages page);
 }
 
 -- a DITA document by its page for the context of this page
-abbrev pub lead_to : Here → Element → List ℕ → List ℕ → List ℕ → Lead
-lead_to here element name topic id =
-    lead_to_page here element name topic id (page_for here.pages name here.page.id)
+abbrev pub lead_of_document : Here → Element → List ℕ → List ℕ → List ℕ → Lead
+lead_of_document here element name topic id =
+    lead_of_page here element name topic id (page_for here.pages name here.page.id)
 
-abbrev pub lead_of : Here → Element → Target → Lead
-lead_of here element targets.Nothing = no_lead
-lead_of here element (targets.Local name reference) = lead_to here element name reference.topic reference.element
-lead_of here element (targets.File name rest) =
+abbrev pub lead_of_target : Here → Element → Target → Lead
+lead_of_target here element targets.Nothing = no_lead
+lead_of_target here element
+    (targets.Local name reference) = lead_of_document here element name reference.topic reference.element
+lead_of_target here element (targets.File name rest) =
     record no_lead { href = Some (relative_path here.page.name name ++ rest) }
-lead_of here element (targets.Other value) = record no_lead { href = Some value }
+lead_of_target here element (targets.Other value) = record no_lead { href = Some value }
 
 -- the topic that a key's reference names, or the first of the document
 abbrev pub topic_or_first : Here → List ℕ → List ℕ → List ℕ
@@ -79,8 +80,8 @@ topic_or_first here name (b ∷ topic) = b ∷ topic
 -- `key/id` leads to that element of the key's document
 abbrev pub lead_by_key : Here → Element → Option (List ℕ) → Target → Lead
 lead_by_key here element (Some id) (targets.Local name reference) =
-    lead_to here element name (topic_or_first here name reference.topic) id
-lead_by_key here element id target = lead_of here element target
+    lead_of_document here element name (topic_or_first here name reference.topic) id
+lead_by_key here element id target = lead_of_target here element target
 
 -- Keys of elements
 
@@ -119,16 +120,16 @@ in_topic here topic href (targets.Local name reference) =
 in_topic here topic href target = target
 
 -- what an href leads to, and that it can't be read
-pub record Read : Type 0 where
+pub record HrefRead : Type 0 where
   pub target : Target
   pub faults : List Fault
 
-abbrev pub read_as : Element → List ℕ → Option Target → Read
+abbrev pub read_as : Element → List ℕ → Option Target → HrefRead
 read_as element href None =
     record { target = targets.Nothing; faults = fault_at element faults.BadReference href ∷ [] }
 read_as element href (Some target) = record { target = target; faults = [] }
 
-abbrev pub read_href : Here → List ℕ → Element → Option (List ℕ) → Read
+abbrev pub read_href : Here → List ℕ → Element → Option (List ℕ) → HrefRead
 read_href here topic element None = record { target = targets.Nothing; faults = [] }
 read_href here topic element (Some href) = read_as element href
     (option_map (in_topic here topic href) (target_by href (format_of element) (scope_of element) element.href_doc))
@@ -153,9 +154,9 @@ linked_by_key here element answer = record {
   faults = [];
 }
 
-abbrev pub linked_by_read : Here → Element → Read → Linked
+abbrev pub linked_by_read : Here → Element → HrefRead → Linked
 linked_by_read here element read = record {
-  lead = lead_of here element read.target;
+  lead = lead_of_target here element read.target;
   label = text_of_target here element read.target;
   faults = read.faults;
 }
@@ -174,19 +175,19 @@ abbrev pub as_file : Target → Target
 as_file (targets.Local name reference) = targets.File name []
 as_file target = target
 
-abbrev pub image_href : Element → List ℕ → Read
+abbrev pub image_href : Element → List ℕ → HrefRead
 image_href element href = read_as element href
     (if is_far (scope_of element) || is_external href then Some (targets.Other href) else local_file element.href_doc href)
 
-abbrev pub image_by_href : Element → Option (List ℕ) → Read
+abbrev pub image_by_href : Element → Option (List ℕ) → HrefRead
 image_by_href element None = record { target = targets.Nothing; faults = [] }
 image_by_href element (Some href) = image_href element href
 
-abbrev pub image_by : Element → Target → Read
+abbrev pub image_by : Element → Target → HrefRead
 image_by element targets.Nothing = image_by_href element (attribute (codes "href") element)
 image_by element target = record { target = as_file target; faults = [] }
 
-abbrev pub image_of : Here → Element → Read
+abbrev pub image_of : Here → Element → HrefRead
 image_of here element =
     image_by element (option_map_or (λ (answer : KeyAnswer). answer.target) (defined_key here element) targets.Nothing)
 
@@ -228,11 +229,12 @@ shows_href _ = false
 abbrev pub has_form : (Form → Bool) → Element → Bool
 has_form is_form element = option_map_or (λ (row : List ℕ × Form). is_form row.1) (row_for element) false
 
-abbrev pub image_added : Here → Standing → Read → Added
+abbrev pub image_added : Here → Standing → HrefRead → Added
 image_added here standing read = record {
   anchor = Some (record {
     place = standing.place;
-    href = if has_form shows_href standing.whole.0 then (lead_of here standing.whole.0 read.target).href else None;
+    href = if has_form shows_href standing.whole.0 then
+        (lead_of_target here standing.whole.0 read.target).href else None;
     label = None;
   });
   link = None;

@@ -13,7 +13,7 @@ use Rattle.dita_doc.specs.declared.fact.Html.{Html}
 use Rattle.map_spec.specs.Elements.{attribute, class_faults, fault_at, first_child, has_types, text_of, tokens_of}
 use Rattle.map_spec.specs.Titles.{id_of}
 use Rattle.map_spec.specs.Written.{Element, Written, End, Chars, Node, size}
-use Rattle.html_spec.specs.Tables.{column_names, columns_of, is_group, rows_of}
+use Rattle.html_spec.specs.Tables.{column_names, columns_of, is_column_group, rows_of}
 
 -- What an element of this type becomes
 
@@ -122,30 +122,30 @@ row_for element = last_of (filter_map row_of (tokens_of element))
 -- Where an element stands
 
 -- the nearest of topic, section or example, figure and table around
-pub data Around : Type 0 where
-  InTopic : Around
-  InSection : Around
-  InFigure : Around
-  InTable : Around
+pub data TitlePlace : Type 0 where
+  InTopic : TitlePlace
+  InSection : TitlePlace
+  InFigure : TitlePlace
+  InTable : TitlePlace
 
 -- the id of the nearest topic, how many topics are around, the nearest of those above, whether a cell heads its column, in
 -- tables and in simple tables, and the names of the columns of the nearest group
-pub record Context : Type 0 where
+pub record HtmlContext : Type 0 where
   pub topic : List ℕ
   pub depth : ℕ
-  pub around : Around
+  pub around : TitlePlace
   pub head : Bool
   pub simple_head : Bool
   pub columns : List (Option (List ℕ))
 
-abbrev pub outside : Context
+abbrev pub outside : HtmlContext
 outside = record { topic = []; depth = 0; around = InTopic; head = false; simple_head = false; columns = [] }
 
 -- what an element of a type changes for those within it
 abbrev pub is_type : List ℕ → List ℕ → Bool
 is_type name token = bytes_eq token (codes "topic/" ++ name)
 
-abbrev pub around_in : List ℕ → Around → Around
+abbrev pub around_in : List ℕ → TitlePlace → TitlePlace
 around_in token around =
     if is_type (codes "topic") token then InTopic
     else if is_type (codes "section") token || is_type (codes "example") token then InSection
@@ -165,15 +165,15 @@ simple_head_in token head =
     else if is_type (codes "strow") token || is_type (codes "simpletable") token then false
     else head
 
-abbrev pub topic_in : List ℕ → Element → Context → Context
+abbrev pub topic_in : List ℕ → Element → HtmlContext → HtmlContext
 topic_in token element context = if is_type (codes "topic") token
     then record context { topic = id_of element; depth = context.depth + 1 } else context
 
-abbrev pub columns_in : Element → Written → Context → Context
+abbrev pub columns_in : Element → Written → HtmlContext → HtmlContext
 columns_in element inside context =
-    if is_group element then record context { columns = column_names inside } else context
+    if is_column_group element then record context { columns = column_names inside } else context
 
-abbrev pub within_type : List ℕ → Element → Context → Context
+abbrev pub within_type : List ℕ → Element → HtmlContext → HtmlContext
 within_type token element context = record (topic_in token element context) {
   around = around_in token context.around;
   head = head_in token context.head;
@@ -213,14 +213,14 @@ abbrev pub end_tag : List ℕ → List ℕ
 end_tag name = codes "</" ++ name ++ codes ">"
 
 -- the id of an element stands behind that of its topic, and a topic's alone; an empty id is none
-abbrev pub id_shown : Context → Bool → List ℕ → Option (List ℕ)
-id_shown context is_topic [] = None
-id_shown context true (b ∷ id) = Some (b ∷ id)
-id_shown context false (b ∷ id) = Some (context.topic ++ codes "__" ++ b ∷ id)
+abbrev pub id_attribute : HtmlContext → Bool → List ℕ → Option (List ℕ)
+id_attribute context is_topic [] = None
+id_attribute context true (b ∷ id) = Some (b ∷ id)
+id_attribute context false (b ∷ id) = Some (context.topic ++ codes "__" ++ b ∷ id)
 
-abbrev pub start_of : Context → Bool → Element → (name class more : List ℕ) → List ℕ
+abbrev pub start_of : HtmlContext → Bool → Element → (name class more : List ℕ) → List ℕ
 start_of context is_topic element name class more = start_tag name
-    (attribute_text (codes "id") (id_shown context is_topic (id_of element))
+    (attribute_text (codes "id") (id_attribute context is_topic (id_of element))
     ++ attribute_text (codes "class") (if_some_text class) ++ more)
 
 -- Titles: their level is the depth of the topic, and one more in a section; h1 to h6
@@ -231,7 +231,7 @@ level_of depth = if nat_lt 6 depth then 6 else if depth == 0 then 1 else depth
 abbrev pub heading : ℕ → List ℕ
 heading depth = codes "h" ++ decimal (level_of depth)
 
-abbrev pub title_tag : Around → ℕ → List ℕ
+abbrev pub title_tag : TitlePlace → ℕ → List ℕ
 title_tag InTopic depth = heading depth
 title_tag InSection depth = heading (depth + 1)
 title_tag InFigure depth = codes "figcaption"
@@ -250,7 +250,7 @@ cell_tag false = codes "td"
 abbrev pub span_text : List ℕ → ℕ → List ℕ
 span_text name count = if nat_le count 1 then [] else attribute_text name (Some (decimal count))
 
-abbrev pub spans : Context → Element → List ℕ
+abbrev pub spans : HtmlContext → Element → List ℕ
 spans context element =
     span_text (codes "rowspan") (rows_of element) ++ span_text (codes "colspan") (columns_of context.columns element)
 
@@ -297,20 +297,20 @@ content_or_label anchors place End content = shown (escaped (label_at anchors pl
 content_or_label anchors place inside content = content
 
 -- a link stands around the content
-abbrev pub linked_by : Option (List ℕ) → Html → Html
-linked_by None content = content
-linked_by (Some href) content =
+abbrev pub in_link : Option (List ℕ) → Html → Html
+in_link None content = content
+in_link (Some href) content =
     shown_in (start_tag (codes "a") (attribute_text (codes "href") (Some href))) content (end_tag (codes "a"))
 
 abbrev pub linked_at : List Anchor → ℕ → Html → Html
-linked_at anchors place content = linked_by (href_at anchors place) content
+linked_at anchors place content = in_link (href_at anchors place) content
 
 -- Images
 
 abbrev pub alt_of : Element → Written → List ℕ
 alt_of element inside = unwrap_or (attribute (codes "alt") element) (text_of (first_child (codes "topic/alt") inside))
 
-abbrev pub image_tag : Context → Overlay → ℕ → Element → Written → List ℕ
+abbrev pub image_tag : HtmlContext → Overlay → ℕ → Element → Written → List ℕ
 image_tag context overlay place element inside =
     start_of context false element (codes "img") (class_at overlay place [])
     (attribute_text (codes "src") (Some (unwrap_or (href_at overlay.anchors place) []))
@@ -319,7 +319,7 @@ image_tag context overlay place element inside =
 -- Elements
 
 -- an element of HTML around content
-abbrev pub tagged : Context → Bool → Element → (name class more : List ℕ) → Html → Html
+abbrev pub tagged : HtmlContext → Bool → Element → (name class more : List ℕ) → Html → Html
 tagged context is_topic element name class more content =
     shown_in (start_of context is_topic element name class more) content (end_tag name)
 
@@ -327,7 +327,7 @@ abbrev pub reference_tag : Option (List ℕ) → List ℕ
 reference_tag None = codes "span"
 reference_tag (Some href) = codes "a"
 
-abbrev pub form_shown : Context → Overlay → ℕ → Element → Written → Html → Form → Html
+abbrev pub form_shown : HtmlContext → Overlay → ℕ → Element → Written → Html → Form → Html
 form_shown context overlay place element inside content (Tag name class) =
     tagged context false element name (class_at overlay place class) [] (linked_at overlay.anchors place content)
 form_shown context overlay place element inside content Topic =
@@ -354,7 +354,8 @@ form_shown context overlay place element inside content Foreign =
     shown_with (fault_at element faults.Foreign element.name ∷ []) (shown [])
 
 -- `content` shows what the element holds, where it stands then; an element without a row has no tag, and so no marks
-abbrev pub row_shown : Context → Overlay → ℕ → Element → Written → (Context → Html) → Option (List ℕ × Form) → Html
+abbrev pub row_shown : HtmlContext → Overlay → ℕ → Element → Written → (HtmlContext → Html) → Option (List ℕ × Form)
+    → Html
 row_shown context overlay place element inside content None = linked_at overlay.anchors place
     (content_or_label overlay.anchors place inside (content (columns_in element inside context)))
 row_shown context overlay place element inside content (Some row) =
@@ -362,12 +363,12 @@ row_shown context overlay place element inside content (Some row) =
     (content (columns_in element inside (within_type row.0 element context)))) row.1
 
 -- an element of no type shows its content alone
-abbrev pub element_shown : Context → Overlay → ℕ → Element → Written → (Context → Html) → Html
+abbrev pub element_shown : HtmlContext → Overlay → ℕ → Element → Written → (HtmlContext → Html) → Html
 element_shown context overlay place element inside content =
     if has_types element then row_shown context overlay place element inside content (row_for element)
     else shown_with (class_faults element) (content context)
 
-abbrev pub shown_from : Context → Overlay → ℕ → Written → Html
+abbrev pub shown_from : HtmlContext → Overlay → ℕ → Written → Html
 shown_from context overlay place End = shown []
 shown_from context overlay place (Chars text doc rest) =
     shown_beside (shown (escaped text)) (shown_from context overlay (place + 1) rest)
@@ -387,7 +388,7 @@ pub record CellAt : Type 0 where
   pub rows : ℕ
   pub columns : ℕ
 
-abbrev pub cell_by : Context → ℕ → Element → Option (List ℕ × Form) → List CellAt
+abbrev pub cell_by : HtmlContext → ℕ → Element → Option (List ℕ × Form) → List CellAt
 cell_by context place element (Some (token, Cell)) = record {
   place = place;
   head = context.head;
@@ -398,11 +399,11 @@ cell_by context place element (Some (token, SimpleCell)) =
     record { place = place; head = context.simple_head; rows = 1; columns = 1 } ∷ []
 cell_by context place element _ = []
 
-abbrev pub context_in : Element → Written → Option (List ℕ × Form) → Context → Context
+abbrev pub context_in : Element → Written → Option (List ℕ × Form) → HtmlContext → HtmlContext
 context_in element inside None context = columns_in element inside context
 context_in element inside (Some row) context = columns_in element inside (within_type row.0 element context)
 
-abbrev pub cells_from : Context → ℕ → Written → List CellAt
+abbrev pub cells_from : HtmlContext → ℕ → Written → List CellAt
 cells_from context place End = []
 cells_from context place (Chars text doc rest) = cells_from context (place + 1) rest
 cells_from context place (Node element inside rest) =

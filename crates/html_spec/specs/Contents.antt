@@ -15,11 +15,11 @@ use Rattle.map_spec.specs.Cascade.{attribute_at, is_in_table, walk, whole_at}
 use Rattle.map_spec.specs.Elements.{attribute, first_child, first_under, is_value, text_of}
 use Rattle.map_spec.specs.Included.{is_reference}
 use Rattle.map_spec.specs.Keys.{key_of}
-use Rattle.map_spec.specs.Scopes.{found, places}
+use Rattle.map_spec.specs.Scopes.{definition_found, places}
 use Rattle.map_spec.specs.Titles.{first_text, title_in}
 use Rattle.map_spec.specs.Written.{Whole, Written}
 use Rattle.html_spec.specs.Blocks.{attribute_text, end_tag, start_tag}
-use Rattle.link_spec.specs.Links.{is_child, page_of_node, target_of}
+use Rattle.link_spec.specs.Links.{is_child, page_of_node, plan_target}
 use Rattle.html_spec.specs.PageHtml.{page_text}
 
 -- What a node says of its own title: its navtitle element comes before the attribute
@@ -34,9 +34,9 @@ navtitle_of world node = first_text (option_map_or (λ (whole : Whole). navtitle
 abbrev pub is_text : List ℕ → Bool
 is_text text = not (length text == 0)
 
-abbrev pub is_nothing : Target → Bool
-is_nothing targets.Nothing = true
-is_nothing _ = false
+abbrev pub is_no_target : Target → Bool
+is_no_target targets.Nothing = true
+is_no_target _ = false
 
 -- Items: references outside relationship tables that are no mere resources, are not kept out, and have a target or a title
 
@@ -48,7 +48,7 @@ abbrev pub is_item : World → Plan → ℕ → PlanNode → Bool
 is_item world plan at node = is_reference node.kind && not (is_in_table (walk plan.nodes at))
     && cascaded_is (codes "processing-role") (codes "normal") node
     && not (cascaded_is (codes "toc") (codes "no") node)
-    && (not (is_nothing (target_of plan at)) || is_text (navtitle_of world node))
+    && (not (is_no_target (plan_target plan at)) || is_text (navtitle_of world node))
 
 -- Labels
 
@@ -56,7 +56,8 @@ abbrev pub is_locked : World → PlanNode → Bool
 is_locked world node = is_value (codes "yes") (attribute_at world (codes "locktitle") node)
 
 abbrev pub is_keyed : World → Plan → PlanNode → Bool
-is_keyed world plan node = is_some (option_and_then (λ keyref. found world plan.nodes node.scope (key_of keyref))
+is_keyed world plan node = is_some
+    (option_and_then (λ keyref. definition_found world plan.nodes node.scope (key_of keyref))
     (attribute_at world (codes "keyref") node))
 
 -- the label by the target: the title of a document of ours, else the value; a file that a key gives has its name
@@ -74,8 +75,8 @@ is_local _ = false
 -- a navtitle counts if it is locked, or if the target is no document of ours
 abbrev pub label_of : World → Plan → ℕ → PlanNode → List ℕ
 label_of world plan at node =
-    if is_text (navtitle_of world node) && (is_locked world node || not (is_local (target_of plan at)))
-    then navtitle_of world node else label_by_target world plan node (target_of plan at)
+    if is_text (navtitle_of world node) && (is_locked world node || not (is_local (plan_target plan at)))
+    then navtitle_of world node else label_by_target world plan node (plan_target plan at)
 
 -- Links: to a page, or to a target that is no document of ours
 
@@ -107,7 +108,7 @@ list_text (b ∷ items) = codes "<ul>" ++ (b ∷ items) ++ codes "</ul>"
 
 abbrev pub item_text : World → Plan → ℕ → PlanNode → List ℕ → List ℕ
 item_text world plan at node below = start_tag (codes "li") (flat_map data_text node.cascaded)
-    ++ linked (href_by plan at (target_of plan at)) (escaped (label_of world plan at node))
+    ++ linked (href_by plan at (plan_target plan at)) (escaped (label_of world plan at node))
     ++ list_text below ++ end_tag (codes "li")
 
 -- a node that is no item is replaced by the items below it

@@ -48,5 +48,5 @@ abbrev pub columns_of : List (Option (List ℕ)) → Element → ℕ
 columns_of names element = columns_from
     (column_at names (attribute (codes "namest") element)) (column_at names (attribute (codes "nameend") element))
 
-abbrev pub is_group : Element → Bool
-is_group element = is_a (codes "topic/tgroup") element
+abbrev pub is_column_group : Element → Bool
+is_column_group element = is_a (codes "topic/tgroup") element

@@ -92,12 +92,12 @@ pages_ended entries = rising nat_cmp (map (λ (entry : TermEntry). entry.page) (
 -- The page
 
 -- the names and the titles of the plan's pages
-pub record Pages : Type 0 where
+pub record IndexPages : Type 0 where
   pub names : List (List ℕ)
   pub titles : List (List ℕ)
 
-abbrev pub page_link : Pages → ℕ → List ℕ
-page_link pages at =
+abbrev pub index_link : IndexPages → ℕ → List ℕ
+index_link pages at =
     codes " <a href=\"" ++ escaped_value (unwrap_or (slice_get pages.names at) []) ++ codes "\">"
     ++ escaped (unwrap_or (slice_get pages.titles at) []) ++ codes "</a>"
 
@@ -105,13 +105,13 @@ page_link pages at =
 abbrev pub list_of : List ℕ → List TermEntry → List ℕ
 list_of items entries = if list_all ends entries then [] else codes "<ul>" ++ items ++ codes "</ul>"
 
-abbrev pub item : Pages → (List TermEntry → List ℕ) → List ℕ → List TermEntry → List ℕ
+abbrev pub item : IndexPages → (List TermEntry → List ℕ) → List ℕ → List TermEntry → List ℕ
 item pages items text entries =
-    codes "<li>" ++ escaped text ++ flat_map (page_link pages) (pages_ended entries)
+    codes "<li>" ++ escaped text ++ flat_map (index_link pages) (pages_ended entries)
     ++ list_of (items entries) entries ++ codes "</li>"
 
 -- the items of so many levels
-abbrev pub items_of : ℕ → Pages → List TermEntry → List ℕ
+abbrev pub items_of : ℕ → IndexPages → List TermEntry → List ℕ
 items_of zero pages entries = []
 items_of (suc levels) pages entries =
     flat_map (λ text. item pages (items_of levels pages) text (below text entries)) (texts_of entries)
@@ -120,7 +120,7 @@ items_of (suc levels) pages entries =
 abbrev pub levels_of : List TermEntry → ℕ
 levels_of entries = fold (λ most (entry : TermEntry). max most (length entry.path)) 0 entries
 
-abbrev pub body_of : Pages → List TermEntry → List ℕ
+abbrev pub body_of : IndexPages → List TermEntry → List ℕ
 body_of pages entries =
     codes "<nav class=\"terms\"><h1>Index</h1><ul>" ++ items_of (levels_of entries) pages entries ++ codes "</ul></nav>"
 
@@ -130,8 +130,8 @@ within limit body =
     let text = page_text (codes "Index") body [] in
     record { bytes = if nat_le (length text) limit then text else page_text (codes "Index") [] []; faults = [] }
 
-abbrev pub pages_of : Plan → List (List ℕ) → Pages
-pages_of plan titles =
+abbrev pub index_pages : Plan → List (List ℕ) → IndexPages
+index_pages plan titles =
     record { names = map (λ (page : PagePlan). page.name) plan.pages; titles = titles }
 
 -- the name of the page; those of all other pages end with `.html`
@@ -142,4 +142,4 @@ terms_name = codes "terms.htm"
 abbrev pub terms_html : List TermEntry → Plan → List (List ℕ) → Option Html
 terms_html [] plan titles = None
 terms_html (entry ∷ entries) plan titles =
-    Some (within page_limit (body_of (pages_of plan titles) (entry ∷ entries)))
+    Some (within page_limit (body_of (index_pages plan titles) (entry ∷ entries)))

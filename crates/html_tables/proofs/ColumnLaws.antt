@@ -7,6 +7,7 @@ use Rattle.std.proofs.lemmas.List.{append-nil, length-append, map-append}
 use Rattle.std.proofs.lemmas.List.Elements.{filter-append}
 use Rattle.std.proofs.lemmas.Option.{none-some, same_Some}
 use Rattle.std.proofs.lemmas.Slice.Eq.{bytes_eq-Decides}
+use Rattle.dita_doc.proofs.Tests.{one_further, text_swaps}
 use Rattle.doc_elements.proofs.ChildLaws.{siblings_side_by_side}
 use Rattle.html_tables.specs.declared.columns.Columns.{Columns}
 use Rattle.html_tables.specs.Walk.{AreColumns, HasNameMore, Names, or_at}
@@ -20,9 +21,6 @@ use Rattle.html_spec.specs.Tables.{column_at, column_names, columns_from, column
 add_zero : (at : ℕ) → at ≡ at + 0
 add_zero at = omega arith
 
-suc_more : (at n : ℕ) → at + 1 + n ≡ at + suc n
-suc_more at n = omega arith
-
 one_place : (is : Bool) (at : ℕ) → (if is then Some at else None) ≡ (if is then Some (at + 0) else None)
 one_place true at = ap Some (add_zero at)
 one_place false at = refl
@@ -33,7 +31,7 @@ place_by : {X : Type 0} (test : X → Bool) (at : ℕ) (first : X) (xs : List X)
     → place_of test at (first ∷ xs ++ x ∷ []) ≡ or_at (place_of test at (first ∷ xs)) (test x) (at + suc (length xs))
 place_by test at first xs x true rest e more same = rw e refl
 place_by test at first xs x false rest e more same =
-    rw (e, more, same) (ap (λ n. or_at (place_of test (at + 1) xs) (test x) n) (suc_more at (length xs)))
+    rw (e, more, same) (ap (λ n. or_at (place_of test (at + 1) xs) (test x) n) (one_further at (length xs)))
 
 -- a place among one more
 pub place_more : {X : Type 0} (test : X → Bool) (at : ℕ) (xs : List X) (x : X)
@@ -104,18 +102,6 @@ pub place_taken : (places : List ℕ → Option ℕ) (name other : List ℕ) (co
     → cond (bytes_eq name other) (Some count) (places other) ≡ or_at (places other) (bytes_eq name other) count
 place_taken places name other count none = taken_by places name other count (bytes_eq name other) refl none
 
-eq_by : (a b : List ℕ) (first second : Bool) → bytes_eq a b ≡ first → bytes_eq b a ≡ second → first ≡ second
-eq_by a b true true e f = refl
-eq_by a b false false e f = refl
-eq_by a b true false e f = let same = (bytes_eq-Decides a b).0 e in
-    absurd (false≢true (sym f ∙ (bytes_eq-Decides b a).1 (sym same)))
-eq_by a b false true e f = let same = (bytes_eq-Decides b a).0 f in
-    absurd (false≢true (sym e ∙ (bytes_eq-Decides a b).1 (sym same)))
-
--- equality is the same both ways
-pub eq_both : (a b : List ℕ) → bytes_eq a b ≡ bytes_eq b a
-eq_both a b = eq_by a b (bytes_eq a b) (bytes_eq b a) refl refl
-
 -- one more column with a name
 pub with_name : (old named new : Columns) (name : List ℕ) (names : Names) → HasNameMore old named name
     → new.places ≡ named.places → new.count ≡ named.count + 1 → AreColumns old names
@@ -125,7 +111,7 @@ with_name old named new name names more places count are = record {
   places = λ other.
       ap (λ map. get_by_text map other) places
       ∙ more.places other
-      ∙ rw (are.places other, are.count, eq_both name other) (place_last (is_value other) names (Some name));
+      ∙ rw (are.places other, are.count, text_swaps name other) (place_last (is_value other) names (Some name));
 }
 
 -- one more without a name

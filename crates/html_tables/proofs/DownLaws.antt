@@ -6,11 +6,11 @@ use Rattle.html_tables.specs.declared.groups.Groups.{Groups}
 use Rattle.html_tables.specs.Walk.{HasWithin, IsContext, cells_at, cells_of}
 use Rattle.html_tables.proofs.PlaceLaws.{cells_left, left_behind, left_here, left_inside, left_text}
 use Rattle.map_spec.specs.Written.{Element, Written, End, Chars, Node, size}
-use Rattle.html_spec.specs.Blocks.{Context, context_in, outside, row_for}
+use Rattle.html_spec.specs.Blocks.{HtmlContext, context_in, outside, row_for}
 
 -- where the first of the nodes that are left stands; and the element sought stands among them, if anywhere
 pub record LeadsTo (groups : Groups) (tables : TableContext) (here table : ℕ) (left all : Written) : Type 0 where
-  pub around : Context
+  pub around : HtmlContext
   pub at : ℕ
   pub is : IsContext groups tables around
   pub there : table ≡ here + at

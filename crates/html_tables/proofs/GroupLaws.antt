@@ -1,24 +1,14 @@
 -- The groups that were met, with one more.
-use Rattle.std.specs.Prelude.{◌≡◌, ◌==◌, ℕ, zero, suc, Bool, true, false, List, [], ◌∷◌, ◌++◌, Some, None, bytes_eq, codes, length, not, slice_get}
+use Rattle.std.specs.Prelude.{◌≡◌, ◌==◌, ℕ, Bool, true, false, List, [], ◌∷◌, ◌++◌, Some, None, bytes_eq, codes, length, not, slice_get}
 use Rattle.std.specs.List.{list_any}
 use Rattle.std.proofs.Common.{refl, ap, ◌∙◌}
-use Rattle.std.proofs.lemmas.Option.{none-some}
+use Rattle.dita_doc.proofs.Lists.{get_front, get_pushed}
 use Rattle.html_tables.specs.declared.columns.Columns.{Columns}
 use Rattle.html_tables.specs.declared.groups.Groups.{Groups}
 use Rattle.html_tables.specs.Walk.{AreColumns, IsGroupAt, KeepsGroups, Names, columns_within}
 use Rattle.map_spec.specs.Elements.{is_dita, is_transparent, tokens_of}
 use Rattle.map_spec.specs.Written.{Element, Written}
 use Rattle.html_spec.specs.Tables.{column_names}
-
-get_front : {X : Type 0} (xs ys : List X) (at : ℕ) (x : X) → slice_get xs at ≡ Some x
-    → slice_get (xs ++ ys) at ≡ Some x
-get_front [] ys at x e = absurd (none-some x e)
-get_front (first ∷ xs) ys zero x e = e
-get_front (first ∷ xs) ys (suc at) x e = get_front xs ys at x e
-
-get_behind : {X : Type 0} (xs : List X) (x : X) → slice_get (xs ++ x ∷ []) (length xs) ≡ Some x
-get_behind [] x = refl
-get_behind (first ∷ xs) x = get_behind xs x
 
 -- the others are kept
 pub kept_groups : (old new : Groups) (columns : Columns) → new.groups ≡ old.groups ++ columns ∷ []
@@ -37,7 +27,7 @@ pub new_group : (old new : Groups) (columns : Columns) (number : ℕ) (names : N
     → AreColumns columns names → IsGroupAt new number names
 new_group old new columns number names is at are = record {
   columns = columns;
-  here = rw (is, at) (get_behind old.groups columns);
+  here = rw (is, at) (get_pushed old.groups columns);
   are = are;
 }
 

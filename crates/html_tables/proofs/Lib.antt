@@ -1,7 +1,6 @@
 mod CellRows
 pub mod ColumnLaws
 pub mod GroupLaws
-pub mod NodeLaws
 pub mod WalkLaws
 pub mod PlaceLaws
 pub mod DownLaws

@@ -1,17 +1,17 @@
 -- The cells at a place, on the way from the root down to it: where the cells of nodes stand, and what is found among those
 -- nodes that are left.
-use Rattle.std.specs.Prelude.{◌≡◌, ◌+◌, ◌-◌, ◌<◌, ◌≤◌, ◌==◌, ◌++◌, ℕ, zero, suc, Bool, true, false, List, [], ◌∷◌, Option, Some, None, filter, nat_lt}
+use Rattle.std.specs.Prelude.{◌≡◌, ◌+◌, ◌-◌, ◌<◌, ◌≤◌, ◌++◌, ℕ, zero, suc, Bool, true, false, List, [], ◌∷◌, Option, Some, None, filter, nat_lt}
 use Rattle.std.specs.Option.{option_map_or}
 use Rattle.std.proofs.Common.{refl, sym, ap, ◌∙◌, arith}
 use Rattle.std.proofs.lemmas.Bool.Decides.{nat_tests}
 use Rattle.std.proofs.lemmas.List.{append-nil}
 use Rattle.std.proofs.lemmas.List.Elements.{filter-append}
 use Rattle.std.proofs.lemmas.Option.{none-some, same_Some}
-use Rattle.dita_doc.proofs.LackLaws.{no_equal}
+use Rattle.dita_doc.proofs.Tests.{not_zero, place_next}
 use Rattle.html_tables.specs.Walk.{cells_in, cells_of, stands_in}
 use Rattle.map_spec.specs.Written.{Element, Whole, Written, End, Chars, Node, element_at, size}
 use Rattle.html_spec.specs.Blocks as blocks
-use Rattle.html_spec.specs.Blocks.{CellAt, Context, Form, cell_by, cells_from, context_in, row_for}
+use Rattle.html_spec.specs.Blocks.{CellAt, HtmlContext, Form, cell_by, cells_from, context_in, row_for}
 
 -- Cells of nodes pass a test, or fail it, by their places
 
@@ -37,7 +37,7 @@ module _ (test : CellAt → Bool) (is : Bool) where
       → filter test (xs ++ ys) ≡ kept_if is (xs ++ ys)
   joined_kept xs ys one two = filter-append test xs ys ∙ rw (one, two) (both_kept is xs ys)
 
-  cell_kept : (around : Context) (here : ℕ) (element : Element) (row : Option (List ℕ × Form))
+  cell_kept : (around : HtmlContext) (here : ℕ) (element : Element) (row : Option (List ℕ × Form))
       → ((cell : CellAt) → cell.place ≡ here → test cell ≡ is)
       → filter test (cell_by around here element row) ≡ kept_if is (cell_by around here element row)
   cell_kept around here element None tests = none_kept is
@@ -52,7 +52,7 @@ module _ (test : CellAt → Bool) (is : Bool) where
   cell_kept around here element (Some (token, blocks.Left)) tests = none_kept is
   cell_kept around here element (Some (token, blocks.Foreign)) tests = none_kept is
 
-  cells_kept : (around : Context) (here : ℕ) (nodes : Written)
+  cells_kept : (around : HtmlContext) (here : ℕ) (nodes : Written)
       → ((cell : CellAt) → here ≤ cell.place → cell.place < here + size nodes → test cell ≡ is)
       → filter test (cells_from around here nodes) ≡ kept_if is (cells_from around here nodes)
   cells_kept around here End tests = none_kept is
@@ -69,9 +69,6 @@ module _ (test : CellAt → Bool) (is : Bool) where
       (cells_kept around (here + 1 + size inside) rest (λ cell from to. tests cell (omega arith) (omega arith)))
 
 -- The element at a place
-
-not_zero : (n : ℕ) → (suc n == 0) ≡ false
-not_zero n = no_equal (suc n) 0 (λ same. omega arith)
 
 at_text : (text doc : List ℕ) (rest : Written) (k : ℕ) → element_at (Chars text doc rest) (suc k) ≡ element_at rest k
 at_text text doc rest k =
@@ -121,7 +118,7 @@ found_fits (Node element inside rest) (suc k) whole found =
 -- What is found among the nodes that are left
 
 -- the first of them stands at the place `here`, and the element sought so far behind it
-abbrev pub cells_left : Context → ℕ → ℕ → Written → List CellAt
+abbrev pub cells_left : HtmlContext → ℕ → ℕ → Written → List CellAt
 cells_left around here at nodes =
     option_map_or (cells_in (cells_from around here nodes) (here + at)) (element_at nodes at) []
 
@@ -141,19 +138,16 @@ stands_behind : (place : ℕ) (whole : Whole) (cell : CellAt) → place + 1 + si
     → stands_in place whole cell ≡ false
 stands_behind place whole cell behind = grind (arith, nat_tests)
 
-place_next : (here k : ℕ) → here + suc k ≡ here + 1 + k
-place_next here k = omega arith
-
-pub left_text : (around : Context) (here k : ℕ) (text doc : List ℕ) (rest : Written)
+pub left_text : (around : HtmlContext) (here k : ℕ) (text doc : List ℕ) (rest : Written)
     → cells_left around here (suc k) (Chars text doc rest) ≡ cells_left around (here + 1) k rest
 left_text around here k text doc rest = same_found _ _ _ _ (at_text text doc rest k)
     (λ whole found. ap (λ place. cells_in (cells_from around (here + 1) rest) place whole) (place_next here k))
 
-module _ (around : Context) (here : ℕ) (element : Element) (inside rest : Written) where
+module _ (around : HtmlContext) (here : ℕ) (element : Element) (inside rest : Written) where
   abbrev own : List CellAt
   own = cell_by around here element (row_for element)
 
-  abbrev within : Context
+  abbrev within : HtmlContext
   within = context_in element inside (row_for element) around
 
   -- the element sought stands here

@@ -13,13 +13,13 @@ use Rattle.html_tables.specs.Walk.{HasCellsMore, HasColumns, HasWithin, IsContex
 use Rattle.map_spec.specs.Elements.{tokens_of}
 use Rattle.map_spec.specs.Written.{Element, Written, Chars, Node, size}
 use Rattle.html_spec.specs.Blocks as blocks
-use Rattle.html_spec.specs.Blocks.{CellAt, Context, Form, cell_by, cells_from, columns_in, context_in, head_in, is_type, row_for, simple_head_in, topic_in, within_type}
-use Rattle.html_spec.specs.Tables.{columns_of, is_group, rows_of}
-use Rattle.readers.specs.Named.{named}
+use Rattle.html_spec.specs.Blocks.{CellAt, HtmlContext, Form, cell_by, cells_from, columns_in, context_in, head_in, is_type, row_for, simple_head_in, topic_in, within_type}
+use Rattle.html_spec.specs.Tables.{columns_of, is_column_group, rows_of}
+use Rattle.readers.specs.Named.{under_names}
 
 -- Contexts
 
-pub kept_context : (old new : Groups) (tables : TableContext) (around : Context) → KeepsGroups old new
+pub kept_context : (old new : Groups) (tables : TableContext) (around : HtmlContext) → KeepsGroups old new
     → IsContext old tables around → IsContext new tables around
 kept_context old new tables around kept is = record {
   head = is.head;
@@ -27,17 +27,17 @@ kept_context old new tables around kept is = record {
   columns = kept tables.group around.columns is.columns;
 }
 
-module _ (element : Element) (inside : Written) (around : Context) where
-  columns_by : (group : Bool) → is_group element ≡ group
+module _ (element : Element) (inside : Written) (around : HtmlContext) where
+  columns_by : (group : Bool) → is_column_group element ≡ group
       → (columns_in element inside around).columns ≡ columns_within (tokens_of element) inside around.columns
   columns_by true e = rw e refl
   columns_by false e = rw e refl
 
-  head_by : (group : Bool) → is_group element ≡ group → (columns_in element inside around).head ≡ around.head
+  head_by : (group : Bool) → is_column_group element ≡ group → (columns_in element inside around).head ≡ around.head
   head_by true e = rw e refl
   head_by false e = rw e refl
 
-  simple_by : (group : Bool) → is_group element ≡ group
+  simple_by : (group : Bool) → is_column_group element ≡ group
       → (columns_in element inside around).simple_head ≡ around.simple_head
   simple_by true e = rw e refl
   simple_by false e = rw e refl
@@ -47,16 +47,16 @@ module _ (element : Element) (inside : Written) (around : Context) where
   topic_by token true e = rw e refl
   topic_by token false e = rw e refl
 
-module _ (old new : Groups) (tables within : TableContext) (element : Element) (inside : Written) (around : Context)
+module _ (old new : Groups) (tables within : TableContext) (element : Element) (inside : Written) (around : HtmlContext)
     (is : IsContext old tables around)
     (nearest : HasColumns new within.group (columns_within (tokens_of element) inside around.columns)) where
   -- what an element of no form holds
   pub context_beside : within.head ≡ tables.head → within.simple_head ≡ tables.simple_head
       → IsContext new within (context_in element inside None around)
   context_beside head simple = record {
-    head = head ∙ is.head ∙ sym (head_by element inside around (is_group element) refl);
-    simple_head = simple ∙ is.simple_head ∙ sym (simple_by element inside around (is_group element) refl);
-    columns = subst (HasColumns new within.group) (sym (columns_by element inside around (is_group element) refl)) nearest;
+    head = head ∙ is.head ∙ sym (head_by element inside around (is_column_group element) refl);
+    simple_head = simple ∙ is.simple_head ∙ sym (simple_by element inside around (is_column_group element) refl);
+    columns = subst (HasColumns new within.group) (sym (columns_by element inside around (is_column_group element) refl)) nearest;
   }
 
   -- what an element of a form holds
@@ -68,17 +68,18 @@ module _ (old new : Groups) (tables within : TableContext) (element : Element) (
       let same = ap (columns_within (tokens_of element) inside)
       (topic_by element inside around row.0 (is_type (codes "topic") row.0) refl) in
       record {
-        head = head ∙ ap (head_in row.0) is.head ∙ sym (head_by element inside typed (is_group element) refl);
+        head = head ∙ ap (head_in row.0) is.head ∙ sym (head_by element inside typed (is_column_group element) refl);
         simple_head = simple ∙ ap (simple_head_in row.0) is.simple_head
-            ∙ sym (simple_by element inside typed (is_group element) refl);
+            ∙ sym (simple_by element inside typed (is_column_group element) refl);
         columns = subst (HasColumns new within.group)
-            (sym (columns_by element inside typed (is_group element) refl ∙ same)) nearest;
+            (sym (columns_by element inside typed (is_column_group element) refl ∙ same)) nearest;
       }
 
 -- Cells
 
 -- a cell of a table
-pub cell_of_table : (place : ℕ) (element : Element) (token : List ℕ) (around : Context) (head : Bool) (rows columns : ℕ)
+pub cell_of_table : (place : ℕ) (element : Element) (token : List ℕ) (around : HtmlContext) (head : Bool)
+    (rows columns : ℕ)
     → head ≡ around.head → rows ≡ rows_of element → columns ≡ columns_of around.columns element
     → ◌≡◌ {A = List CellAt} (record { place = place; head = head; rows = rows; columns = columns } ∷ [])
     (cell_by around place element (Some (token, blocks.Cell)))
@@ -107,7 +108,7 @@ pushed_cell (Err error) old new cell some is shown = tt
 
 -- An element is met
 
-module _ (old new : Groups) (tables within : TableContext) (element : Element) (inside : Written) (around : Context)
+module _ (old new : Groups) (tables within : TableContext) (element : Element) (inside : Written) (around : HtmlContext)
     (tokens : List (List ℕ)) (is : IsContext old tables around) (words : tokens ≡ tokens_of element)
     (nearest : HasColumns new within.group (columns_within tokens inside around.columns)) where
   near : HasColumns new within.group (columns_within (tokens_of element) inside around.columns)
@@ -166,13 +167,13 @@ more_again old new next first second one two = record {
 
 -- Sizes
 
-pub size_named : (names : List (List ℕ)) (c : Content) → size (named names c) ≡ size_of c
+pub size_named : (names : List (List ℕ)) (c : Content) → size (under_names names c) ≡ size_of c
 size_named names tree.End = refl
 size_named names (tree.Chars text origin line rest) = ap (λ n. 1 + n) (size_named names rest)
 size_named names (tree.Element name attributes origin line inside rest) =
     rw (size_named names inside, size_named names rest) refl
 
-module _ (around : Context) (here : ℕ) (nodes : Written) where
+module _ (around : HtmlContext) (here : ℕ) (nodes : Written) where
   -- an element, what it holds, and what comes behind it
   pub cells_first : (element : Element) (inside rest : Written) (past : ℕ) → nodes ≡ Node element inside rest
       → past ≡ here + 1 + size inside

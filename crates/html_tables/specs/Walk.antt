@@ -14,9 +14,9 @@ use Rattle.html_tables.specs.declared.groups.Groups.{Groups}
 use Rattle.html_tables.specs.declared.table.Cell.{Cell}
 use Rattle.html_tables.specs.declared.table.Walk.{Walk}
 use Rattle.map_spec.specs.Written.{Element, Whole, Written, element_at, size}
-use Rattle.html_spec.specs.Blocks.{CellAt, Context, cell_by, cells_from, context_in, outside, row_for}
+use Rattle.html_spec.specs.Blocks.{CellAt, HtmlContext, cell_by, cells_from, context_in, outside, row_for}
 use Rattle.html_spec.specs.Tables.{column_at, column_names}
-use Rattle.readers.specs.Named.{name_at, named}
+use Rattle.readers.specs.Named.{name_at, under_names}
 
 -- Cells
 
@@ -37,14 +37,14 @@ abbrev pub cells_at : Written → ℕ → List CellAt
 cells_at nodes table = option_map_or (cells_in (cells_from outside 0 nodes) table) (element_at nodes table) []
 
 -- the cells of an element that stands at a place, within this: itself, if it is one, and those in it
-abbrev pub cells_of : Context → ℕ → Whole → List CellAt
+abbrev pub cells_of : HtmlContext → ℕ → Whole → List CellAt
 cells_of around place whole = cell_by around place whole.0 (row_for whole.0)
     ++ cells_from (context_in whole.0 whole.1 (row_for whole.0) around) (place + 1) whole.1
 
 -- What siblings are
 
 abbrev pub content_named : List (List ℕ) → Siblings → Written
-content_named names siblings = named names (content siblings)
+content_named names siblings = under_names names (content siblings)
 
 abbrev pub element_named : List (List ℕ) → doc.Node → Element
 element_named names node = walk.element_of (name_at names node.origin) node
@@ -97,7 +97,7 @@ columns_within tokens inside names =
     if list_any (bytes_eq (codes "topic/tgroup")) tokens then column_names inside else names
 
 -- where an element stands, as the definition has it
-pub record IsContext (groups : Groups) (tables : TableContext) (context : Context) : Type 0 where
+pub record IsContext (groups : Groups) (tables : TableContext) (context : HtmlContext) : Type 0 where
   pub head : tables.head ≡ context.head
   pub simple_head : tables.simple_head ≡ context.simple_head
   pub columns : HasColumns groups tables.group context.columns
@@ -110,12 +110,12 @@ pub record HasCellsMore (old new : Walk) (some : List CellAt) : Type 0 where
   pub cells : map shown_cell new.cells ≡ map shown_cell old.cells ++ some
 
 -- what an element holds stands within this, by the groups that were met
-abbrev pub HasWithin : Groups → TableContext → Element → Written → Context → Type 0
+abbrev pub HasWithin : Groups → TableContext → Element → Written → HtmlContext → Type 0
 HasWithin groups within element inside around = IsContext groups within (context_in element inside (row_for element) around)
 
 -- a walk met an element, and knows where what it holds stands
 pub record HasEntered (old new : Walk) (within : TableContext) (place : ℕ) (element : Element) (inside : Written)
-    (around : Context) : Type 0 where
+    (around : HtmlContext) : Type 0 where
   pub more : HasCellsMore old new (cell_by around place element (row_for element))
   pub context : HasWithin new.groups within element inside around
 

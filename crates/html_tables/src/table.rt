@@ -94,8 +94,8 @@ fn append_whole(
     inside: Siblings<'_>,
     context: TableContext,
 ) -> Result<(), NoMemory>
-    requires { place + 1 + tree_spec.size_of (siblings_spec.content inside) < tree_spec.node_limit }
-    ensures { (names : List (List ℕ)) (name : List ℕ) (around : blocks_spec.Context)
+    requires { place + 1 + tree_spec.size_of (siblings_spec.content inside) < tree_spec.doc_node_limit }
+    ensures { (names : List (List ℕ)) (name : List ℕ) (around : blocks_spec.HtmlContext)
         → walk_spec.IsContext walk.old.groups context around
         → OnOk result (walk_spec.HasCellsMore walk.old walk.new (walk_spec.cells_of around place
         (elements_walk.element_of name element.now, walk_spec.content_named names inside.entry))) }
@@ -114,7 +114,7 @@ fn enter(
     context: TableContext,
 ) -> Result<TableContext, NoMemory>
     ensures kept { OnOk result (walk_spec.KeepsGroups groups.old groups.new) }
-    ensures within { (names : List (List ℕ)) (name : List ℕ) (around : blocks_spec.Context)
+    ensures within { (names : List (List ℕ)) (name : List ℕ) (around : blocks_spec.HtmlContext)
         → walk_spec.IsContext groups.old context around → IfOk result (λ within.
         walk_spec.HasWithin groups.new within (elements_walk.element_of name element.now)
         (walk_spec.content_named names inside.entry) around) }
@@ -139,7 +139,7 @@ impl Walk {
     ghost use Rattle.doc_elements.specs.Walk as elements_walk;
     ghost use Rattle.html_forms.specs.Shown.{form_shown_of};
     ghost use Rattle.html_tables.specs.Walk as walk_spec;
-    ghost use Rattle.html_spec.specs.Blocks.{Context};
+    ghost use Rattle.html_spec.specs.Blocks.{HtmlContext};
     ghost use Rattle.html_spec.specs.Blocks as blocks_spec;
 
     // Appends an element, if it is a cell, and tells where what it holds stands.
@@ -151,7 +151,7 @@ impl Walk {
         inside: Siblings<'_>,
         context: TableContext,
     ) -> Result<TableContext, NoMemory>
-        ensures { (names : List (List ℕ)) (name : List ℕ) (around : Context)
+        ensures { (names : List (List ℕ)) (name : List ℕ) (around : HtmlContext)
             → walk_spec.IsContext self.old.groups context around → IfOk result (λ within.
             walk_spec.HasEntered self.old self.new within place
             (elements_walk.element_of name element.now)
@@ -170,7 +170,7 @@ impl Walk {
         context: TableContext,
     ) -> Result<(), AllocError>
         ensures groups { self.new.groups ≡ self.old.groups }
-        ensures cells { (name : List ℕ) (around : Context)
+        ensures cells { (name : List ℕ) (around : HtmlContext)
             → walk_spec.IsContext self.old.groups context around
             → OnOk result (map walk_spec.shown_cell self.new.cells
             ≡ map walk_spec.shown_cell self.old.cells ++ blocks_spec.cell_by around place
@@ -185,7 +185,7 @@ impl Walk {
 
     // The cell that an element is, if it is one.
     fn cell_of(&self, place: u32, element: &Node, context: TableContext) -> Option<Cell>
-        ensures { (name : List ℕ) (around : Context)
+        ensures { (name : List ℕ) (around : HtmlContext)
             → walk_spec.IsContext self.now.groups context around
             → walk_spec.cells_shown result ≡ blocks_spec.cell_by around place
             (elements_walk.element_of name element.now)
@@ -199,7 +199,7 @@ impl Walk {
 
     // The cell that an element of this form is, if it is one.
     fn cell_by(&self, place: u32, element: &Node, form: Form, context: TableContext) -> Option<Cell>
-        ensures { (name token : List ℕ) (around : Context)
+        ensures { (name token : List ℕ) (around : HtmlContext)
             → walk_spec.IsContext self.now.groups context around
             → walk_spec.cells_shown result ≡ blocks_spec.cell_by around place
             (elements_walk.element_of name element.now) (Some (token, form_shown_of form)) }
@@ -232,10 +232,10 @@ fn append_cells(
     context: TableContext,
 ) -> Result<u32, NoMemory>
     requires { place + tree_spec.size_of (siblings_spec.content siblings)
-        < tree_spec.node_limit }
+        < tree_spec.doc_node_limit }
     ensures past { IfOk result (λ past.
         past ≡ place + tree_spec.size_of (siblings_spec.content siblings.entry)) }
-    ensures cells { (names : List (List ℕ)) (around : blocks_spec.Context)
+    ensures cells { (names : List (List ℕ)) (around : blocks_spec.HtmlContext)
         → walk_spec.IsContext walk.old.groups context around
         → OnOk result (walk_spec.HasCellsMore walk.old walk.new (blocks_spec.cells_from around place
         (walk_spec.content_named names siblings.entry))) }

@@ -8,10 +8,9 @@ use Rattle.dita_doc.specs.declared.content.Resolved.{Resolved}
 use Rattle.doc_elements.proofs.BareLaws.{bare, bare_element}
 use Rattle.map_spec.specs.Elements.{is_whole}
 use Rattle.map_spec.specs.Written.{Element, Written, End, Chars, Node, elements_below, written_in}
-use Rattle.readers.specs.Named.{named}
+use Rattle.readers.specs.Named.{AreNodesOf, under_names, with_own_hrefs}
 use Rattle.html_spec.specs.Terms.{holds_term, is_apart, is_term, own_characters, paths_among, term_text, terms_of}
 use Rattle.dita_doc.specs.PlainText.{folded}
-use Rattle.index_page.specs.Body.{AreNodesOf, with_own_hrefs}
 use Rattle.index_page.specs.Walk.{entries_among, entries_at}
 
 -- Nodes without their documents
@@ -53,7 +52,8 @@ bare_hrefs (Chars text doc rest) = ap (Chars text []) (bare_hrefs rest)
 bare_hrefs (Node element inside rest) =
     λ i. Node (bare_element element) (bare_hrefs inside i) (bare_hrefs rest i)
 
-bare_named : (names : List (List ℕ)) (name : List ℕ) (c : Content) → bare (written_in name c) ≡ bare (named names c)
+bare_named : (names : List (List ℕ)) (name : List ℕ) (c : Content)
+    → bare (written_in name c) ≡ bare (under_names names c)
 bare_named names name tree.End = refl
 bare_named names name (tree.Chars text origin line rest) = ap (Chars text []) (bare_named names name rest)
 bare_named names name (tree.Element own attributes origin line inside rest) =

@@ -16,11 +16,11 @@ use Rattle.std.proofs.lemmas.List.{map-append}
 use Rattle.std.proofs.lemmas.List.Elements.{All-head, All-tail}
 use Rattle.std.proofs.lemmas.Slice.Eq.{bytes_eq-Decides}
 use Rattle.dita_doc.specs.declared.content.TermEntry.{TermEntry}
-use Rattle.html_spec.specs.Terms.{Pages, below, ends, entry_behind, first_text, item, items_of}
+use Rattle.html_spec.specs.Terms.{IndexPages, below, ends, entry_behind, first_text, item, items_of}
 use Rattle.index_page.specs.Groups.{AreGroups, Groups, if_there, listed, text_cmp}
 use Rattle.index_page.specs.Rows.{all_end, entries_of, entry_of}
 use Rattle.index_page.specs.Walk.{entry_at}
-use Rattle.index_page.specs.declared.rows.Row.{Row}
+use Rattle.index_page.specs.declared.rows.TermRow.{TermRow}
 
 -- Puts
 
@@ -46,7 +46,7 @@ pub text_same : (one other : List ℕ) → is_eq (text_cmp one other) ≡ true �
 text_same one other is = (bytes_eq-Decides one other).0 (texts_ties one other ∙ is)
 
 -- what is listed after a put
-pub listed_put : (old new : Groups) (text : List ℕ) (row : Row) (first after none : Vec Row Global)
+pub listed_put : (old new : Groups) (text : List ℕ) (row : TermRow) (first after none : Vec TermRow Global)
     → first ≡ unwrap_or (lookup (is_at (text_cmp text)) old) none → none.items ≡ []
     → after.items ≡ first.items ++ row ∷ [] → (other : List ℕ)
     → lookup (is_at (text_cmp other)) new
@@ -55,10 +55,10 @@ pub listed_put : (old new : Groups) (text : List ℕ) (row : Row) (first after n
 listed_put old new text row first after none begun empty pushed other found =
     ap (λ there. option_map_or items there []) found ∙ by (is_eq (text_cmp text other)) refl
   where
-    items : Vec Row Global → List Row
+    items : Vec TermRow Global → List TermRow
     items rows = rows.items
 
-    list_or : (there : Option (Vec Row Global)) → items (unwrap_or there none) ≡ option_map_or items there []
+    list_or : (there : Option (Vec TermRow Global)) → items (unwrap_or there none) ≡ option_map_or items there []
     list_or None = empty
     list_or (Some rows) = refl
 
@@ -72,27 +72,28 @@ listed_put old new text row first after none begun empty pushed other found =
     by false is = sym (append-nil (listed other old))
 
 -- the first of those that are left
-pub row_at : (rows : List Row) (at : ℕ) (row : Row) → at < length rows → row ≡ get_or rows at row
+pub row_at : (rows : List TermRow) (at : ℕ) (row : TermRow) → at < length rows → row ≡ get_or rows at row
     → drop at rows ≡ row ∷ drop (at + 1) rows
 row_at rows at row within is =
     rw (add-one, drop-cons rows at row) (ap (λ first. first ∷ drop (suc at) rows) (sym is))
 
 -- What a loop over rows has left
 
-abbrev pub with_texts : List (List ℕ) → List Row → List (List ℕ)
+abbrev pub with_texts : List (List ℕ) → List TermRow → List (List ℕ)
 with_texts done rows = fold (insert_key text_cmp) done (filter_map first_text (entries_of rows))
 
-abbrev pub with_rows : Groups → List Row → List ℕ → List TermEntry
+abbrev pub with_rows : Groups → List TermRow → List ℕ → List TermEntry
 with_rows groups rows text = entries_of (listed text groups) ++ below text (entries_of rows)
 
-abbrev pub with_pages : List ℕ → List Row → List ℕ
+abbrev pub with_pages : List ℕ → List TermRow → List ℕ
 with_pages done rows =
     fold (insert_key nat_cmp) done (map (λ (entry : TermEntry). entry.page) (filter ends (entries_of rows)))
 
-abbrev pub with_levels : ℕ → List Row → ℕ
+abbrev pub with_levels : ℕ → List TermRow → ℕ
 with_levels most rows = fold (λ most (entry : TermEntry). max most (length entry.path)) most (entries_of rows)
 
-module _ (row : Row) (more : List Row) (text : List ℕ) (path : List (List ℕ)) (goes : row.path.now ≡ text ∷ path) where
+module _ (row : TermRow) (more : List TermRow) (text : List ℕ) (path : List (List ℕ))
+    (goes : row.path.now ≡ text ∷ path) where
   pub text_step : (done after : List (List ℕ)) → after ≡ insert_key text_cmp done text
       → with_texts after more ≡ with_texts done (row ∷ more)
   text_step done after put =
@@ -109,7 +110,7 @@ module _ (row : Row) (more : List Row) (text : List ℕ) (path : List (List ℕ)
       by false = refl
 
   -- the row behind its first text is put there
-  pub row_step : (old new : Groups) (behind : Row) → behind.path.now ≡ path → behind.page ≡ row.page
+  pub row_step : (old new : Groups) (behind : TermRow) → behind.path.now ≡ path → behind.page ≡ row.page
       → ((other : List ℕ) → listed other new ≡ listed other old ++ if_there other text behind)
       → (other : List ℕ) → with_rows new more other ≡ with_rows old (row ∷ more) other
   row_step old new behind paths pages put other =
@@ -132,7 +133,7 @@ module _ (row : Row) (more : List Row) (text : List ℕ) (path : List (List ℕ)
           ∙ append_assoc (entries_of (listed other old)) [] (below other (entries_of more))
 
 -- a row that ends here stands below no text
-module _ (row : Row) (more : List Row) (none : row.path.now ≡ []) where
+module _ (row : TermRow) (more : List TermRow) (none : row.path.now ≡ []) where
   pub text_kept : (done : List (List ℕ)) → with_texts done more ≡ with_texts done (row ∷ more)
   text_kept done =
       sym (ap (λ p. fold (insert_key text_cmp) done (cons_option (slice_get p 0) (filter_map first_text (entries_of more))))
@@ -144,20 +145,20 @@ module _ (row : Row) (more : List Row) (none : row.path.now ≡ []) where
       ++ cons_option (entry_behind other (entry_at row.page p)) (below other (entries_of more))) none)
 
 -- that all end here
-pub ends_all : (rows : List Row) → all_end rows ≡ list_all ends (entries_of rows)
+pub ends_all : (rows : List TermRow) → all_end rows ≡ list_all ends (entries_of rows)
 ends_all [] = refl
 ends_all (row ∷ rows) = ap (λ b. ends (entry_of row) && b) (ends_all rows)
 
 -- Pages
 
-pub page_step : (row : Row) (more : List Row) (done after : List ℕ) → ends (entry_of row) ≡ true
+pub page_step : (row : TermRow) (more : List TermRow) (done after : List ℕ) → ends (entry_of row) ≡ true
     → after ≡ insert_key nat_cmp done row.page → with_pages after more ≡ with_pages done (row ∷ more)
 page_step row more done after is put =
     ap (λ l. with_pages l more) put
     ∙ sym (ap (λ b. fold (insert_key nat_cmp) done (map (λ (entry : TermEntry). entry.page)
     (if b then entry_of row ∷ filter ends (entries_of more) else filter ends (entries_of more)))) is)
 
-pub page_kept : (row : Row) (more : List Row) (done : List ℕ) → ends (entry_of row) ≡ false
+pub page_kept : (row : TermRow) (more : List TermRow) (done : List ℕ) → ends (entry_of row) ≡ false
     → with_pages done more ≡ with_pages done (row ∷ more)
 page_kept row more done is =
     sym (ap (λ b. fold (insert_key nat_cmp) done (map (λ (entry : TermEntry). entry.page)
@@ -167,25 +168,26 @@ page_kept row more done is =
 
 -- what is written of groups, each below its text
 abbrev pub written : (List ℕ → List TermEntry → List ℕ) → Groups → List ℕ
-written form groups = flat_map (λ (group : List ℕ × Vec Row Global). form group.0 (entries_of group.1.items)) groups
+written form groups = flat_map (λ (group : List ℕ × Vec TermRow Global). form group.0 (entries_of group.1.items)) groups
 
 written_all : (form : List ℕ → List TermEntry → List ℕ) (entries : List TermEntry) (all : Groups)
     → ((text : List ℕ) → entries_of (listed text all) ≡ below text entries) → (groups : Groups)
-    → All (λ (group : List ℕ × Vec Row Global). lookup (is_at (text_cmp group.0)) all ≡ Some group.1) groups
+    → All (λ (group : List ℕ × Vec TermRow Global). lookup (is_at (text_cmp group.0)) all ≡ Some group.1) groups
     → written form groups ≡ flat_map (λ text. form text (below text entries)) (keys_of groups)
 written_all form entries all are [] found = refl
 written_all form entries all are (group ∷ groups) found =
-    let Found = λ (group : List ℕ × Vec Row Global). lookup (is_at (text_cmp group.0)) all ≡ Some group.1 in
+    let Found = λ (group : List ℕ × Vec TermRow Global). lookup (is_at (text_cmp group.0)) all ≡ Some group.1 in
     let here : lookup (is_at (text_cmp group.0)) all ≡ Some group.1 = All-head Found group groups found in
     let rows : entries_of group.1.items ≡ below group.0 entries =
-    ap (λ (found : Option (Vec Row Global)).
-    entries_of (option_map_or (λ (rows : Vec Row Global). rows.items) found [])) (sym here)
+    ap (λ (found : Option (Vec TermRow Global)).
+    entries_of (option_map_or (λ (rows : Vec TermRow Global). rows.items) found [])) (sym here)
     ∙ are group.0 in
     (λ i. form group.0 (rows i) ++ written_all form entries all are groups (All-tail Found group groups found) i)
 
 -- the items of a level
-pub items_written : (pages : Pages) (levels : ℕ) (entries : List TermEntry) (groups : Groups) → AreGroups groups entries
-    → All (λ (group : List ℕ × Vec Row Global). lookup (is_at (text_cmp group.0)) groups ≡ Some group.1) groups
+pub items_written : (pages : IndexPages) (levels : ℕ) (entries : List TermEntry) (groups : Groups)
+    → AreGroups groups entries
+    → All (λ (group : List ℕ × Vec TermRow Global). lookup (is_at (text_cmp group.0)) groups ≡ Some group.1) groups
     → written (item pages (items_of levels pages)) groups ≡ items_of (suc levels) pages entries
 items_written pages levels entries groups are found =
     written_all (item pages (items_of levels pages)) entries groups are.rows groups found

@@ -4,9 +4,9 @@ use Rattle.std.specs.List.{flat_map}
 use Rattle.std.proofs.Common.{append_assoc, ap, ◌∙◌}
 use Rattle.dita_doc.specs.HtmlEscapes.{escaped}
 use Rattle.dita_doc.specs.declared.content.TermEntry.{TermEntry}
-use Rattle.html_spec.specs.Terms.{Pages, item, page_link, pages_ended}
+use Rattle.html_spec.specs.Terms.{IndexPages, item, index_link, pages_ended}
 use Rattle.index_page.specs.Rows.{all_end, entries_of}
-use Rattle.index_page.specs.declared.rows.Row.{Row}
+use Rattle.index_page.specs.declared.rows.TermRow.{TermRow}
 use Rattle.index_page.proofs.GroupLaws.{ends_all}
 
 ended : (a b c d e : List ℕ) → (((a ++ b) ++ c) ++ d) ++ e ≡ a ++ ((((b ++ c) ++ d) ++ []) ++ e)
@@ -16,9 +16,9 @@ going_on : (a b c d e f g h : List ℕ)
     → (((((a ++ b) ++ c) ++ d) ++ e) ++ f) ++ (g ++ h) ≡ a ++ ((((b ++ c) ++ d) ++ ((e ++ f) ++ g)) ++ h)
 going_on a b c d e f g h = simp append_assoc
 
-module _ (pages : Pages) (items : List TermEntry → List ℕ) (text out : List ℕ) (rows : List Row) where
+module _ (pages : IndexPages) (items : List TermEntry → List ℕ) (text out : List ℕ) (rows : List TermRow) where
   abbrev links : List ℕ
-  links = flat_map (page_link pages) (pages_ended (entries_of rows))
+  links = flat_map (index_link pages) (pages_ended (entries_of rows))
 
   abbrev with_list : List ℕ → List ℕ
   with_list list = out ++ (codes "<li>" ++ escaped text ++ links ++ list ++ codes "</li>")

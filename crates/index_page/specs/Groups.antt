@@ -11,21 +11,21 @@ use Rattle.std.specs.declared.vec.Vec.{Vec}
 use Rattle.dita_doc.specs.declared.content.TermEntry.{TermEntry}
 use Rattle.html_spec.specs.Terms.{below, texts_of}
 use Rattle.index_page.specs.Rows.{entries_of}
-use Rattle.index_page.specs.declared.rows.Row.{Row}
+use Rattle.index_page.specs.declared.rows.TermRow.{TermRow}
 
 -- rows by a text
 abbrev pub Groups : Type 0
-Groups = List (List ℕ × Vec Row Global)
+Groups = List (List ℕ × Vec TermRow Global)
 
 abbrev pub text_cmp : List ℕ → List ℕ → Ordering
 text_cmp one other = slice_cmp nat_cmp one other
 
 -- the rows that were put at a text
-abbrev pub listed : List ℕ → Groups → List Row
+abbrev pub listed : List ℕ → Groups → List TermRow
 listed text groups =
-    option_map_or (λ (rows : Vec Row Global). rows.items) (lookup (is_at (text_cmp text)) groups) []
+    option_map_or (λ (rows : Vec TermRow Global). rows.items) (lookup (is_at (text_cmp text)) groups) []
 
-abbrev pub if_there : List ℕ → List ℕ → Row → List Row
+abbrev pub if_there : List ℕ → List ℕ → TermRow → List TermRow
 if_there text there row = if is_eq (text_cmp there text) then row ∷ [] else []
 
 -- the first texts of entries, each with what stands below it

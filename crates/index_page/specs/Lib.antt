@@ -1,4 +1,3 @@
-pub mod Body
 pub mod Groups
 pub mod Rows
 pub mod Walk

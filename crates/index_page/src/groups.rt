@@ -6,7 +6,7 @@ ghost use Rattle.std.specs.Map.{keys_of};
 ghost use Rattle.index_page.specs.Groups as spec;
 ghost use Rattle.index_page.specs.Rows as rows_spec;
 
-use crate::rows::Row;
+use crate::rows::TermRow;
 use dita_doc::{NoMemory, Text};
 use std::alloc::Global;
 use std::collections::BTreeMap;
@@ -14,8 +14,8 @@ use std::collections::BTreeMap;
 // The rows by their first texts, without these.
 pub(crate) fn grouped<'a>(
     alloc: Global,
-    rows: &[Row<'a>],
-) -> Result<BTreeMap<Text, Vec<Row<'a>>>, NoMemory>
+    rows: &[TermRow<'a>],
+) -> Result<BTreeMap<Text, Vec<TermRow<'a>>>, NoMemory>
     ensures { IfOk result (λ groups. spec.AreGroups groups.entries (rows_spec.entries_of rows.now)) }
 {
     let mut groups = BTreeMap::new(alloc);
@@ -23,7 +23,7 @@ pub(crate) fn grouped<'a>(
         let Some((text, path)) = row.path.split_first() else {
             continue;
         };
-        let behind = Row {
+        let behind = TermRow {
             path,
             page: row.page,
         };
@@ -36,9 +36,9 @@ pub(crate) fn grouped<'a>(
 #[tactic(auto, using(crate::proofs::GroupLaws::keys_put))]
 fn put<'a>(
     alloc: Global,
-    groups: &mut BTreeMap<Text, Vec<Row<'a>>>,
+    groups: &mut BTreeMap<Text, Vec<TermRow<'a>>>,
     text: Text,
-    row: Row<'a>,
+    row: TermRow<'a>,
 ) -> Result<(), NoMemory>
     ensures texts { OnOk result (keys_of groups.new.entries
         ≡ insert_key spec.text_cmp (keys_of groups.old.entries) text) }

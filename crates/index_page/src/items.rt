@@ -7,14 +7,14 @@ ghost use Rattle.html_spec.specs.Terms as terms_spec;
 ghost use Rattle.index_page.specs.Rows as rows_spec;
 
 use crate::groups::grouped;
-use crate::rows::{Row, all_end, pages_ended};
+use crate::rows::{TermRow, all_end, pages_ended};
 use dita_doc::{NoMemory, Plan, Text, append_html};
 use html_page::append_anchor;
 use std::alloc::{AllocError, Global};
 
 // The pages that items lead to: a plan's, with their titles.
 #[derive(Clone, Copy)]
-pub(crate) struct Pages<'a> {
+pub(crate) struct IndexPages<'a> {
     pub(crate) plan: &'a Plan,
     pub(crate) titles: &'a [Text],
 }
@@ -24,12 +24,12 @@ pub(crate) struct Pages<'a> {
 pub(crate) fn append_items(
     alloc: Global,
     out: &mut Text,
-    pages: Pages<'_>,
-    rows: &[Row<'_>],
+    pages: IndexPages<'_>,
+    rows: &[TermRow<'_>],
     levels: usize,
 ) -> Result<(), NoMemory>
     ensures { OnOk result (out.new ≡ out.old ++ terms_spec.items_of levels
-        (terms_spec.pages_of pages.entry.plan.now pages.entry.titles.now)
+        (terms_spec.index_pages pages.entry.plan.now pages.entry.titles.now)
         (rows_spec.entries_of rows.now)) }
 {
     if levels == 0 {
@@ -47,15 +47,15 @@ pub(crate) fn append_items(
 fn append_item(
     alloc: Global,
     out: &mut Text,
-    pages: Pages<'_>,
+    pages: IndexPages<'_>,
     text: &Text,
-    rows: &[Row<'_>],
+    rows: &[TermRow<'_>],
     levels: usize,
 ) -> Result<(), NoMemory>
     ensures { OnOk result (out.new ≡ out.old
-        ++ terms_spec.item (terms_spec.pages_of pages.entry.plan.now pages.entry.titles.now)
+        ++ terms_spec.item (terms_spec.index_pages pages.entry.plan.now pages.entry.titles.now)
         (terms_spec.items_of levels
-        (terms_spec.pages_of pages.entry.plan.now pages.entry.titles.now)) text.now
+        (terms_spec.index_pages pages.entry.plan.now pages.entry.titles.now)) text.now
         (rows_spec.entries_of rows.now)) }
 {
     out.append("<li>")?;
@@ -75,11 +75,11 @@ fn append_item(
 fn append_links(
     alloc: Global,
     out: &mut Text,
-    pages: Pages<'_>,
-    rows: &[Row<'_>],
+    pages: IndexPages<'_>,
+    rows: &[TermRow<'_>],
 ) -> Result<(), NoMemory>
-    ensures { OnOk result (out.new ≡ out.old ++ flat_map (terms_spec.page_link
-        (terms_spec.pages_of pages.entry.plan.now pages.entry.titles.now))
+    ensures { OnOk result (out.new ≡ out.old ++ flat_map (terms_spec.index_link
+        (terms_spec.index_pages pages.entry.plan.now pages.entry.titles.now))
         (terms_spec.pages_ended (rows_spec.entries_of rows.now))) }
 {
     let ended = pages_ended(alloc, rows)?;
@@ -90,17 +90,17 @@ fn append_links(
 }
 
 // Appends the link to a page.
-fn append_link(out: &mut Text, pages: Pages<'_>, page: usize) -> Result<(), AllocError>
-    ensures { OnOk result (out.new ≡ out.old ++ terms_spec.page_link
-        (terms_spec.pages_of pages.entry.plan.now pages.entry.titles.now) page) }
+fn append_link(out: &mut Text, pages: IndexPages<'_>, page: usize) -> Result<(), AllocError>
+    ensures { OnOk result (out.new ≡ out.old ++ terms_spec.index_link
+        (terms_spec.index_pages pages.entry.plan.now pages.entry.titles.now) page) }
 {
     out.append(" ")?;
     append_anchor(out, name_of(pages, page), title_of(pages, page))
 }
 
 // The name of the page at this place of the plan.
-fn name_of<'a>(pages: Pages<'a>, page: usize) -> &'a str
-    ensures { result.now ≡ unwrap_or (slice_get (terms_spec.pages_of pages.entry.plan.now
+fn name_of<'a>(pages: IndexPages<'a>, page: usize) -> &'a str
+    ensures { result.now ≡ unwrap_or (slice_get (terms_spec.index_pages pages.entry.plan.now
         pages.entry.titles.now).names page) [] }
 {
     match pages.plan.pages.as_slice().get(page) {
@@ -110,7 +110,7 @@ fn name_of<'a>(pages: Pages<'a>, page: usize) -> &'a str
 }
 
 // Its title.
-fn title_of<'a>(pages: Pages<'a>, page: usize) -> &'a str
+fn title_of<'a>(pages: IndexPages<'a>, page: usize) -> &'a str
     ensures { result.now ≡ unwrap_or (slice_get pages.entry.titles.now page) [] }
 {
     match pages.titles.get(page) {

@@ -4,7 +4,7 @@ ghost use Rattle.std.specs.Prelude.{◌≡◌, ◌++◌, codes, IfOk};
 ghost use Rattle.html_spec.specs.PageHtml as page_html_spec;
 ghost use Rattle.html_spec.specs.Terms as spec;
 
-use crate::items::{Pages, append_items};
+use crate::items::{IndexPages, append_items};
 use crate::rows::{levels_of, rows_of};
 use dita_doc::{Html, List, NoMemory, Plan, TermEntry, Text};
 use html_page::page_text;
@@ -32,7 +32,7 @@ pub fn terms_html(
     if entries.is_empty() {
         return Ok(None);
     }
-    let pages = Pages {
+    let pages = IndexPages {
         plan,
         titles: titles.as_slice(),
     };
@@ -41,9 +41,9 @@ pub fn terms_html(
 }
 
 // What stands in the page.
-fn body_of(alloc: Global, pages: Pages<'_>, entries: &[TermEntry]) -> Result<Text, NoMemory>
+fn body_of(alloc: Global, pages: IndexPages<'_>, entries: &[TermEntry]) -> Result<Text, NoMemory>
     ensures { IfOk result (λ body. body ≡ spec.body_of
-        (spec.pages_of pages.entry.plan.now pages.entry.titles.now) entries.now) }
+        (spec.index_pages pages.entry.plan.now pages.entry.titles.now) entries.now) }
 {
     let rows = rows_of(alloc, entries)?;
     let mut body = Text::from_str(alloc, "<nav class=\"terms\"><h1>Index</h1><ul>")?;

@@ -10,7 +10,7 @@ use std::collections::BTreeSet;
 
 // What is left of an entry's path, and its page.
 #[derive(Clone, Copy)]
-pub(crate) struct Row<'a> {
+pub(crate) struct TermRow<'a> {
     pub(crate) path: &'a [Text],
     pub(crate) page: u32,
 }
@@ -19,12 +19,12 @@ pub(crate) struct Row<'a> {
 pub(crate) fn rows_of<'a>(
     alloc: Global,
     entries: &'a [TermEntry],
-) -> Result<Vec<Row<'a>>, AllocError>
+) -> Result<Vec<TermRow<'a>>, AllocError>
     ensures { IfOk result (λ rows. spec.entries_of rows.items ≡ entries.now) }
 {
     let mut rows = Vec::new(alloc);
     for entry in entries {
-        rows.push(Row {
+        rows.push(TermRow {
             path: entry.path.as_slice(),
             page: entry.page,
         })?;
@@ -33,7 +33,7 @@ pub(crate) fn rows_of<'a>(
 }
 
 // How long the longest path is.
-pub(crate) fn levels_of(rows: &[Row<'_>]) -> usize
+pub(crate) fn levels_of(rows: &[TermRow<'_>]) -> usize
     ensures { result ≡ terms_spec.levels_of (spec.entries_of rows.now) }
 {
     let mut most = 0;
@@ -44,14 +44,14 @@ pub(crate) fn levels_of(rows: &[Row<'_>]) -> usize
 }
 
 // Whether all of them end here.
-pub(crate) fn all_end(rows: &[Row<'_>]) -> bool
+pub(crate) fn all_end(rows: &[TermRow<'_>]) -> bool
     ensures { result ≡ spec.all_end rows.now }
 {
     rows.iter().all(|row| row.path.is_empty())
 }
 
 // The pages of the rows that end here.
-pub(crate) fn pages_ended(alloc: Global, rows: &[Row<'_>]) -> Result<BTreeSet<u32>, NoMemory>
+pub(crate) fn pages_ended(alloc: Global, rows: &[TermRow<'_>]) -> Result<BTreeSet<u32>, NoMemory>
     ensures { IfOk result (λ pages. pages.keys
         ≡ terms_spec.pages_ended (spec.entries_of rows.now)) }
 {

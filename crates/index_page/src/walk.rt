@@ -3,7 +3,7 @@
 ghost use Rattle.std.specs.Prelude.{◌≡◌, ◌++◌, [], ◌∷◌, ℕ, List, IfOk, OnOk};
 ghost use Rattle.doc_elements.specs.Walk as walk_spec;
 ghost use Rattle.html_spec.specs.Terms as terms_spec;
-ghost use Rattle.index_page.specs.Body as body_spec;
+ghost use Rattle.readers.specs.Named.{AreNodesOf};
 ghost use Rattle.index_page.specs.Walk as spec;
 ghost use Rattle.map_spec.specs.Written.{Written};
 
@@ -19,7 +19,7 @@ use std::alloc::{AllocError, Global};
 ///
 /// Out of memory.
 pub fn terms_of(alloc: Global, body: &Resolved, page: u32) -> Result<List<TermEntry>, NoMemory>
-    ensures { (nodes : Written) → body_spec.AreNodesOf body.now nodes
+    ensures { (nodes : Written) → AreNodesOf body.now nodes
         → IfOk result (λ entries. entries ≡ terms_spec.terms_of page nodes) }
 {
     let mut entries = List::new(alloc);

@@ -1,17 +1,16 @@
 -- The steps of a chain of definitions, and the answer at its end.
 use Rattle.std.specs.Prelude.{◌≡◌, ◌-◌, ◌==◌, ◌++◌, ◌||◌, ℕ, suc, Bool, true, false, List, [], ◌∷◌, Option, Some, None, Result, Ok, Err, IfOk, codes, cond, length, slice_get}
 use Rattle.std.specs.List.{list_any}
-use Rattle.std.specs.Ordering.{is_eq, nat_cmp}
 use Rattle.std.proofs.Common.{refl, sym, ap, ◌∙◌, arith}
-use Rattle.std.proofs.lemmas.Bool.Decides.{nat_tests}
 use Rattle.dita_doc.specs.declared.content.KeyAnswer.{KeyAnswer}
 use Rattle.dita_doc.specs.declared.fault.Fault.{Fault}
 use Rattle.dita_doc.specs.declared.fault.FaultCode.TheVariants as codes_of
 use Rattle.dita_doc.specs.declared.plan.PlanNode.{PlanNode}
 use Rattle.dita_doc.specs.declared.plan.Target.{Target}
 use Rattle.dita_doc.specs.declared.stop.NoMemory.{NoMemory}
+use Rattle.dita_doc.proofs.Tests.{cond_or, or_assoc, or_last}
 use Rattle.map_spec.specs.Keys.{Chain, answer_of_chain, attribute_of, chain_at, chain_from, fault_of_place, key_of, label_or, last_of, met_again, target_of_chain, text_of_chain, undefined_at, untitled_at}
-use Rattle.map_spec.specs.Scopes.{found, node_fault, scope_at}
+use Rattle.map_spec.specs.Scopes.{definition_found, node_fault, scope_at}
 use Rattle.map_spec.specs.Titles.{first_text}
 use Rattle.reader_spec.specs.World.{World}
 use Rattle.key_answers.specs.Seen.{texts_with}
@@ -28,16 +27,16 @@ last_there (x ∷ y ∷ xs) =
 
 module _ (world : World) (nodes : List PlanNode) (left : ℕ) (met : List ℕ) (scope : ℕ) (key : List ℕ) where
   pub step_is : chain_from (suc left) world nodes met scope key
-      ≡ chain_at (chain_from left world nodes) world nodes met key (found world nodes scope key)
+      ≡ chain_at (chain_from left world nodes) world nodes met key (definition_found world nodes scope key)
   unfolding chain_from
   step_is = refl
 
-  pub step_none : None ≡ found world nodes scope key → chain_from (suc left) world nodes met scope key
+  pub step_none : None ≡ definition_found world nodes scope key → chain_from (suc left) world nodes met scope key
       ≡ record { met = met; faults = undefined_at world nodes key (last_of met) }
   step_none none =
       step_is ∙ ap (chain_at (chain_from left world nodes) world nodes met key) (sym none)
 
-  module _ (at : ℕ) (is : Some at ≡ found world nodes scope key) where
+  module _ (at : ℕ) (is : Some at ≡ definition_found world nodes scope key) where
     step_at : chain_from (suc left) world nodes met scope key
         ≡ chain_at (chain_from left world nodes) world nodes met key (Some at)
     step_at = step_is ∙ ap (chain_at (chain_from left world nodes) world nodes met key) (sym is)
@@ -60,11 +59,12 @@ module _ (world : World) (nodes : List PlanNode) (left : ℕ) (met : List ℕ) (
 
 module _ (world : World) (nodes : List PlanNode) (left : ℕ) (met : List ℕ) (scope : ℕ) (key bytes : List ℕ)
     (whole : Chain) (same : whole ≡ chain_from (suc left) world nodes met scope key) (are : bytes ≡ key) where
-  found_by : (at : Option ℕ) → at ≡ found world nodes scope bytes → at ≡ found world nodes scope key
-  found_by at is = is ∙ ap (found world nodes scope) are
+  found_by : (at : Option ℕ) → at ≡ definition_found world nodes scope bytes
+      → at ≡ definition_found world nodes scope key
+  found_by at is = is ∙ ap (definition_found world nodes scope) are
 
   pub ends_undefined : (seen : Chain) (faults : List Fault) (last : Option ℕ) (slice : List ℕ)
-      → None ≡ found world nodes scope bytes → seen ≡ record { met = met; faults = faults }
+      → None ≡ definition_found world nodes scope bytes → seen ≡ record { met = met; faults = faults }
       → faults ≡ undefined_at world nodes key last → last ≡ last_of slice → slice ≡ met → seen ≡ whole
   ends_undefined seen faults last slice none is fault last_is slice_is =
       let said : faults ≡ undefined_at world nodes key (last_of met) =
@@ -72,7 +72,7 @@ module _ (world : World) (nodes : List PlanNode) (left : ℕ) (met : List ℕ) (
       let made : List Fault → Chain = λ f. record { met = met; faults = f } in
       is ∙ ap made said ∙ sym (step_none world nodes left met scope key (found_by None none)) ∙ sym same
 
-  module _ (at : ℕ) (is : Some at ≡ found world nodes scope bytes) (known : Bool)
+  module _ (at : ℕ) (is : Some at ≡ definition_found world nodes scope bytes) (known : Bool)
       (test : known ≡ list_any (λ other. other == at) met) where
     pub ends_again : (seen : Chain) (faults : List Fault) → known ≡ true
         → seen ≡ record { met = met; faults = faults }
@@ -108,27 +108,10 @@ no_steps world nodes met scope key = refl
 
 -- The set of those that were met
 
-or_last : (a b : Bool) → (a || b) ≡ (b || (a || false))
-or_last true true = refl
-or_last true false = refl
-or_last false true = refl
-or_last false false = refl
-
-or_assoc : (a b c : Bool) → ((a || b) || c) ≡ (a || (b || c))
-or_assoc true b c = refl
-or_assoc false b c = refl
-
 pub any_append : (test : ℕ → Bool) (xs ys : List ℕ) → list_any test (xs ++ ys) ≡ (list_any test xs || list_any test ys)
 any_append test [] ys = refl
 any_append test (x ∷ xs) ys =
     ap (λ b. test x || b) (any_append test xs ys) ∙ sym (or_assoc (test x) (list_any test xs) (list_any test ys))
-
-pub cmp_same : (a b : ℕ) → is_eq (nat_cmp a b) ≡ (a == b)
-cmp_same a b = grind (arith, nat_tests)
-
-cond_or : (a b : Bool) → cond a true b ≡ (a || b)
-cond_or true b = refl
-cond_or false b = refl
 
 pub met_more : (met more : List ℕ) (at other : ℕ) (old new same : Bool) → new ≡ cond same true old
     → same ≡ (at == other) → old ≡ list_any (λ n. n == other) met → more ≡ met ++ at ∷ []

@@ -1,45 +1,34 @@
 -- One step more than there are nodes is enough for a chain: no definition is met twice, and each that leads on is one
 -- of the nodes.
 use Rattle.std.specs.Prelude.{◌≡◌, ◌+◌, ◌<◌, ◌==◌, ◌++◌, ◌||◌, ℕ, zero, suc, Bool, true, false, List, [], ◌∷◌, Option, Some, None, Result, IfOk, codes, length, slice_get, if◌then◌else◌}
-use Rattle.std.specs.List.{IsDistinct, list_any}
+use Rattle.std.specs.List.{list_any}
 use Rattle.std.specs.Cmp.{nat_eq_equiv}
 use Rattle.std.specs.Option.{option_and_then, option_map_or}
 use Rattle.std.proofs.Common.{refl, sym, ap, subst, ◌∙◌, arith, eqb, length-append}
 use Rattle.std.proofs.Math.Logic.{⊎_elim}
 use Rattle.std.proofs.lemmas.Bool.{eqb-true, false≢true, or_cases}
-use Rattle.std.proofs.lemmas.Bool.Decides.{nat_tests}
 use Rattle.std.proofs.lemmas.Map.Keys.{IsDistinct-push}
 use Rattle.std.proofs.lemmas.Map.Steps.{length-le_from_distinct_below}
 use Rattle.dita_doc.specs.declared.plan.PlanNode.{PlanNode}
+use Rattle.dita_doc.proofs.Tests.{number_swaps}
 use Rattle.map_spec.specs.Keys.{Chain, attribute_of, chain, chain_at, chain_from, key_of, met_again}
-use Rattle.map_spec.specs.Scopes.{found, scope_at}
+use Rattle.map_spec.specs.Scopes.{definition_found, scope_at}
 use Rattle.reader_spec.specs.World.{World}
+use Rattle.map_lemmas.proofs.KeyLaws.{AreMet, none_met}
 use Rattle.key_answers.specs.Seen.{chain_seen}
 use Rattle.key_answers.specs.declared.chain.Chain as declared
 use Rattle.key_answers.proofs.ChainLaws.{any_append, step_is}
 
-eq_sym : (a b : ℕ) → (a == b) ≡ (b == a)
-eq_sym a b = grind (arith, nat_tests)
-
 any_same : (at : ℕ) (met : List ℕ) → list_any (eqb at) met ≡ list_any (λ other. other == at) met
 any_same at [] = refl
 any_same at (other ∷ met) =
-    ap (λ b. b || list_any (eqb at) met) (eq_sym at other) ∙ ap (λ b. (other == at) || b) (any_same at met)
+    ap (λ b. b || list_any (eqb at) met) (number_swaps at other) ∙ ap (λ b. (other == at) || b) (any_same at met)
 
 get_within : {X Y : Type 0} (f : X → Option Y) (xs : List X) (at : ℕ) (y : Y)
     → option_and_then f (slice_get xs at) ≡ Some y → at < length xs
 get_within f [] at y is = cc
 get_within f (x ∷ xs) zero y is = omega arith
 get_within f (x ∷ xs) (suc at) y is = omega (arith, get_within f xs at y is)
-
--- definitions that were met: each a node, and none twice
-record AreMet (count : ℕ) (met : List ℕ) : Type 0 where
-  distinct : IsDistinct eqb met
-  below : (at : ℕ) → list_any (eqb at) met ≡ true → at < count
-
-none_met : (count : ℕ) → AreMet count []
-unfolding IsDistinct
-none_met count = record { distinct = tt; below = λ at is. absurd (false≢true is) }
 
 one_met : (count : ℕ) (met : List ℕ) (at : ℕ) → AreMet count met → list_any (λ other. other == at) met ≡ false
     → at < count → AreMet count (met ++ at ∷ [])
@@ -85,7 +74,7 @@ module _ (world : World) (nodes : List PlanNode) where
       ap (λ n. chain_from n world nodes met scope key) steps
       ∙ step_is world nodes (left + more) met scope key
       ∙ same_at (chain_from (left + more) world nodes) (chain_from left world nodes) met key
-      (found world nodes scope key)
+      (definition_found world nodes scope key)
       (λ at keyref new value. enough_from left more (met ++ at ∷ []) (scope_at nodes at) (key_of keyref)
       (one_met (length nodes) met at are new (get_within _ nodes at keyref value))
       (omega (arith, many, length-append met (at ∷ []))))

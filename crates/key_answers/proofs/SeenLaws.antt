@@ -5,7 +5,7 @@ use Rattle.std.proofs.Common.{refl, sym, ap, ◌∙◌, arith}
 use Rattle.std.proofs.lemmas.Option.{slice_get-map}
 use Rattle.dita_doc.specs.declared.plan.PlanNode.{PlanNode}
 use Rattle.map_spec.specs.Cascade as cascade
-use Rattle.map_spec.specs.Cascade.{attribute_at, places_up, steps_up}
+use Rattle.map_spec.specs.Cascade.{places_up, steps_up}
 use Rattle.map_spec.specs.Elements.{attribute}
 use Rattle.map_spec.specs.Keys.{attribute_of, metadata_texts, text_of_definition, texts_of_node}
 use Rattle.map_spec.specs.Scopes.{begins, scope_at, scope_on}
@@ -14,16 +14,10 @@ use Rattle.map_spec.specs.Written.{Whole}
 use Rattle.plan_nodes.specs.Carried.{CarryScopes}
 use Rattle.plan_nodes.specs.Home.{value_at}
 use Rattle.reader_spec.specs.World.{World}
+use Rattle.plan_nodes.proofs.HomeLaws.{value_by}
 use Rattle.key_answers.specs.Seen.{scope_seen, text_seen, texts_of_whole}
 
 -- Values
-
-value_by : (world : World) (name : List ℕ) (node : Option PlanNode)
-    → option_and_then (λ (whole : Whole). attribute name whole.0)
-    (option_and_then (λ (whole : Option Whole). whole) (option_map (cascade.whole_at world) node))
-    ≡ option_and_then (attribute_at world name) node
-value_by world name None = refl
-value_by world name (Some node) = refl
 
 pub value_same : (world : World) (homes : List (Option Whole)) (nodes : List PlanNode) (at : ℕ) (name : List ℕ)
     → homes ≡ map (cascade.whole_at world) nodes → value_at homes at name ≡ attribute_of world nodes name at

@@ -1,11 +1,9 @@
 -- The target of a definition's href: that of the world, and one whose document may be asked about.
-use Rattle.std.specs.Prelude.{◌≡◌, ◌+◌, ◌-◌, ◌==◌, ℕ, Bool, true, false, List, [], Option, Some, None, Result, Ok, Err, IfOk, codes, map, nat_lt, option_map, slice_get, unwrap_or, if◌then◌else◌}
+use Rattle.std.specs.Prelude.{◌≡◌, ℕ, List, [], Option, Some, None, Result, Ok, Err, IfOk, codes, map, option_map, slice_get, unwrap_or}
 use Rattle.std.specs.Option.{option_and_then, option_map_or, option_to_list}
 use Rattle.std.proofs.Common.{refl, sym, ap, subst, ◌∙◌}
 use Rattle.std.proofs.lemmas.Option.{slice_get-map}
 use Rattle.dita_doc.specs.ClassValue.{value_of}
-use Rattle.dita_doc.specs.Tree as tree
-use Rattle.dita_doc.specs.Tree.{Content}
 use Rattle.dita_doc.specs.declared.content.KeyAnswer.{KeyAnswer}
 use Rattle.dita_doc.specs.declared.plan.PlanNode.{PlanNode}
 use Rattle.dita_doc.specs.declared.plan.Target.{Target}
@@ -14,14 +12,14 @@ use Rattle.dita_doc.specs.declared.stop.NoMemory.{NoMemory}
 use Rattle.map_spec.specs.Cascade as cascade
 use Rattle.map_spec.specs.Cascade.{attribute_at, cascaded_on, cascaded_value, walk}
 use Rattle.map_spec.specs.Elements.{attribute}
-use Rattle.map_spec.specs.Judged.{has_element}
-use Rattle.map_spec.specs.Keys.{href_target, last_of, target_at, target_of_chain}
+use Rattle.map_spec.specs.Keys.{href_target, last_of, target_of_definition, target_of_chain}
 use Rattle.map_spec.specs.Pages.{local_name}
 use Rattle.map_spec.specs.Target.{default_format, default_scope, target_by}
-use Rattle.map_spec.specs.Written.{Element, Whole, element_at, size, written_in}
+use Rattle.map_spec.specs.Written.{Element, Whole}
 use Rattle.plan_nodes.specs.Carried.{CarryValues}
 use Rattle.plan_nodes.specs.Given.{AreTold, IsTold}
 use Rattle.plan_nodes.proofs.GivenLaws.{may_target}
+use Rattle.plan_nodes.proofs.TargetLaws.{doc_there}
 use Rattle.reader_spec.specs.World.{World}
 use Rattle.readers.specs.Founded.{AreAllowed, Grows, StaysFounded}
 use Rattle.readers.specs.Told.{Told}
@@ -30,47 +28,6 @@ use Rattle.readers.proofs.FoundedLaws.{none_allowed, one_allowed}
 use Rattle.key_answers.specs.Seen.{href_seen, last_target, target_carried, target_seen}
 
 -- An element of a document was written in it
-
-among_doc : (name : List ℕ) (whole : Whole) (found inside rest : Option Whole) (here past : Bool)
-    → (found ≡ Some whole → whole.0.doc ≡ name) → (inside ≡ Some whole → whole.0.doc ≡ name)
-    → (rest ≡ Some whole → whole.0.doc ≡ name)
-    → (if here then found else if past then rest else inside) ≡ Some whole → whole.0.doc ≡ name
-among_doc name whole found inside rest true past first within behind is = first is
-among_doc name whole found inside rest false true first within behind is = behind is
-among_doc name whole found inside rest false false first within behind is = within is
-
-no_doc : (name : List ℕ) (whole : Whole) → None ≡ Some whole → whole.0.doc ≡ name
-no_doc name whole is = cc
-
-own_doc : (name : List ℕ) (own whole : Whole) → own.0.doc ≡ name → Some own ≡ Some whole → whole.0.doc ≡ name
-own_doc name own whole doc is = let same : own ≡ whole = cc in ap (λ (w : Whole). w.0.doc) (sym same) ∙ doc
-
-at_doc : (name : List ℕ) (nodes : Content) (place : ℕ) (whole : Whole)
-    → element_at (written_in name nodes) place ≡ Some whole → whole.0.doc ≡ name
-at_doc name tree.End place whole is = no_doc name whole is
-at_doc name (tree.Chars text origin line rest) place whole is =
-    among_doc name whole None (element_at (written_in name rest) (place - 1)) None (place == 0) false
-    (no_doc name whole) (λ later. at_doc name rest (place - 1) whole later) (no_doc name whole) is
-at_doc name (tree.Element own attributes origin line inside rest) place whole is =
-    let many = size (written_in name inside) in
-    among_doc name whole (element_at (written_in name (tree.Element own attributes origin line inside rest)) 0)
-    (element_at (written_in name inside) (place - 1)) (element_at (written_in name rest) (place - (1 + many)))
-    (place == 0) (nat_lt many place) (own_doc name _ whole refl) (λ within. at_doc name inside (place - 1) whole within)
-    (λ behind. at_doc name rest (place - (1 + many)) whole behind) is
-
-in_doc : (name : List ℕ) (nodes : Option Content) (place : ℕ) (whole : Whole)
-    → option_and_then (λ found. element_at found place) (option_map (written_in name) nodes) ≡ Some whole
-    → whole.0.doc ≡ name
-in_doc name None place whole is = cc
-in_doc name (Some nodes) place whole is = at_doc name nodes place whole is
-
-node_doc : (world : World) (node : PlanNode) (whole : Whole) → cascade.whole_at world node ≡ Some whole
-    → whole.0.doc ≡ node.doc
-node_doc world node whole is = by_kind (has_element node.kind) refl
-  where
-    by_kind : (has : Bool) → has_element node.kind ≡ has → whole.0.doc ≡ node.doc
-    by_kind true e = in_doc node.doc (world node.doc) node.place whole (rw e at is)
-    by_kind false e = let none : None ≡ Some whole = rw e at is in cc
 
 -- The target in a world
 
@@ -110,7 +67,7 @@ module _ (world : World) (node : PlanNode) (around : List PlanNode)
       (cascaded_value world (codes "scope") around) node.doc)
       (option_and_then (λ (w : Whole). attribute (codes "href") w.0) whole)) targets.Nothing
   by_whole None is = refl
-  by_whole (Some whole) is = by_href whole.0.doc (attribute (codes "href") whole.0) (node_doc world node whole is)
+  by_whole (Some whole) is = by_href whole.0.doc (attribute (codes "href") whole.0) (doc_there world node whole is)
 
 target_same : (world : World) (homes : List (Option Whole)) (nodes : List PlanNode) (at : ℕ)
     → homes ≡ map (cascade.whole_at world) nodes → CarryValues world nodes
@@ -123,7 +80,7 @@ target_same world homes nodes at same carry =
         → option_map_or (λ (n : PlanNode). option_map_or (href_seen n) (option_map (λ (w : Whole). w.0)
         (option_and_then (λ (w : Option Whole). w) (option_map (cascade.whole_at world) node))) targets.Nothing)
         node targets.Nothing
-        ≡ unwrap_or (option_and_then (λ n. target_at world nodes n (walk nodes at)) node) targets.Nothing
+        ≡ unwrap_or (option_and_then (λ n. target_of_definition world n (walk nodes at)) node) targets.Nothing
     by_node None is = refl
     by_node (Some node) is =
         by_whole world node (walk nodes at) (carry.each at node is) (cascade.whole_at world node) refl

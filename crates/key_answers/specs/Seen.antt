@@ -13,7 +13,7 @@ use Rattle.map_spec.specs.Target.{default_format, default_scope, target_by}
 use Rattle.map_spec.specs.Titles.{first_text}
 use Rattle.map_spec.specs.Written.{Element, Whole}
 use Rattle.plan_nodes.specs.Carried.{CarryScopes, CarryValues}
-use Rattle.plan_nodes.specs.Home.{element_at, whole_at}
+use Rattle.plan_nodes.specs.Home.{element_among, whole_at}
 use Rattle.reader_spec.specs.World.{World}
 use Rattle.key_scopes.specs.Made.{IsTableOf}
 use Rattle.key_answers.specs.declared.chain.Chain as declared
@@ -41,7 +41,7 @@ href_seen node element =
 
 abbrev pub target_seen : List (Option Whole) → List PlanNode → ℕ → Target
 target_seen homes nodes at = option_map_or (λ node.
-    option_map_or (href_seen node) (element_at homes at) targets.Nothing) (slice_get nodes at) targets.Nothing
+    option_map_or (href_seen node) (element_among homes at) targets.Nothing) (slice_get nodes at) targets.Nothing
 
 -- that of the last definition's href
 abbrev pub last_target : List (Option Whole) → List PlanNode → List ℕ → Target

@@ -9,14 +9,14 @@ ghost use Rattle.key_answers.specs.Seen as spec;
 
 use dita_doc::{Fault, FaultCode, Name, NoMemory, PlanNode, Target};
 use key_scopes::ScopeTable;
-use plan_nodes::{Homes, fault_of};
+use plan_nodes::{NodeElements, fault_of};
 use std::alloc::Global;
 use targets::target_by;
 
 /// The nodes of a map with their elements and the table of their scopes.
 #[derive(Clone, Copy)]
 pub(crate) struct Defined<'a> {
-    pub homes: &'a Homes,
+    pub homes: &'a NodeElements,
     pub nodes: &'a [PlanNode],
     pub table: &'a ScopeTable,
 }

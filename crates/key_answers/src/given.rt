@@ -23,7 +23,7 @@ use crate::defined::Defined;
 use crate::label::label_of;
 use dita_doc::{Fault, FaultCode, KeyAnswer, List, NoMemory, PlanNode, Target, Text};
 use key_scopes::ScopeTable;
-use plan_nodes::Homes;
+use plan_nodes::NodeElements;
 use readers::Titles;
 use std::alloc::Global;
 use targets::split_key;
@@ -32,7 +32,7 @@ use targets::split_key;
 /// their scopes, and the table is theirs. An undefined key has no node.
 ///
 /// The document of each node is asked for at each call. Where many keys are asked for, make the
-/// `Homes` once and call `answer_with`.
+/// `NodeElements` once and call `answer_with`.
 ///
 /// # Errors
 ///
@@ -96,7 +96,7 @@ fn answer_asked<T: Titles>(
         || only_spec.is_title_at answer.target t) (T.told asker.old) (T.told asker.new)) }
     ensures grows { Grows (T.told asker.old) (T.told asker.new) }
 {
-    let homes = Homes::of(alloc, asker, nodes)?;
+    let homes = NodeElements::of(alloc, asker, nodes)?;
     answer_with(alloc, asker, &homes, nodes, table, scope, keyref)
 }
 
@@ -109,7 +109,7 @@ fn answer_asked<T: Titles>(
 pub fn answer_with<T: Titles>(
     alloc: Global,
     asker: &mut T,
-    homes: &Homes,
+    homes: &NodeElements,
     nodes: &[PlanNode],
     table: &ScopeTable,
     scope: u32,
@@ -144,7 +144,7 @@ pub fn answer_with<T: Titles>(
 pub fn answer_key<T: Titles>(
     alloc: Global,
     asker: &mut T,
-    homes: &Homes,
+    homes: &NodeElements,
     nodes: &[PlanNode],
     table: &ScopeTable,
     scope: u32,

@@ -6,10 +6,11 @@ use Rattle.std.specs.Cmp.Lexicographic.{slice_cmp}
 use Rattle.std.specs.FinMap.{nat_cmp-IsAntisymmetric}
 use Rattle.std.specs.Map.{lookup}
 use Rattle.std.specs.Option.{option_copied}
-use Rattle.std.specs.Ordering.{is_eq, match_ordering, nat_cmp, ordering_then}
+use Rattle.std.specs.Ordering.{match_ordering, nat_cmp, ordering_then}
 use Rattle.dita_doc.specs.declared.content.KeyAnswer.{KeyAnswer}
 use Rattle.dita_doc.specs.declared.plan.PlanNode.{PlanNode}
 use Rattle.dita_doc.proofs.NameOrder.{same_from_equal}
+use Rattle.dita_doc.proofs.Orders.{both_equal, equal_test}
 use Rattle.readers.specs.Founded.{Grows}
 use Rattle.readers.specs.Told.{Told}
 use Rattle.readers.proofs.GrowthLaws.{agrees_before, are_allowed_before}
@@ -20,21 +21,11 @@ use Rattle.key_layer.specs.declared.memo.KeyAt.{KeyAt}
 abbrev order : KeyAt → KeyAt → Ordering
 order a b = ordering_then (nat_cmp a.scope b.scope) (slice_cmp nat_cmp a.key b.key)
 
-both_equal : (x y : Ordering) → ordering_then x y ≡ Equal → (x ≡ Equal) × (y ≡ Equal)
-both_equal Equal y same = (refl, same)
-both_equal Less y same = cc
-both_equal Greater y same = cc
-
 same_key : (a b : KeyAt) → order a b ≡ Equal → a ≡ b
 same_key a b equal =
     let parts = both_equal (nat_cmp a.scope b.scope) (slice_cmp nat_cmp a.key b.key) equal in
     ap₂ (λ scope key. record { scope = scope; key = key })
     (nat_cmp-IsAntisymmetric a.scope b.scope parts.0) (same_from_equal a.key b.key parts.1)
-
-equal_test : (o : Ordering) → is_eq o ≡ true → o ≡ Equal
-equal_test Equal same = refl
-equal_test Less same = cc
-equal_test Greater same = cc
 
 module _ (told : List Told) (nodes : List PlanNode) where
   pub answer_found : (at : KeyAt) (all : List (KeyAt × KeyAnswer)) → AreAnswers told nodes all

@@ -1,13 +1,14 @@
 -- What the questions of a reader that passes them on say of the reader below it: for which documents that is asked.
-use Rattle.std.proofs.Common.{◌≡◌, ◌||◌, ◌⊎◌, ℕ, List, [], ◌∷◌, ◌++◌, IsTrue, inl, inr, sym, ap, subst, refl, ◌∙◌, bytes_eq}
+use Rattle.std.proofs.Common.{◌≡◌, ◌||◌, ◌⊎◌, ℕ, List, [], ◌∷◌, ◌++◌, IsTrue, inl, inr, sym, ap, subst, refl, ◌∙◌}
 use Rattle.std.proofs.Math.Logic.{⊎_elim, ∥∥₁_elim}
-use Rattle.std.proofs.Math.Bool.{or_assoc}
 use Rattle.std.proofs.lemmas.Bool.{false≢true, or_cases, or_left, or_right}
 use Rattle.readers.specs.Documents.{AskedBy, AsksOnly, Covers, Follows, may_ask}
 use Rattle.readers.specs.Founded.{Grows, is_among}
-use Rattle.readers.specs.Told.{Told, document, kind, title, first, key, pushes, page_of, tried, sought}
-use Rattle.readers.proofs.DocumentLaws.{may_ask_before}
-use Rattle.key_layer.specs.Passing.{AskedBy-prop, FollowsNoKey, PassesOn}
+use Rattle.readers.specs.Props.{AskedBy-prop}
+use Rattle.readers.specs.Told.{Told, document, kind, title, first, key, pushes, page_of, pending, pending_document}
+use Rattle.readers.proofs.DocumentLaws.{may_ask_before, root_may}
+use Rattle.readers.proofs.FoundedLaws.{among_append, none_among}
+use Rattle.key_layer.specs.Passing.{FollowsNoKey, PassesOn}
 
 -- the rule, but nothing from keys and from questions without answers
 abbrev without_keys : Follows → Follows
@@ -18,8 +19,8 @@ without_keys rule (first name id) = rule (first name id)
 without_keys rule (key nodes scope text answer) = []
 without_keys rule (pushes documents name answer) = rule (pushes documents name answer)
 without_keys rule (page_of pages name context answer) = rule (page_of pages name context answer)
-without_keys rule (tried names) = []
-without_keys rule (sought name) = []
+without_keys rule (pending names) = []
+without_keys rule (pending_document name) = []
 
 no_key : (rule : Follows) → FollowsNoKey (without_keys rule)
 no_key rule = record { keys = λ nodes scope text answer. refl; tried = λ names. refl; sought = λ name. refl }
@@ -33,11 +34,8 @@ without_less rule (first name id) m among = among
 without_less rule (key nodes scope text answer) m among = absurd (false≢true among)
 without_less rule (pushes documents name answer) m among = among
 without_less rule (page_of pages name context answer) m among = among
-without_less rule (tried names) m among = absurd (false≢true among)
-without_less rule (sought name) m among = absurd (false≢true among)
-
-none_among : (names : List (List ℕ)) (m : List ℕ) → names ≡ [] → IsTrue (is_among names m) → ⊥
-none_among names m none among = false≢true (subst (λ ns. IsTrue (is_among ns m)) none among)
+without_less rule (pending names) m among = absurd (false≢true among)
+without_less rule (pending_document name) m among = absurd (false≢true among)
 
 covers_without : (rule follows : Follows) → FollowsNoKey follows → Covers rule follows
     → Covers (without_keys rule) follows
@@ -51,18 +49,8 @@ covers_without rule follows plain covers = record { each = each }
     each (key nodes scope text answer) m among = absurd (none_among _ m (plain.keys nodes scope text answer) among)
     each (pushes documents name answer) m among = covers.each _ m among
     each (page_of pages name context answer) m among = covers.each _ m among
-    each (tried names) m among = absurd (none_among _ m (plain.tried names) among)
-    each (sought name) m among = absurd (none_among _ m (plain.sought name) among)
-
-among-append : (xs ys : List (List ℕ)) (m : List ℕ) → is_among (xs ++ ys) m ≡ is_among xs m || is_among ys m
-among-append [] ys m = refl
-among-append (x ∷ xs) ys m = ap (λ b. bytes_eq x m || b) (among-append xs ys m)
-    ∙ sym (or_assoc (bytes_eq x m) (is_among xs m) (is_among ys m))
-
-root_may : (rule : Follows) (roots : List (List ℕ)) (ts : List Told) (m : List ℕ) → IsTrue (is_among roots m)
-    → IsTrue (may_ask rule roots ts m)
-root_may rule roots [] m among = among
-root_may rule roots (t ∷ ts) m among = or_right (is_among (rule t) m) _ (root_may rule roots ts m among)
+    each (pending names) m among = absurd (none_among _ m (plain.tried names) among)
+    each (pending_document name) m among = absurd (none_among _ m (plain.sought name) among)
 
 module _ (rule : Follows) (roots : List (List ℕ)) where
   -- all that may be asked for
@@ -73,7 +61,7 @@ module _ (rule : Follows) (roots : List (List ℕ)) where
   reach_may : (ts : List Told) (m : List ℕ) → is_among (reach ts) m ≡ may_ask rule roots ts m
   reach_may [] m = refl
   reach_may (t ∷ ts) m =
-      among-append (rule t) (reach ts) m ∙ ap (λ b. is_among (rule t) m || b) (reach_may ts m)
+      among_append (rule t) (reach ts) m ∙ ap (λ b. is_among (rule t) m || b) (reach_may ts m)
 
   -- from wider roots a rule may give less
   asked_wider : (wide : List (List ℕ)) (ts : List Told)

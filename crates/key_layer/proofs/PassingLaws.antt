@@ -6,39 +6,33 @@ use Rattle.readers.specs.Documents.{AsksOnly, Follows, MayAsk, documents_asked, 
 use Rattle.readers.specs.Founded.{Grows, is_among}
 use Rattle.readers.specs.Noted.{told_of, told_onto}
 use Rattle.readers.specs.Setting.{Setting}
-use Rattle.readers.specs.Told.{Told, sought, tried}
+use Rattle.readers.specs.Told.{Told, pending_document, pending}
 use Rattle.readers.specs.declared.questions.Note.{Note}
-use Rattle.readers.specs.declared.questions.Note.TheVariants.{Sought}
-use Rattle.readers.proofs.DocumentLaws.{covers_nothing, may_ask_before, none_may}
+use Rattle.readers.specs.declared.questions.Note.TheVariants.{PendingDocument}
+use Rattle.readers.proofs.DocumentLaws.{covers_nothing, may_ask_before, may_behind, none_may}
+use Rattle.readers.proofs.LayerLaws.{told_settled}
 use Rattle.key_layer.specs.Passing.{FollowsNoKey, PassesOn}
 
 pub passes_same : (ts : List Told) → PassesOn ts ts
 passes_same ts = record { may = λ rule roots m plain may. may; asked = λ rule roots plain asked. asked }
 
--- nothing that the rule gives stands in front
-may_behind : (rule : Follows) (roots : List (List ℕ)) (t : Told) (ts : List Told) (m : List ℕ) → rule t ≡ []
-    → IsTrue (may_ask rule roots (t ∷ ts) m) → IsTrue (may_ask rule roots ts m)
-may_behind rule roots t ts m none may =
-    ⊎_elim (λ here. absurd (false≢true (subst (λ names. IsTrue (is_among names m)) none here))) (λ behind. behind)
-    (or_cases (is_among (rule t) m) (may_ask rule roots ts m) may)
-
 -- a question was put, and then the reader below was asked, but for no document
 pub passes_tried : (names : List (List ℕ)) (below below' above above' : List Told) → PassesOn below above
-    → above' ≡ tried names ∷ above → Grows below below' → AsksOnly nothing [] below below' → PassesOn below' above'
+    → above' ≡ pending names ∷ above → Grows below below' → AsksOnly nothing [] below below' → PassesOn below' above'
 passes_tried names below below' above above' passed put grows asks = subst (PassesOn below') (sym put) (record {
   may = λ rule roots m plain may. may_ask_before rule roots below below' m grows
-      (passed.may rule roots m plain (may_behind rule roots (tried names) above m (plain.tried names) may));
+      (passed.may rule roots m plain (may_behind rule roots (pending names) above m (plain.tried names) may));
   asked = λ rule roots plain a. asks.by rule roots (covers_nothing rule) (none_may rule roots below)
       (passed.asked rule roots plain a.1);
 })
 
 -- a document was sought, and then the reader below was asked for it
 pub passes_sought : (name : List ℕ) (below below' above above' : List Told) → PassesOn below above
-    → above' ≡ sought name ∷ above → Grows below below' → AsksOnly nothing (name ∷ []) below below'
+    → above' ≡ pending_document name ∷ above → Grows below below' → AsksOnly nothing (name ∷ []) below below'
     → PassesOn below' above'
 passes_sought name below below' above above' passed put grows asks = subst (PassesOn below') (sym put) (record {
   may = λ rule roots m plain may. may_ask_before rule roots below below' m grows
-      (passed.may rule roots m plain (may_behind rule roots (sought name) above m (plain.sought name) may));
+      (passed.may rule roots m plain (may_behind rule roots (pending_document name) above m (plain.sought name) may));
   asked = λ rule roots plain a. asks.by rule roots (covers_nothing rule)
       (record { each = λ m among. passed.may rule roots m plain (a.0.each m among) })
       (passed.asked rule roots plain a.1);
@@ -78,27 +72,20 @@ told_below t before below told rule roots m among = subst (λ ts. IsTrue (may_as
 -- the same of the notes in which a reader keeps its questions
 module _ (setting : Setting) (start : List Told) where
   pub note_tried : (put : Note) (names : List (List ℕ)) (below below' : List Told) (notes notes' : List Note)
-      → PassesOn below (told_onto setting start notes) → told_of setting put ≡ tried names → notes' ≡ put ∷ notes
+      → PassesOn below (told_onto setting start notes) → told_of setting put ≡ pending names → notes' ≡ put ∷ notes
       → Grows below below' → AsksOnly nothing [] below below' → PassesOn below' (told_onto setting start notes')
   note_tried put names below below' notes notes' passed about is =
       passes_tried names below below' (told_onto setting start notes) _ passed
       (ap (told_onto setting start) is ∙ ap (λ t. t ∷ told_onto setting start notes) about)
 
   pub note_sought : (name sought_name : List ℕ) (below below' : List Told) (notes notes' : List Note)
-      → PassesOn below (told_onto setting start notes) → sought_name ≡ name → notes' ≡ Sought sought_name ∷ notes
+      → PassesOn below (told_onto setting start notes) → sought_name ≡ name
+      → notes' ≡ PendingDocument sought_name ∷ notes
       → Grows below below' → AsksOnly nothing (name ∷ []) below below'
       → PassesOn below' (told_onto setting start notes')
   note_sought name sought_name below below' notes notes' passed same is =
       passes_sought name below below' (told_onto setting start notes) _ passed
-      (ap (told_onto setting start) is ∙ ap (λ n. sought n ∷ told_onto setting start notes) same)
-
-  -- the question that was put is written over
-  pub settled_to : (t : Told) (put note : Note) (older notes notes' : List Note) → notes ≡ put ∷ older
-      → told_of setting note ≡ t → notes' ≡ note ∷ drop 1 notes
-      → told_onto setting start notes' ≡ t ∷ told_onto setting start older
-  settled_to t put note older notes notes' was tells is =
-      ap (told_onto setting start) (is ∙ ap (λ ns. note ∷ drop 1 ns) was)
-      ∙ ap (λ t. t ∷ told_onto setting start older) tells
+      (ap (told_onto setting start) is ∙ ap (λ n. pending_document n ∷ told_onto setting start notes) same)
 
   -- a question gets the answer that the reader below told last
   pub note_passed : (t : Told) (put note : Note) (before below : List Told) (older notes notes' : List Note)
@@ -107,7 +94,7 @@ module _ (setting : Setting) (start : List Told) where
       → notes' ≡ note ∷ drop 1 notes → below ≡ t ∷ before → PassesOn below (told_onto setting start notes')
   note_passed t put note before below older notes notes' passed was same tells is told =
       passes_settled t (told_of setting put) below (told_onto setting start older) _ _ passed
-      (ap (told_onto setting start) was) (settled_to t put note older notes notes' was tells is) same
+      (ap (told_onto setting start) was) (told_settled setting start t put note older notes notes' tells was is) same
       (λ rule roots m plain among. told_below t before below told rule roots m among)
 
   -- a question gets an answer from which nothing follows
@@ -118,7 +105,7 @@ module _ (setting : Setting) (start : List Told) where
       → PassesOn below (told_onto setting start notes')
   note_plain t put note below older notes notes' passed was same tells is none =
       passes_settled t (told_of setting put) below (told_onto setting start older) _ _ passed
-      (ap (told_onto setting start) was) (settled_to t put note older notes notes' was tells is) same
+      (ap (told_onto setting start) was) (told_settled setting start t put note older notes notes' tells was is) same
       (λ rule roots m plain among. absurd (false≢true
       (subst (λ names. IsTrue (is_among names m)) (none rule plain) among)))
 

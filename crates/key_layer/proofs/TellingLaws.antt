@@ -5,14 +5,14 @@ use Rattle.readers.specs.Noted.{told_of, told_onto}
 use Rattle.readers.specs.Setting.{Setting}
 use Rattle.readers.specs.Told.{Told}
 use Rattle.readers.specs.declared.questions.Note.{Note}
+use Rattle.readers.proofs.LayerLaws.{told_settled}
 use Rattle.key_layer.specs.Ready.{made_for}
-use Rattle.key_layer.proofs.PassingLaws.{settled_to}
 
 module _ (setting : Setting) (start : List Told) (nodes nodes' : List PlanNode) (t : Told) where
   -- a question was put, and has its answer
-  pub told_settled : (put note : Note) (old between new : List Note) → nodes' ≡ nodes
+  pub nodes_settled : (put note : Note) (old between new : List Note) → nodes' ≡ nodes
       → told_of (made_for nodes setting) note ≡ t → between ≡ put ∷ old → new ≡ note ∷ drop 1 between
       → told_onto (made_for nodes' setting) start new ≡ t ∷ told_onto (made_for nodes setting) start old
-  told_settled put note old between new same tells was is =
+  nodes_settled put note old between new same tells was is =
       ap (λ ns. told_onto (made_for ns setting) start new) same
-      ∙ settled_to (made_for nodes setting) start t put note old between new was tells is
+      ∙ told_settled (made_for nodes setting) start t put note old between new tells was is

@@ -9,11 +9,11 @@ use crate::layer::KeyLayer;
 use crate::memo::KeyAt;
 use dita_doc::{Doc, DocKind, KeyAnswer, Name, NoMemory, Text};
 use key_answers::answer_key;
-use readers::{Note, Since, Titles};
+use readers::{LogStart, Note, Titles};
 use std::alloc::Global;
 use std::sync::Arc;
 
-impl<'r, 'q, 'm, 'n, T: Titles, S: Since> KeyLayer<'r, 'q, 'm, 'n, T, S> {
+impl<'r, 'q, 'm, 'n, T: Titles, S: LogStart> KeyLayer<'r, 'q, 'm, 'n, T, S> {
     pub(crate) fn ask_doc(
         &mut self,
         alloc: Global,
@@ -23,16 +23,16 @@ impl<'r, 'q, 'm, 'n, T: Titles, S: Since> KeyLayer<'r, 'q, 'm, 'n, T, S> {
         ensures same_memo { self.new.memo.ghost_name ≡ self.old.memo.ghost_name }
         ensures nodes { self.new.nodes.now ≡ self.old.nodes.now }
         ensures stand { T.stand self.new.lower.now ≡ T.stand self.old.lower.now }
-        ensures ok { OnOk result (self.new.asked.now ≡ notes.Sought name.now ∷ self.old.asked.now) }
+        ensures ok { OnOk result (self.new.asked.now ≡ notes.PendingDocument name.now ∷ self.old.asked.now) }
         ensures err { OnErr result ((self.new.asked.now ≡ self.old.asked.now)
-            ⊎ (self.new.asked.now ≡ notes.Sought name.now ∷ self.old.asked.now)) }
+            ⊎ (self.new.asked.now ≡ notes.PendingDocument name.now ∷ self.old.asked.now)) }
         ensures below { IfOk result (λ found. T.told self.new.lower.now
             ≡ told_spec.document name.now (told_spec.tree_found found)
             ∷ T.told self.old.lower.now) }
         ensures origin { IfOk result (λ found. IfSome (told_spec.doc_of found)
             (λ doc. doc.origins ≡ name.now ∷ [])) }
     {
-        self.asked.begin(Note::Sought(name.clone()?))?;
+        self.asked.begin(Note::PendingDocument(name.clone()?))?;
         self.lower.doc(alloc, name)
     }
 
@@ -41,13 +41,13 @@ impl<'r, 'q, 'm, 'n, T: Titles, S: Since> KeyLayer<'r, 'q, 'm, 'n, T, S> {
         ensures same_memo { self.new.memo.ghost_name ≡ self.old.memo.ghost_name }
         ensures nodes { self.new.nodes.now ≡ self.old.nodes.now }
         ensures stand { T.stand self.new.lower.now ≡ T.stand self.old.lower.now }
-        ensures ok { OnOk result (self.new.asked.now ≡ notes.Tried name.now ∷ self.old.asked.now) }
+        ensures ok { OnOk result (self.new.asked.now ≡ notes.Pending name.now ∷ self.old.asked.now) }
         ensures err { OnErr result ((self.new.asked.now ≡ self.old.asked.now)
-            ⊎ (self.new.asked.now ≡ notes.Tried name.now ∷ self.old.asked.now)) }
+            ⊎ (self.new.asked.now ≡ notes.Pending name.now ∷ self.old.asked.now)) }
         ensures below { IfOk result (λ kind. T.told self.new.lower.now
             ≡ told_spec.kind name.now kind ∷ T.told self.old.lower.now) }
     {
-        self.asked.begin(Note::Tried(name.clone()?))?;
+        self.asked.begin(Note::Pending(name.clone()?))?;
         self.lower.kind(alloc, name)
     }
 
@@ -61,13 +61,13 @@ impl<'r, 'q, 'm, 'n, T: Titles, S: Since> KeyLayer<'r, 'q, 'm, 'n, T, S> {
         ensures same_memo { self.new.memo.ghost_name ≡ self.old.memo.ghost_name }
         ensures nodes { self.new.nodes.now ≡ self.old.nodes.now }
         ensures stand { T.stand self.new.lower.now ≡ T.stand self.old.lower.now }
-        ensures ok { OnOk result (self.new.asked.now ≡ notes.Tried name.now ∷ self.old.asked.now) }
+        ensures ok { OnOk result (self.new.asked.now ≡ notes.Pending name.now ∷ self.old.asked.now) }
         ensures err { OnErr result ((self.new.asked.now ≡ self.old.asked.now)
-            ⊎ (self.new.asked.now ≡ notes.Tried name.now ∷ self.old.asked.now)) }
+            ⊎ (self.new.asked.now ≡ notes.Pending name.now ∷ self.old.asked.now)) }
         ensures below { IfOk result (λ text. T.told self.new.lower.now
             ≡ told_spec.title name.now topic.now text ∷ T.told self.old.lower.now) }
     {
-        self.asked.begin(Note::Tried(name.clone()?))?;
+        self.asked.begin(Note::Pending(name.clone()?))?;
         self.lower.title(alloc, name, topic)
     }
 
@@ -76,13 +76,13 @@ impl<'r, 'q, 'm, 'n, T: Titles, S: Since> KeyLayer<'r, 'q, 'm, 'n, T, S> {
         ensures same_memo { self.new.memo.ghost_name ≡ self.old.memo.ghost_name }
         ensures nodes { self.new.nodes.now ≡ self.old.nodes.now }
         ensures stand { T.stand self.new.lower.now ≡ T.stand self.old.lower.now }
-        ensures ok { OnOk result (self.new.asked.now ≡ notes.Tried name.now ∷ self.old.asked.now) }
+        ensures ok { OnOk result (self.new.asked.now ≡ notes.Pending name.now ∷ self.old.asked.now) }
         ensures err { OnErr result ((self.new.asked.now ≡ self.old.asked.now)
-            ⊎ (self.new.asked.now ≡ notes.Tried name.now ∷ self.old.asked.now)) }
+            ⊎ (self.new.asked.now ≡ notes.Pending name.now ∷ self.old.asked.now)) }
         ensures below { IfOk result (λ id. T.told self.new.lower.now
             ≡ told_spec.first name.now id ∷ T.told self.old.lower.now) }
     {
-        self.asked.begin(Note::Tried(name.clone()?))?;
+        self.asked.begin(Note::Pending(name.clone()?))?;
         self.lower.first(alloc, name)
     }
 
@@ -96,13 +96,13 @@ impl<'r, 'q, 'm, 'n, T: Titles, S: Since> KeyLayer<'r, 'q, 'm, 'n, T, S> {
         ensures same_memo { self.new.memo.ghost_name ≡ self.old.memo.ghost_name }
         ensures nodes { self.new.nodes.now ≡ self.old.nodes.now }
         ensures stand { T.stand self.new.lower.now ≡ T.stand self.old.lower.now }
-        ensures ok { OnOk result (self.new.asked.now ≡ notes.TriedKey ∷ self.old.asked.now) }
+        ensures ok { OnOk result (self.new.asked.now ≡ notes.PendingKey ∷ self.old.asked.now) }
         ensures err { OnErr result ((self.new.asked.now ≡ self.old.asked.now)
-            ⊎ (self.new.asked.now ≡ notes.TriedKey ∷ self.old.asked.now)) }
+            ⊎ (self.new.asked.now ≡ notes.PendingKey ∷ self.old.asked.now)) }
         ensures is { IfOk result (λ answer. IsAnswer (T.told self.new.lower.now)
             self.new.nodes.now (record { scope = scope; key = key.now }) answer) }
     {
-        self.asked.begin(Note::TriedKey)?;
+        self.asked.begin(Note::PendingKey)?;
         let nodes = self.nodes.as_slice();
         let key = key.as_str();
         answer_key(alloc, self.lower, self.homes, nodes, self.table, scope, key)
@@ -114,9 +114,9 @@ impl<'r, 'q, 'm, 'n, T: Titles, S: Since> KeyLayer<'r, 'q, 'm, 'n, T, S> {
         ensures same_memo { self.new.memo.ghost_name ≡ self.old.memo.ghost_name }
         ensures nodes { self.new.nodes.now ≡ self.old.nodes.now }
         ensures stand { T.stand self.new.lower.now ≡ T.stand self.old.lower.now }
-        ensures ok { OnOk result (self.new.asked.now ≡ notes.TriedKey ∷ self.old.asked.now) }
+        ensures ok { OnOk result (self.new.asked.now ≡ notes.PendingKey ∷ self.old.asked.now) }
         ensures err { OnErr result ((self.new.asked.now ≡ self.old.asked.now)
-            ⊎ (self.new.asked.now ≡ notes.TriedKey ∷ self.old.asked.now)) }
+            ⊎ (self.new.asked.now ≡ notes.PendingKey ∷ self.old.asked.now)) }
         ensures is { IfOk result (λ answer. IsAnswer (T.told self.new.lower.now)
             self.new.nodes.now at answer) }
     {

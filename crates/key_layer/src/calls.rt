@@ -8,12 +8,12 @@ ghost use Rattle.readers.specs.Told as told_spec;
 use crate::layer::KeyLayer;
 use crate::memo::KeyAt;
 use dita_doc::{Doc, DocKind, KeyAnswer, Name, NoMemory, Text};
-use readers::{Keys, Note, Questions, Reader, Since, Titles};
+use readers::{Keys, LogStart, Note, Questions, Reader, Titles};
 use std::alloc::Global;
 use std::sync::Arc;
 use targets::copy_answer;
 
-impl<'r, 'q, 'm, 'n, T: Titles, S: Since> Reader for KeyLayer<'r, 'q, 'm, 'n, T, S> {
+impl<'r, 'q, 'm, 'n, T: Titles, S: LogStart> Reader for KeyLayer<'r, 'q, 'm, 'n, T, S> {
     ghost use Rattle.std.specs.Prelude.{◌∷◌};
     ghost use Rattle.key_layer.specs.Ready as ready_spec;
     ghost use Rattle.readers.specs.Noted as noted_spec;
@@ -36,7 +36,7 @@ impl<'r, 'q, 'm, 'n, T: Titles, S: Since> Reader for KeyLayer<'r, 'q, 'm, 'n, T,
     }
 }
 
-impl<'r, 'q, 'm, 'n, T: Titles, S: Since> Titles for KeyLayer<'r, 'q, 'm, 'n, T, S> {
+impl<'r, 'q, 'm, 'n, T: Titles, S: LogStart> Titles for KeyLayer<'r, 'q, 'm, 'n, T, S> {
     fn kind(&mut self, alloc: Global, name: &Name) -> Result<DocKind, NoMemory> {
         let kind = self.ask_kind(alloc, name)?;
         let note = Note::kind(name, kind)?;
@@ -59,7 +59,7 @@ impl<'r, 'q, 'm, 'n, T: Titles, S: Since> Titles for KeyLayer<'r, 'q, 'm, 'n, T,
     }
 }
 
-impl<'r, 'q, 'm, 'n, T: Titles, S: Since> Keys for KeyLayer<'r, 'q, 'm, 'n, T, S> {
+impl<'r, 'q, 'm, 'n, T: Titles, S: LogStart> Keys for KeyLayer<'r, 'q, 'm, 'n, T, S> {
     fn key(&mut self, alloc: Global, scope: u32, key: &Text) -> Result<KeyAnswer, NoMemory> {
         let at = KeyAt::new(scope, key)?;
         if let Some(answer) = self.memo.recall(alloc, &at)? {

@@ -14,8 +14,8 @@ ghost use Rattle.readers.specs.Told.{Knows};
 use crate::memo::KeyMemo;
 use dita_doc::{List, PlanNode};
 use key_scopes::ScopeTable;
-use plan_nodes::Homes;
-use readers::{Questions, Since, Titles};
+use plan_nodes::NodeElements;
+use readers::{LogStart, Questions, Titles};
 use std::marker::PhantomData;
 
 /// The keys of nodes over a reader that knows titles. Each answer is made once, and then told from
@@ -26,12 +26,12 @@ use std::marker::PhantomData;
 /// below. `ready` and `tabled` say that the elements and the table are those of the nodes, in each
 /// world that agrees with what was told at the start.
 #[derive(Drop)]
-pub struct KeyLayer<'r, 'q, 'm, 'n, T: Titles, S: Since> {
+pub struct KeyLayer<'r, 'q, 'm, 'n, T: Titles, S: LogStart> {
     pub lower: &'r mut T,
     pub asked: &'q mut Questions,
     pub memo: &'m mut KeyMemo,
     pub nodes: &'n List<PlanNode>,
-    pub homes: &'n Homes,
+    pub homes: &'n NodeElements,
     pub table: &'n ScopeTable,
     pub since: PhantomData<S>,
     pub ghost ready: { AreReady S.told nodes.now homes.now } by { AreReady-prop

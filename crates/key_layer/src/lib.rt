@@ -2,7 +2,7 @@
 //!
 //! What is used above it: the clauses of `Reader`, `Titles` and `Keys` of `readers`, which
 //! `KeyLayer` meets over any `Titles`, and its ghost fields, by which they go down to that reader.
-#![tactic(auto, using(crate::proofs::Rules::noting))]
+#![tactic(auto, using(readers::proofs::Rules::noting))]
 
 mod asks;
 mod calls;

@@ -1,9 +1,9 @@
 -- What stands on the way up in preorder is what encloses.
 use Rattle.std.specs.Prelude.{◌≡◌, ◌+◌, ◌-◌, ◌<◌, ◌≤◌, ◌==◌, ◌&&◌, ◌++◌, ℕ, zero, suc, Bool, true, false, List, [], ◌∷◌, length, max, nat_le, nat_lt}
 use Rattle.std.proofs.Common.{refl, sym, ap, subst, ◌∙◌, arith, get_or, inl, inr, set}
+use Rattle.std.proofs.lemmas.Bool.{cases_Bool, eqb-true}
 use Rattle.std.specs.Prelude.{◌⊎◌}
 use Rattle.std.proofs.lemmas.Bool.Decides.{nat_tests}
-use Rattle.key_scopes.proofs.TestLaws.{either, same_number}
 use Rattle.key_scopes.specs.Above.{AreEndsFrom, AreInPreorder, IsAbove, IsLastIn, encloses, end_at, raised_to, risen}
 
 pub above_self : (parent : ℕ → ℕ) (at : ℕ) → IsAbove parent at at
@@ -94,7 +94,7 @@ module _ (parent : ℕ → ℕ) (count at : ℕ) (ends new : List ℕ) (root : p
   not_less : (place : ℕ) → ((place == around) ≡ true) ⊎ ((place == around) ≡ false)
       → end_at ends place ≤ end_at new place
   not_less place (inl same) =
-      let here = same_number place around same in
+      let here = eqb-true place around same in
       subst (λ n. end_at ends n ≤ end_at new n) (sym here) (omega (arith, there))
   not_less place (inr differs) = let kept = other place differs in omega arith
 
@@ -103,9 +103,9 @@ module _ (parent : ℕ → ℕ) (count at : ℕ) (ends new : List ℕ) (root : p
   last_of place low (inr differs) =
       subst (IsLastIn parent count place) (sym (other place differs)) (ends_are.last place low)
   last_of place low (inl same) =
-      let here = same_number place around same in
+      let here = eqb-true place around same in
       subst (λ n. IsLastIn parent count n (end_at new n)) (sym here)
-      (by_max (end_at ends around) (end_at ends at) (either (nat_lt (end_at ends around) (end_at ends at))) there)
+      (by_max (end_at ends around) (end_at ends at) (cases_Bool (nat_lt (end_at ends around) (end_at ends at))) there)
     where
       by_max : (a b : ℕ) → (nat_lt (end_at ends around) (end_at ends at)
           ≡ true) ⊎ (nat_lt (end_at ends around) (end_at ends at) ≡ false)
@@ -130,16 +130,16 @@ module _ (parent : ℕ → ℕ) (count at : ℕ) (ends new : List ℕ) (root : p
   pub ends_more : AreEndsFrom parent count at new
   ends_more = record {
     long = ap length is ∙ length_raised around (end_at ends at) ends ∙ ends_are.long;
-    past = λ place low. let kept = not_less place (either (place == around)) in
+    past = λ place low. let kept = not_less place (cases_Bool (place == around)) in
         let was = ends_are.past place low in omega arith;
-    raised = λ place from above low. by_place place from above low (either (place == at));
-    last = λ place low. last_of place low (either (place == around));
+    raised = λ place from above low. by_place place from above low (cases_Bool (place == at));
+    last = λ place low. last_of place low (cases_Bool (place == around));
   }
     where
       by_place : (place : ℕ) → at ≤ place → 0 < place → place < count
           → ((place == at) ≡ true) ⊎ ((place == at) ≡ false) → end_at new place ≤ end_at new (parent place)
       by_place place from above low (inl same) =
-          let here = same_number place at same in
+          let here = eqb-true place at same in
           let up = before place above low in
           let differs : (at == around) ≡ false = grind (arith, nat_tests, here, up) in
           let kept = other at differs in
@@ -150,7 +150,7 @@ module _ (parent : ℕ → ℕ) (count at : ℕ) (ends new : List ℕ) (root : p
           let differs : (place == around) ≡ false = grind (arith, nat_tests, more, least) in
           let kept = other place differs in
           let was = ends_are.raised place more above low in
-          let up = not_less (parent place) (either (parent place == around)) in
+          let up = not_less (parent place) (cases_Bool (parent place == around)) in
           omega arith
         where
           least_of : (n : ℕ) → n ≡ at → parent at ≤ at
@@ -161,7 +161,7 @@ module _ (parent : ℕ → ℕ) (count at : ℕ) (ends new : List ℕ) (root : p
 pub each_more : (ends : List ℕ) (at end : ℕ) → length ends ≡ at
     → ((place : ℕ) → place < at → end_at ends place ≡ place + 1)
     → end ≡ at + 1 → (place : ℕ) → place < at + 1 → end_at (ends ++ end ∷ []) place ≡ place + 1
-each_more ends at end long each is place low = by_test (either (nat_lt place at))
+each_more ends at end long each is place low = by_test (cases_Bool (nat_lt place at))
   where
     by_test : (nat_lt place at ≡ true) ⊎ (nat_lt place at ≡ false) → end_at (ends ++ end ∷ []) place ≡ place + 1
     by_test (inl less) =

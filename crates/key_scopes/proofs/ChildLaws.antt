@@ -7,19 +7,20 @@ use Rattle.std.specs.List.Sorted.{IsPartitionPoint, IsPartitionedBy, IsPermutati
 use Rattle.std.specs.Ordering.{is_eq, is_lt, nat_cmp, ordering_reverse, ordering_then}
 use Rattle.std.proofs.Common.{Ordering, Less, Equal, Greater, refl, sym, ap, subst, ◌∙◌, arith, append_assoc, get_or, drop-cons}
 use Rattle.std.proofs.Math.Seq.{take-suc}
-use Rattle.std.proofs.lemmas.Bool.{true≢false}
+use Rattle.std.proofs.lemmas.Bool.{and_from, eq-eqb, eqb-true, true≢false}
 use Rattle.std.proofs.lemmas.Cmp.{nat_cmp_total, nat_list_cmp_total, on_total, ranked as number_ranked, then_total, tied_itself}
 use Rattle.std.proofs.lemmas.List.{append-nil, drop_all, get_or-map, length-map}
 use Rattle.std.proofs.lemmas.List.Elements.{All-append, All-cons, All-get_or, All-nil, All-push, All-weaker, filter_passes}
 use Rattle.std.proofs.lemmas.List.Kept.{IsSortedBy-filter}
 use Rattle.std.proofs.lemmas.List.Sorted.{All-permutation, IsPermutation-map, IsPermutation-sym, ranks_by, sorted_far}
 use Rattle.dita_doc.proofs.NameOrder.{same_from_equal}
+use Rattle.dita_doc.proofs.Orders.{equal_number, equal_test}
+use Rattle.dita_doc.proofs.Tests.{equal_text, first_holds, same_text, second_holds}
 use Rattle.dita_doc.specs.declared.plan.Scope.{Scope}
 use Rattle.key_scopes.specs.declared.children.ChildName.{ChildName}
-use Rattle.key_scopes.specs.Children.{AreChildNames, AreNotBelow, AreShort, WrittenName, all_names, is_below, is_named, is_same, name_cmp, name_of, named, names_of, names_written, own_cmp, ranked}
+use Rattle.key_scopes.specs.Children.{AreChildNames, AreNotBelow, AreShort, WrittenName, all_names, is_below, is_named, is_same, name_cmp, name_of, those_named, child_names_of, names_written, own_cmp, ranked}
 use Rattle.key_scopes.proofs.SortedLaws.{same_filtered, sorted_cons, sorted_same, sorted_tail}
 use Rattle.key_scopes.proofs.StrictLaws.{first_part}
-use Rattle.key_scopes.proofs.TestLaws.{and_both, and_left, and_right, number_same, same_number, same_text, text_same}
 use Rattle.map_spec.specs.Scopes.{numbered}
 
 -- The order
@@ -52,17 +53,14 @@ then_equal Equal b e = e
 then_equal Less b e = cc
 then_equal Greater b e = cc
 
-number_tied : (a b : ℕ) → nat_cmp a b ≡ Equal → a ≡ b
-number_tied a b e = number_ranked a b Equal (sym e)
-
 pub name_tied : (a b : ChildName) → name_cmp a b ≡ Equal → a ≡ b
 name_tied a b e =
     let three = first_equal (ordering_then (own_order a b) (nat_cmp a.child b.child)) (nat_cmp a.rank b.rank) e in
     let two = first_equal (own_order a b) (nat_cmp a.child b.child) three in
-    let rank = number_tied a.rank b.rank (then_equal (ordering_then (own_order a b) (nat_cmp a.child b.child))
+    let rank = equal_number a.rank b.rank (then_equal (ordering_then (own_order a b) (nat_cmp a.child b.child))
     (nat_cmp a.rank b.rank) e) in
-    let child = number_tied a.child b.child (then_equal (own_order a b) (nat_cmp a.child b.child) three) in
-    let parent = number_tied a.parent b.parent (first_equal (nat_cmp a.parent b.parent)
+    let child = equal_number a.child b.child (then_equal (own_order a b) (nat_cmp a.child b.child) three) in
+    let parent = equal_number a.parent b.parent (first_equal (nat_cmp a.parent b.parent)
     (slice_cmp nat_cmp a.name b.name) two) in
     let name = same_from_equal a.name b.name (then_equal (nat_cmp a.parent b.parent)
     (slice_cmp nat_cmp a.name b.name) two) in
@@ -75,17 +73,17 @@ same_named parent name own = by_two (nat_cmp own.parent parent) (is_named parent
   where
     equal : own_cmp parent name own ≡ Equal → is_named parent name own ≡ true
     equal e =
-        let number = number_tied own.parent parent (first_equal (nat_cmp own.parent parent)
+        let number = equal_number own.parent parent (first_equal (nat_cmp own.parent parent)
         (slice_cmp nat_cmp own.name name) e) in
         let text = same_from_equal own.name name (then_equal (nat_cmp own.parent parent)
         (slice_cmp nat_cmp own.name name) e) in
-        and_both (own.parent == parent) (bytes_eq own.name name) (number_same own.parent parent number)
-        (text_same own.name name text)
+        and_from (own.parent == parent) (bytes_eq own.name name) (eq-eqb own.parent parent number)
+        (equal_text own.name name text)
 
     back : is_named parent name own ≡ true → own_cmp parent name own ≡ Equal
     back e =
-        let number = same_number own.parent parent (and_left (own.parent == parent) (bytes_eq own.name name) e) in
-        let text = same_text own.name name (and_right (own.parent == parent) (bytes_eq own.name name) e) in
+        let number = eqb-true own.parent parent (first_holds (own.parent == parent) (bytes_eq own.name name) e) in
+        let text = same_text own.name name (second_holds (own.parent == parent) (bytes_eq own.name name) e) in
         rw (number, text, tied_itself nat_list_cmp_total name, tied_itself nat_cmp_total parent) refl
 
     by_two : (o : Ordering) (a : Bool) → nat_cmp own.parent parent ≡ o → is_named parent name own ≡ a
@@ -113,11 +111,6 @@ less_is : (o : Ordering) → is_lt o ≡ true → o ≡ Less
 less_is Less e = refl
 less_is Equal e = cc
 less_is Greater e = cc
-
-equal_is : (o : Ordering) → is_eq o ≡ true → o ≡ Equal
-equal_is Less e = cc
-equal_is Equal e = refl
-equal_is Greater e = cc
 
 module _ (parent : ℕ) (name : List ℕ) where
   abbrev probe : ChildName
@@ -149,7 +142,7 @@ module _ (parent : ℕ) (name : List ℕ) where
       by_order Equal e = ap is_eq e
       by_order Greater e =
           let before : own_order b a ≡ Less =
-          own_total.congr b probe a (equal_is (own_order b probe) same)
+          own_total.congr b probe a (equal_test (own_order b probe) same)
           ∙ own_total.antisymm probe a ∙ ap ordering_reverse e in
           absurd (true≢false (sym (ap is_lt before) ∙ far))
 
@@ -165,7 +158,7 @@ module _ (parent : ℕ) (name : List ℕ) where
 
   front_cut : (names : List ChildName) (at : ℕ)
       → ((k : ℕ) (d : ChildName) → 0 ≤ k → k < at → is_below parent name (get_or names k d) ≡ true)
-      → named parent name names ≡ named parent name (drop at names)
+      → those_named parent name names ≡ those_named parent name (drop at names)
   front_cut [] zero below = refl
   front_cut [] (suc at) below = refl
   front_cut (own ∷ names) zero below = refl
@@ -175,7 +168,7 @@ module _ (parent : ℕ) (name : List ℕ) where
 
   none_kept : (names : List ChildName)
       → ((k : ℕ) (d : ChildName) → 0 ≤ k → k < length names → is_same parent name (get_or names k d) ≡ false)
-      → [] ≡ named parent name names
+      → [] ≡ those_named parent name names
   none_kept [] other = refl
   none_kept (own ∷ names) other =
       rw (sym (same_named parent name own) ∙ other 0 own (omega arith) (omega arith))
@@ -184,7 +177,7 @@ module _ (parent : ℕ) (name : List ℕ) where
   front_kept : (names : List ChildName) (at : ℕ)
       → ((k : ℕ) (d : ChildName) → 0 ≤ k → k < at → is_same parent name (get_or names k d) ≡ true)
       → ((k : ℕ) (d : ChildName) → at ≤ k → k < length names → is_same parent name (get_or names k d) ≡ false)
-      → take at names ≡ named parent name names
+      → take at names ≡ those_named parent name names
   front_kept [] zero same other = refl
   front_kept [] (suc at) same other = refl
   front_kept (own ∷ names) zero same other = none_kept (own ∷ names) other
@@ -210,7 +203,7 @@ module _ (parent : ℕ) (name : List ℕ) where
       → IsPartitionPoint (λ own. is_below parent name own ≡ true) (λ own. is_below parent name own ≡ false) names first
       → IsPartitionPoint (λ own. is_same parent name own ≡ true) (λ own. is_same parent name own ≡ false)
       (drop first names) count
-      → take count (drop first names) ≡ named parent name names
+      → take count (drop first names) ≡ those_named parent name names
   cut_named names first count below same =
       front_kept (drop first names) count same.0 same.1 ∙ sym (front_cut names first below.0)
 
@@ -227,7 +220,7 @@ scope_later own later less = by_order (nat_cmp later.child own.child) refl
   where
     by_order : (o : Ordering) → nat_cmp later.child own.child ≡ o → is_lt (place_cmp later own) ≡ false
     by_order Less e = let low = number_ranked later.child own.child Less (sym e) in absurd (omega (arith, low, less))
-    by_order Equal e = let low = number_tied later.child own.child e in absurd (omega (arith, low, less))
+    by_order Equal e = let low = equal_number later.child own.child e in absurd (omega (arith, low, less))
     by_order Greater e = rw e refl
 
 rank_later : (own later : ChildName) → later.child ≡ own.child → own.rank ≤ later.rank
@@ -252,14 +245,15 @@ ranked_from parent child rank low (name ∷ names) less =
     All-cons (IsRankedFrom child low) (record { parent = parent; name = name; child = child; rank = rank })
     (ranked parent child (rank + 1) names) (refl, less) (ranked_from parent child (rank + 1) low names (omega arith))
 
-children_from : (at : ℕ) (scopes : List Scope) → All (λ own. at ≤ own.child) (flat_map names_of (numbered at scopes))
+children_from : (at : ℕ) (scopes : List Scope)
+    → All (λ own. at ≤ own.child) (flat_map child_names_of (numbered at scopes))
 children_from at [] = All-nil (λ own. at ≤ own.child)
 children_from at (scope ∷ scopes) =
-    All-append (λ own. at ≤ own.child) (names_of (scope, at)) (flat_map names_of (numbered (at + 1) scopes))
+    All-append (λ own. at ≤ own.child) (child_names_of (scope, at)) (flat_map child_names_of (numbered (at + 1) scopes))
     (All-weaker (IsRankedFrom at 0) (λ own. at ≤ own.child) (λ own is. omega (arith, is.0))
-    (names_of (scope, at)) (ranked_from scope.parent at 0 0 scope.names (omega arith)))
+    (child_names_of (scope, at)) (ranked_from scope.parent at 0 0 scope.names (omega arith)))
     (All-weaker (λ own. at + 1 ≤ own.child) (λ own. at ≤ own.child) (λ own low. omega (arith, low))
-    (flat_map names_of (numbered (at + 1) scopes)) (children_from (at + 1) scopes))
+    (flat_map child_names_of (numbered (at + 1) scopes)) (children_from (at + 1) scopes))
 
 ranked_sorted : (parent child rank : ℕ) (names : List (List ℕ)) (rest : List ChildName) → IsSorted place_cmp rest
     → All (λ own. child < own.child) rest → IsSorted place_cmp (ranked parent child rank names ++ rest)
@@ -275,24 +269,24 @@ ranked_sorted parent child rank (name ∷ names) rest sorted later =
     (λ other less. scope_later own other less) rest later))
     (ranked_sorted parent child (rank + 1) names rest sorted later)
 
-scopes_sorted : (at : ℕ) (scopes : List Scope) → IsSorted place_cmp (flat_map names_of (numbered at scopes))
+scopes_sorted : (at : ℕ) (scopes : List Scope) → IsSorted place_cmp (flat_map child_names_of (numbered at scopes))
 scopes_sorted at [] = λ k d low within. absurd (omega arith)
 scopes_sorted at (scope ∷ scopes) =
-    ranked_sorted scope.parent at 0 scope.names (flat_map names_of (numbered (at + 1) scopes))
+    ranked_sorted scope.parent at 0 scope.names (flat_map child_names_of (numbered (at + 1) scopes))
     (scopes_sorted (at + 1) scopes)
     (All-weaker (λ own. at + 1 ≤ own.child) (λ own. at < own.child) (λ own low. omega (arith, low))
-    (flat_map names_of (numbered (at + 1) scopes)) (children_from (at + 1) scopes))
+    (flat_map child_names_of (numbered (at + 1) scopes)) (children_from (at + 1) scopes))
 
 -- Those of a name within a parent stand in the order of names then
 
 one_place : (parent : ℕ) (name : List ℕ) (a b : ChildName) → is_named parent name a ≡ true
     → is_named parent name b ≡ true → name_cmp a b ≡ place_cmp a b
 one_place parent name a b first second =
-    let number : a.parent ≡ b.parent = same_number a.parent parent (and_left (a.parent == parent)
-    (bytes_eq a.name name) first) ∙ sym (same_number b.parent parent (and_left (b.parent == parent)
+    let number : a.parent ≡ b.parent = eqb-true a.parent parent (first_holds (a.parent == parent)
+    (bytes_eq a.name name) first) ∙ sym (eqb-true b.parent parent (first_holds (b.parent == parent)
     (bytes_eq b.name name) second)) in
-    let text : a.name ≡ b.name = same_text a.name name (and_right (a.parent == parent)
-    (bytes_eq a.name name) first) ∙ sym (same_text b.name name (and_right (b.parent == parent)
+    let text : a.name ≡ b.name = same_text a.name name (second_holds (a.parent == parent)
+    (bytes_eq a.name name) first) ∙ sym (same_text b.name name (second_holds (b.parent == parent)
     (bytes_eq b.name name) second)) in
     rw (number, text, tied_itself nat_list_cmp_total b.name, tied_itself nat_cmp_total b.parent) refl
 
@@ -305,9 +299,9 @@ one_sorted parent name names all sorted = λ k d low within.
     ∙ sorted k d low within
 
 all_sorted : (parent : ℕ) (name : List ℕ) (scopes : List Scope)
-    → IsSorted name_cmp (named parent name (all_names scopes))
+    → IsSorted name_cmp (those_named parent name (all_names scopes))
 all_sorted parent name scopes =
-    one_sorted parent name (named parent name (all_names scopes))
+    one_sorted parent name (those_named parent name (all_names scopes))
     (filter_passes (is_named parent name) (all_names scopes))
     (IsSortedBy-filter (λ a b. is_lt (place_cmp a b)) (ranks_by place_total (λ own. own)) (is_named parent name)
     (all_names scopes) (scopes_sorted 0 scopes))
@@ -337,8 +331,8 @@ children_are scopes written sorted names longest are permuted order same short =
     (subst (λ all. IsPermutation all (names_written sorted)) are (IsPermutation-map name_of written sorted permuted)) in
     let in_order : IsSorted name_cmp names = subst (IsSorted name_cmp) (sym same) (written_sorted sorted order) in
     record {
-      named = λ parent name. sorted_same name_cmp name_total name_tied (named parent name names)
-          (named parent name (all_names scopes))
+      named = λ parent name. sorted_same name_cmp name_total name_tied (those_named parent name names)
+          (those_named parent name (all_names scopes))
           (IsSortedBy-filter (λ a b. is_lt (name_cmp a b)) (ranks_by name_total (λ own. own))
           (is_named parent name) names in_order)
           (all_sorted parent name scopes)
@@ -351,25 +345,28 @@ children_are scopes written sorted names longest are permuted order same short =
 -- One more scope, and one more name
 
 pub scope_more : (scopes : List Scope) (at : ℕ) (scope : Scope) (old new whole : List ChildName) → at < length scopes
-    → scope ≡ get_or scopes at scope → old ++ flat_map names_of (numbered at (drop at scopes)) ≡ whole
-    → new ≡ old ++ names_of (scope, at) → new ++ flat_map names_of (numbered (at + 1) (drop (at + 1) scopes)) ≡ whole
+    → scope ≡ get_or scopes at scope → old ++ flat_map child_names_of (numbered at (drop at scopes)) ≡ whole
+    → new ≡ old ++ child_names_of (scope, at)
+    → new ++ flat_map child_names_of (numbered (at + 1) (drop (at + 1) scopes)) ≡ whole
 scope_more scopes at scope old new whole within item before more =
-    let rest = flat_map names_of (numbered (at + 1) (drop (at + 1) scopes)) in
+    let rest = flat_map child_names_of (numbered (at + 1) (drop (at + 1) scopes)) in
     let next : suc at ≡ at + 1 = omega arith in
     let cut : drop at scopes ≡ get_or scopes at scope ∷ drop (at + 1) scopes =
     drop-cons scopes at scope within ∙ ap (λ n. get_or scopes at scope ∷ drop n scopes) next in
-    let first : flat_map names_of (numbered at (drop at scopes)) ≡ names_of (get_or scopes at scope, at) ++ rest =
-    ap (λ some. flat_map names_of (numbered at some)) cut in
+    let first : flat_map child_names_of (numbered at (drop at scopes))
+    ≡ child_names_of (get_or scopes at scope, at) ++ rest =
+    ap (λ some. flat_map child_names_of (numbered at some)) cut in
     ap (λ some. some ++ rest) more
-    ∙ append_assoc old (names_of (scope, at)) rest
-    ∙ ap (λ s. old ++ (names_of (s, at) ++ rest)) item
+    ∙ append_assoc old (child_names_of (scope, at)) rest
+    ∙ ap (λ s. old ++ (child_names_of (s, at) ++ rest)) item
     ∙ ap (λ some. old ++ some) (sym first)
     ∙ before
 
 pub scopes_end : (scopes : List Scope) (at : ℕ) (made whole : List ChildName) → length scopes ≤ at
-    → made ++ flat_map names_of (numbered at (drop at scopes)) ≡ whole → made ≡ whole
+    → made ++ flat_map child_names_of (numbered at (drop at scopes)) ≡ whole → made ≡ whole
 scopes_end scopes at made whole end before =
-    sym (append-nil made) ∙ ap (λ some. made ++ flat_map names_of (numbered at some)) (sym (drop_all at scopes end))
+    sym (append-nil made)
+    ∙ ap (λ some. made ++ flat_map child_names_of (numbered at some)) (sym (drop_all at scopes end))
     ∙ before
 
 pub name_more : (parent child at : ℕ) (names : List (List ℕ)) (name : List ℕ) (old new whole : List ChildName)

@@ -10,25 +10,25 @@ use Rattle.std.proofs.lemmas.List.{drop_all, drop_more, get_or-map, length-map}
 use Rattle.std.proofs.lemmas.List.Sorted.{IsPermutation-map, ranks_by, sorted_far}
 use Rattle.key_scopes.specs.declared.definitions.Definition.{Definition}
 use Rattle.key_scopes.specs.Defined.{AreFirsts, AreOrdered, entry_order, firsts_by, is_last_of, is_level_within, with_entry}
-use Rattle.key_scopes.specs.Numbered.{Entry, entries, entry_of}
+use Rattle.key_scopes.specs.Numbered.{KeyEntry, entries, entry_of}
 use Rattle.key_scopes.specs.Table.{First, is_first, first_of, firsts_of}
 
-abbrev pub Written : Type 0
-Written = Bor (List ℕ) × ℕ × ℕ × ℕ
+abbrev pub WrittenKey : Type 0
+WrittenKey = Bor (List ℕ) × ℕ × ℕ × ℕ
 
 entry_total : IsTotalOrder entry_order
 entry_total =
     then_total (then_total (then_total
-    (on_total (λ (e : Entry). e.0) nat_list_cmp_total) (on_total (λ (e : Entry). e.1) nat_cmp_total))
-    (on_total (λ (e : Entry). e.2) nat_cmp_total)) (on_total (λ (e : Entry). e.3) nat_cmp_total)
+    (on_total (λ (e : KeyEntry). e.0) nat_list_cmp_total) (on_total (λ (e : KeyEntry). e.1) nat_cmp_total))
+    (on_total (λ (e : KeyEntry). e.2) nat_cmp_total)) (on_total (λ (e : KeyEntry). e.3) nat_cmp_total)
 
-abbrev pub written_order : Written → Written → Ordering
+abbrev pub written_order : WrittenKey → WrittenKey → Ordering
 written_order a b = entry_order (entry_of a) (entry_of b)
 
 -- sorted, each stands before none of those before it
-pub ordered_by : (written : List Written) → IsSorted written_order written → AreOrdered (entries written)
+pub ordered_by : (written : List WrittenKey) → IsSorted written_order written → AreOrdered (entries written)
 ordered_by written sorted = λ i j d low high.
-    let some : Written = (record { ref_ptr = (0, 0); now = d.0 }, d.1, d.2, d.3) in
+    let some : WrittenKey = (record { ref_ptr = (0, 0); now = d.0 }, d.1, d.2, d.3) in
     let long : j < length written = omega (arith, high, length-map written entry_of) in
     ap (λ e. is_lt (entry_order e (get_or (entries written) i d))) (get_or-map entry_of written j some d long)
     ∙ ap (λ e. is_lt (entry_order (entry_of (get_or written j some)) e))
@@ -36,7 +36,7 @@ ordered_by written sorted = λ i j d low high.
     ∙ sorted_far (λ a b. is_lt (written_order a b)) (ranks_by entry_total entry_of) written sorted i j some low long
 
 -- one more
-pub firsts_step : (count : ℕ) (written : List Written) (at : ℕ) (d : Written) (old new whole : List First)
+pub firsts_step : (count : ℕ) (written : List WrittenKey) (at : ℕ) (d : WrittenKey) (old new whole : List First)
     → at < length written
     → firsts_by old (filter (is_level_within count) (entries (drop at written))) ≡ whole
     → new ≡ with_entry count old (entry_of (get_or written at d))
@@ -47,7 +47,7 @@ firsts_step count written at d old new whole within before more =
     ∙ sym (ap (λ all. firsts_by old (filter (is_level_within count) (entries all))) (drop_more written at d within))
     ∙ before
   where
-    by_one : (item : Written) (a : Bool) → nat_lt item.2 count ≡ a
+    by_one : (item : WrittenKey) (a : Bool) → nat_lt item.2 count ≡ a
         → firsts_by (with_entry count old (entry_of item))
         (filter (is_level_within count) (entries (drop (at + 1) written)))
         ≡ firsts_by old (filter (is_level_within count) (entry_of item ∷ entries (drop (at + 1) written)))
@@ -55,7 +55,7 @@ firsts_step count written at d old new whole within before more =
     by_one item false e = rw e refl
 
 -- behind all of them
-pub firsts_end : (count : ℕ) (written sorted : List Written) (at : ℕ) (made : List First) → length sorted ≤ at
+pub firsts_end : (count : ℕ) (written sorted : List WrittenKey) (at : ℕ) (made : List First) → length sorted ≤ at
     → firsts_by made (filter (is_level_within count) (entries (drop at sorted)))
     ≡ firsts_by [] (filter (is_level_within count) (entries sorted))
     → IsPermutation written sorted → IsSorted written_order sorted → AreFirsts count (entries written) made
@@ -68,7 +68,7 @@ firsts_end count written sorted at made end before permuted order = record {
 }
 
 -- whether the last definition is of the entry's key and scope
-pub last_is : (made : List Definition) (last : Definition) (at : ℕ) (entry : Entry) → at + 1 ≡ length made
+pub last_is : (made : List Definition) (last : Definition) (at : ℕ) (entry : KeyEntry) → at + 1 ≡ length made
     → slice_get made at ≡ Some last → is_last_of (firsts_of made) entry ≡ is_first entry.1 entry.0 (first_of last)
 last_is [] last at entry long is = absurd (cc)
 last_is (first ∷ []) last zero entry long is =
@@ -77,7 +77,7 @@ last_is (first ∷ []) last (suc at) entry long is = absurd (cc)
 last_is (first ∷ next ∷ made) last zero entry long is = absurd (omega (arith, long))
 last_is (first ∷ next ∷ made) last (suc at) entry long is = last_is (next ∷ made) last at entry (omega (arith, long)) is
 
-pub last_at : (made : List Definition) (last : Definition) (entry : Entry)
+pub last_at : (made : List Definition) (last : Definition) (entry : KeyEntry)
     → slice_get made (length made - 1) ≡ Some last
     → is_last_of (firsts_of made) entry ≡ is_first entry.1 entry.0 (first_of last)
 last_at [] last entry is = absurd (cc)

@@ -2,16 +2,16 @@
 use Rattle.std.specs.Prelude.{◌≡◌, ◌+◌, ◌<◌, ◌≤◌, ◌==◌, ◌&&◌, ◌||◌, ◌⊎◌, ℕ, zero, suc, Bool, true, false, List, [], ◌∷◌, ◌++◌, Option, Some, None, bytes_eq, codes, drop, find, is_some, length, nat_lt, option_map, take, if◌then◌else◌}
 use Rattle.std.specs.List.{All}
 use Rattle.std.proofs.Common.{refl, sym, ap, ◌∙◌, arith, get_or, inl, inr}
-use Rattle.std.proofs.lemmas.Bool.{true≢false}
+use Rattle.std.proofs.lemmas.Bool.{cases_Bool, eq-eqb, eqb-true, true≢false}
 use Rattle.std.proofs.lemmas.Bool.Decides.{nat_tests}
 use Rattle.std.proofs.lemmas.List.{length-take}
 use Rattle.std.proofs.lemmas.List.Elements.{All-cons, All-head, All-nil, All-tail, All-weaker}
 use Rattle.dita_doc.specs.declared.plan.Scope.{Scope}
+use Rattle.dita_doc.proofs.Tests.{equal_text, first_holds, same_text, second_holds}
 use Rattle.key_scopes.specs.declared.children.ChildName.{ChildName}
-use Rattle.key_scopes.specs.Children.{AreChildNames, all_names, is_named, named}
+use Rattle.key_scopes.specs.Children.{AreChildNames, all_names, is_named, those_named}
 use Rattle.key_scopes.specs.Ways.{Way, is_behind, is_earlier, leads, next_way, way_in}
 use Rattle.key_scopes.proofs.FirstLaws.{find_filter}
-use Rattle.key_scopes.proofs.TestLaws.{and_left, and_right, either, number_same, same_number, same_text, text_same}
 use Rattle.key_scopes.proofs.TurnLaws.{all_in_turn, find_either, find_neither, found_passes, is_not_behind}
 use Rattle.map_spec.specs.Scopes.{behind}
 
@@ -33,7 +33,7 @@ cut [] (c ∷ key) rest e = by_one (46 == c) refl
     by_one true f =
         let there : Some key ≡ Some rest = rw f at e in
         let same : key ≡ rest = cc in
-        record { within = omega arith; dot = λ d. sym (same_number 46 c f); front = refl; rest = sym same }
+        record { within = omega arith; dot = λ d. sym (eqb-true 46 c f); front = refl; rest = sym same }
     by_one false f = let there = rw f at e in absurd (cc)
 cut (b ∷ name) [] rest e = absurd (cc)
 cut (b ∷ name) (c ∷ key) rest e = by_one (λ there. cut name key rest there) (b == c) refl
@@ -46,7 +46,7 @@ cut (b ∷ name) (c ∷ key) rest e = by_one (λ there. cut name key rest there)
         record {
           within = let low = there.within in omega (arith, low);
           dot = there.dot;
-          front = ap (λ one. one ∷ take (length name) key) (sym (same_number b c f)) ∙ ap (λ some. b ∷ some) there.front;
+          front = ap (λ one. one ∷ take (length name) key) (sym (eqb-true b c f)) ∙ ap (λ some. b ∷ some) there.front;
           rest = there.rest ∙ ap (λ n. drop n (c ∷ key)) more;
         }
     by_one behind false f = let there = rw f at e in absurd (cc)
@@ -54,9 +54,9 @@ cut (b ∷ name) (c ∷ key) rest e = by_one (λ there. cut name key rest there)
 pub cut_there : (dot : ℕ) (key : List ℕ) (d : ℕ) → dot < length key → get_or key dot d ≡ 46
     → behind_dot (take dot key) key ≡ Some (drop (dot + 1) key)
 cut_there dot [] d within is = absurd (omega arith)
-cut_there zero (c ∷ key) d within is = let test = number_same 46 c (sym is) in rw test refl
+cut_there zero (c ∷ key) d within is = let test = eq-eqb 46 c (sym is) in rw test refl
 cut_there (suc dot) (c ∷ key) d within is =
-    let test = number_same c c refl in
+    let test = eq-eqb c c refl in
     let more : suc (dot + 1) ≡ suc dot + 1 = omega arith in
     rw test (cut_there dot key d (omega arith) is ∙ ap (λ n. Some (drop n (c ∷ key))) more)
 
@@ -106,7 +106,7 @@ fits_dot dot scope key name d within is = by_found (behind_dot name key) refl
             let first : nat_lt (length name) (dot + 1) ≡ true = grind (arith, nat_tests) in
             let second : nat_lt (length name) dot ≡ false = grind (arith, nat_tests) in
             rw (first, second) refl
-        by_test false f = by_lengths (either (nat_lt (length name) dot)) (either (nat_lt (length name) (dot + 1)))
+        by_test false f = by_lengths (cases_Bool (nat_lt (length name) dot)) (cases_Bool (nat_lt (length name) (dot + 1)))
           where
             by_lengths : (nat_lt (length name) dot ≡ true) ⊎ (nat_lt (length name) dot ≡ false)
                 → (nat_lt (length name) (dot + 1) ≡ true) ⊎ (nat_lt (length name) (dot + 1) ≡ false)
@@ -118,7 +118,7 @@ fits_dot dot scope key name d within is = by_found (behind_dot name key) refl
                 let long : length name ≡ dot = grind (arith, nat_tests) in
                 let same : name ≡ take dot key =
                 sym (sym (ap (λ n. take n key) long) ∙ is_cut.front) in
-                absurd (true≢false (sym (text_same name (take dot key) same) ∙ f))
+                absurd (true≢false (sym (equal_text name (take dot key) same) ∙ f))
 
 fits_no_dot : (dot : ℕ) (key : List ℕ) (name : List ℕ) (d : ℕ) → (get_or key dot d ≡ 46 → true ≡ false)
     → (nat_lt (length name) (dot + 1) && is_some (behind_dot name key))
@@ -134,7 +134,7 @@ fits_no_dot dot key name d other = by_found (behind_dot name key) refl
     by_found : (found : Option (List ℕ)) → behind_dot name key ≡ found
         → (nat_lt (length name) (dot + 1) && is_some found) ≡ (nat_lt (length name) dot && is_some found)
     by_found None e = none (nat_lt (length name) (dot + 1)) (nat_lt (length name) dot)
-    by_found (Some rest) e = by_lengths (either (nat_lt (length name) dot)) (either (nat_lt (length name) (dot + 1)))
+    by_found (Some rest) e = by_lengths (cases_Bool (nat_lt (length name) dot)) (cases_Bool (nat_lt (length name) (dot + 1)))
       where
         by_lengths : (nat_lt (length name) dot ≡ true) ⊎ (nat_lt (length name) dot ≡ false)
             → (nat_lt (length name) (dot + 1) ≡ true) ⊎ (nat_lt (length name) (dot + 1) ≡ false)
@@ -235,7 +235,7 @@ fits_still dot scope key last name d other =
 
 pub leads_short : (scope : ℕ) (key : List ℕ) (n : ChildName) → leads scope key n ≡ true → length n.name < length key
 leads_short scope key n e =
-    by_found (behind_dot n.name key) refl (and_right (n.parent == scope) (is_some (behind_dot n.name key)) e)
+    by_found (behind_dot n.name key) refl (second_holds (n.parent == scope) (is_some (behind_dot n.name key)) e)
   where
     by_found : (found : Option (List ℕ)) → behind_dot n.name key ≡ found → is_some found ≡ true
         → length n.name < length key
@@ -252,9 +252,9 @@ find_same p q (name ∷ names) same =
     let rest = find_same p q names (All-tail (λ n. p n ≡ q n) name names same) in
     rw (here, rest) refl
 
-all_by : (P : ChildName → Type 0) (names : List ChildName) → ((n : ChildName) → P n) → All P names
-all_by P [] each = All-nil P
-all_by P (name ∷ names) each = All-cons P name names (each name) (all_by P names each)
+pub all_each : (P : ChildName → Type 0) (names : List ChildName) → ((n : ChildName) → P n) → All P names
+all_each P [] each = All-nil P
+all_each P (name ∷ names) each = All-cons P name names (each name) (all_each P names each)
 
 find_nothing : (p : ChildName → Bool) (names : List ChildName) → ((n : ChildName) → p n ≡ false) → find p names ≡ None
 find_nothing p [] none = refl
@@ -271,31 +271,31 @@ module _ (scopes : List Scope) (scope : ℕ) (key : List ℕ) (last : Option Way
   pub first_still : (dot d : ℕ) → (get_or key dot d ≡ 46 → true ≡ false) → first_fit (dot + 1) ≡ first_fit dot
   first_still dot d other =
       find_same (fits (dot + 1) scope key last) (fits dot scope key last) (all_names scopes)
-      (all_by (λ n. fits (dot + 1) scope key last n ≡ fits dot scope key last n) (all_names scopes)
+      (all_each (λ n. fits (dot + 1) scope key last n ≡ fits dot scope key last n) (all_names scopes)
       (λ n. fits_still dot scope key last n d other))
 
-  found_at : (dot : ℕ) → find (is_behind last) (named scope (take dot key) (all_names scopes))
+  found_at : (dot : ℕ) → find (is_behind last) (those_named scope (take dot key) (all_names scopes))
       ≡ find (fits_at dot scope key last) (all_names scopes)
   found_at dot = find_filter (is_behind last) (is_named scope (take dot key)) (all_names scopes)
 
   pub found_long : (dot : ℕ) (name : ChildName) → dot < length key
-      → find (is_behind last) (named scope (take dot key) (all_names scopes)) ≡ Some name → length name.name ≡ dot
+      → find (is_behind last) (those_named scope (take dot key) (all_names scopes)) ≡ Some name → length name.name ≡ dot
   found_long dot name within found =
       let fit = found_passes (fits_at dot scope key last) (all_names scopes) name (sym (found_at dot) ∙ found) in
-      let named = and_left (is_named scope (take dot key) name) (is_behind last name) fit in
+      let named = first_holds (is_named scope (take dot key) name) (is_behind last name) fit in
       let same = same_text name.name (take dot key)
-      (and_right (name.parent == scope) (bytes_eq name.name (take dot key)) named) in
+      (second_holds (name.parent == scope) (bytes_eq name.name (take dot key)) named) in
       ap length same ∙ omega (arith, length-take dot key)
 
   pub first_past : (dot d : ℕ) → dot < length key → get_or key dot d ≡ 46
-      → find (is_behind last) (named scope (take dot key) (all_names scopes)) ≡ None
+      → find (is_behind last) (those_named scope (take dot key) (all_names scopes)) ≡ None
       → first_fit (dot + 1) ≡ first_fit dot
   first_past dot d within is none =
       find_neither (fits dot scope key last) (fits_at dot scope key last) (fits (dot + 1) scope key last)
       (all_names scopes) (λ n. fits_more dot scope key last n d within is) (sym (found_at dot) ∙ none)
 
   pub first_found_at : (dot d : ℕ) (name : ChildName) → dot < length key → get_or key dot d ≡ 46
-      → find (is_behind last) (named scope (take dot key) (all_names scopes)) ≡ Some name
+      → find (is_behind last) (those_named scope (take dot key) (all_names scopes)) ≡ Some name
       → option_map (way_in key) (first_fit (dot + 1))
       ≡ (if is_earlier (option_map (way_in key) (first_fit dot)) name then Some (way_in key name)
       else option_map (way_in key) (first_fit dot))
@@ -348,7 +348,7 @@ module _ (scopes : List Scope) (scope : ℕ) (key : List ℕ) (last : Option Way
   pub first_at_end : (dots : ℕ) → length key ≤ dots
       → option_map (way_in key) (first_fit dots) ≡ next_way scopes scope key last
   first_at_end dots end =
-      first_of_all dots (all_by (λ n. (leads scope key n ≡ true → length n.name < dots)) (all_names scopes)
+      first_of_all dots (all_each (λ n. (leads scope key n ≡ true → length n.name < dots)) (all_names scopes)
       (λ n e. let low = leads_short scope key n e in omega (arith, low, end)))
 
   pub first_behind_longest : (names : List ChildName) (longest dots : ℕ) → AreChildNames scopes names longest

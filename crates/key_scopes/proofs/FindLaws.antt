@@ -7,6 +7,7 @@ use Rattle.std.proofs.lemmas.Bool.Decides.{nat_tests}
 use Rattle.std.proofs.lemmas.Option.{slice_get_past}
 use Rattle.dita_doc.specs.declared.plan.PlanNode.{PlanNode}
 use Rattle.dita_doc.specs.declared.plan.Scope.{Scope}
+use Rattle.dita_doc.proofs.Lists.{option_or_none}
 use Rattle.key_scopes.specs.declared.definitions.Definition.{Definition}
 use Rattle.key_scopes.specs.Above.{AreInPreorder, IsAbove, around_in, encloses, parent_in, risen}
 use Rattle.key_scopes.specs.Made.{IsTableOf}
@@ -17,9 +18,8 @@ use Rattle.key_scopes.proofs.AboveLaws.{above_both, above_encloses, encloses_abo
 use Rattle.key_scopes.proofs.NestedLaws.{top_within}
 use Rattle.key_scopes.proofs.PastLaws.{has_dot, own_past, qualified_past, qualified_without}
 use Rattle.key_scopes.proofs.RiseLaws.{defined_of, none_own, own_of, risen_to, some_own, stays, up}
-use Rattle.key_scopes.proofs.OptionLaws.{or_none}
 use Rattle.key_scopes.proofs.RisingLaws.{around_other, around_root, parent_low, parent_or_root}
-use Rattle.map_spec.specs.Scopes.{found, found_from, own, own_or_qualified, parent_of, scopes}
+use Rattle.map_spec.specs.Scopes.{definition_found, found_from, own, own_or_qualified, parent_of, scopes}
 use Rattle.reader_spec.specs.World.{World}
 
 -- what stands around a scope of the table
@@ -117,11 +117,11 @@ module _ (world : World) (nodes : List PlanNode) (table : Table) (is : IsTableOf
             absurd (omega (arith, least, same, under, less))
 
     pub found_within : (top : Option Definition) → IsOutermost table.ends table.definitions scope key top
-        → found world nodes scope key
+        → definition_found world nodes scope key
         ≡ option_or (outermost_from by all (from_of all scope top)) (node_of top)
     found_within None none =
         found_is scope scope ∙ none_own all low own_at by scope scope (none_around none)
-        ∙ sym (or_none (outermost_in scope by all scope))
+        ∙ sym (option_or_none (outermost_in scope by all scope))
     found_within (Some top) outermost =
         let top_in = top_within (parent_in all) (length all) table.ends is.ends top.scope scope outermost.around in
         let above = above_encloses (parent_in all) (length all) is.ordered table.ends is.ends top.scope scope within
@@ -155,10 +155,12 @@ module _ (world : World) (nodes : List PlanNode) (table : Table) (is : IsTableOf
           omega (arith, less, inside)
 
   -- a scope beyond the table counts as the root scope
-  pub found_scope : (scope : ℕ) → found world nodes scope key ≡ found world nodes (scope_within all scope) key
+  pub found_scope : (scope : ℕ)
+      → definition_found world nodes scope key ≡ definition_found world nodes (scope_within all scope) key
   found_scope scope = by_test (nat_lt scope (length all)) refl
     where
-      beyond : length all ≤ scope → 0 < scope → found world nodes scope key ≡ found world nodes 0 key
+      beyond : length all ≤ scope → 0 < scope
+          → definition_found world nodes scope key ≡ definition_found world nodes 0 key
       beyond out some =
           let same = ap length is.scopes in
           let far : length (scopes nodes) ≤ scope = omega (arith, same, out) in
@@ -169,10 +171,10 @@ module _ (world : World) (nodes : List PlanNode) (table : Table) (is : IsTableOf
           let root : parent_in all scope ≡ 0 = ap parent_or_root (slice_get_past all scope out) in
           found_is scope scope ∙ up all low both scope some
           ∙ ap₂ option_or (ap (risen_to all low both) root) none
-          ∙ or_none (risen_to all low both 0) ∙ sym (found_is 0 0)
+          ∙ option_or_none (risen_to all low both 0) ∙ sym (found_is 0 0)
 
       by_test : (a : Bool) → nat_lt scope (length all) ≡ a
-          → found world nodes scope key ≡ found world nodes (scope_within all scope) key
+          → definition_found world nodes scope key ≡ definition_found world nodes (scope_within all scope) key
       by_test true e = rw e refl
       by_test false e =
           let out : length all ≤ scope = grind (arith, nat_tests) in

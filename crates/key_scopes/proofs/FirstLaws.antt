@@ -3,16 +3,17 @@ use Rattle.std.specs.Prelude.{◌≡◌, ◌+◌, ◌<◌, ◌≤◌, ◌==◌, 
 use Rattle.std.specs.List.{All}
 use Rattle.std.specs.Option.{option_or}
 use Rattle.std.proofs.Common.{refl, sym, ap, subst, ◌∙◌, arith, get_or, inl, inr}
-use Rattle.std.proofs.lemmas.Bool.{true≢false}
+use Rattle.std.proofs.lemmas.Bool.{and_from, cases_Bool, eq-eqb, eqb-true, true≢false}
 use Rattle.std.proofs.lemmas.Bool.Decides.{nat_tests}
 use Rattle.std.proofs.lemmas.List.Elements.{All-cons, All-from_get_or, All-head, All-nil, All-tail}
 use Rattle.std.proofs.lemmas.List.Folds.{find-append}
 use Rattle.dita_doc.specs.declared.plan.PlanNode.{PlanNode}
+use Rattle.dita_doc.proofs.Lists.{option_or_none}
+use Rattle.dita_doc.proofs.Tests.{equal_text, first_holds, same_text, second_holds}
 use Rattle.key_scopes.specs.Defined.{AreOrdered, first_by, firsts_by, is_entry_before, is_last_of, with_first}
-use Rattle.key_scopes.specs.Numbered.{Entry, entry}
+use Rattle.key_scopes.specs.Numbered.{KeyEntry, entry}
 use Rattle.key_scopes.specs.Table.{First, is_first}
-use Rattle.key_scopes.proofs.OptionLaws.{or_assoc, or_none}
-use Rattle.key_scopes.proofs.TestLaws.{and_both, and_left, and_right, either, number_same, same_number, same_text, text_same}
+use Rattle.key_scopes.proofs.OptionLaws.{or_assoc}
 use Rattle.map_spec.specs.Scopes.{places_from}
 
 -- A search
@@ -54,10 +55,11 @@ find_none p (first ∷ xs) none = by_one (λ there. find_none p xs there) (p fir
 
 -- Entries in order: the first is the least
 
-abbrev pub NotBefore : (Entry → Bool) → Entry → Entry → Type 0
+abbrev pub NotBefore : (KeyEntry → Bool) → KeyEntry → KeyEntry → Type 0
 NotBefore p e other = p other ≡ true → is_entry_before other e ≡ false
 
-pub least : (p : Entry → Bool) (entries : List Entry) (e : Entry) → AreOrdered entries → find p entries ≡ Some e
+pub least : (p : KeyEntry → Bool) (entries : List KeyEntry) (e : KeyEntry) → AreOrdered entries
+    → find p entries ≡ Some e
     → All (NotBefore p e) entries
 least p [] e ordered found = absurd (cc)
 least p (first ∷ entries) e ordered found =
@@ -78,20 +80,20 @@ least p (first ∷ entries) e ordered found =
 -- The first of each key and scope
 
 -- an entry of this key in this scope
-abbrev pub matches : ℕ → List ℕ → Entry → Bool
+abbrev pub matches : ℕ → List ℕ → KeyEntry → Bool
 matches scope key entry = (entry.1 == scope) && bytes_eq key entry.0
 
-last_found : (scope : ℕ) (key : List ℕ) (firsts : List First) (entry : Entry) → is_last_of firsts entry ≡ true
+last_found : (scope : ℕ) (key : List ℕ) (firsts : List First) (entry : KeyEntry) → is_last_of firsts entry ≡ true
     → matches scope key entry ≡ true → (first : First) × (find (is_first scope key) firsts ≡ Some first)
 last_found scope key [] entry last is = absurd (cc)
 last_found scope key (first ∷ []) entry last is =
-    let there = same_number first.scope entry.1 (and_left (first.scope == entry.1) (bytes_eq entry.0 first.key) last) in
-    let text = same_text entry.0 first.key (and_right (first.scope == entry.1) (bytes_eq entry.0 first.key) last) in
-    let scope_is = same_number entry.1 scope (and_left (entry.1 == scope) (bytes_eq key entry.0) is) in
-    let key_is = same_text key entry.0 (and_right (entry.1 == scope) (bytes_eq key entry.0) is) in
+    let there = eqb-true first.scope entry.1 (first_holds (first.scope == entry.1) (bytes_eq entry.0 first.key) last) in
+    let text = same_text entry.0 first.key (second_holds (first.scope == entry.1) (bytes_eq entry.0 first.key) last) in
+    let scope_is = eqb-true entry.1 scope (first_holds (entry.1 == scope) (bytes_eq key entry.0) is) in
+    let key_is = same_text key entry.0 (second_holds (entry.1 == scope) (bytes_eq key entry.0) is) in
     let here : is_first scope key first ≡ true =
-    and_both (first.scope == scope) (bytes_eq key first.key) (number_same first.scope scope (there ∙ scope_is))
-    (text_same key first.key (key_is ∙ text)) in
+    and_from (first.scope == scope) (bytes_eq key first.key) (eq-eqb first.scope scope (there ∙ scope_is))
+    (equal_text key first.key (key_is ∙ text)) in
     (first, rw here refl)
 last_found scope key (first ∷ next ∷ firsts) entry last is =
     by_one (is_first scope key first) refl (last_found scope key (next ∷ firsts) entry last is)
@@ -102,10 +104,10 @@ last_found scope key (first ∷ next ∷ firsts) entry last is =
     by_one true e behind = (first, rw e refl)
     by_one false e behind = (behind.0, rw e behind.1)
 
-pub first_among : (scope : ℕ) (key : List ℕ) (entries : List Entry) (firsts : List First)
+pub first_among : (scope : ℕ) (key : List ℕ) (entries : List KeyEntry) (firsts : List First)
     → find (is_first scope key) (firsts_by firsts entries)
     ≡ option_or (find (is_first scope key) firsts) (option_map first_by (find (matches scope key) entries))
-first_among scope key [] firsts = sym (or_none (find (is_first scope key) firsts))
+first_among scope key [] firsts = sym (option_or_none (find (is_first scope key) firsts))
 first_among scope key (entry ∷ entries) firsts =
     first_among scope key entries (with_first firsts entry)
     ∙ by_two (is_last_of firsts entry) (matches scope key entry) refl refl
@@ -154,7 +156,7 @@ searched test from to (node ∷ nodes) long =
   where
     at_first : test from ≡ false → (other : ℕ) → from ≤ other → ((from + 1 ≤ other) → test other ≡ false)
         → ((other == from) ≡ true) ⊎ ((other == from) ≡ false) → test other ≡ false
-    at_first e other low behind (inl same) = ap test (same_number other from same) ∙ e
+    at_first e other low behind (inl same) = ap test (eqb-true other from same) ∙ e
     at_first e other low behind (inr differs) =
         let less : from + 1 ≤ other = grind (arith, nat_tests) in behind less
 
@@ -167,10 +169,10 @@ searched test from to (node ∷ nodes) long =
       first = λ other low high. absurd (omega arith);
     }
     by_one false e None behind = λ other low high.
-        at_first e other low (λ less. behind other less high) (either (other == from))
+        at_first e other low (λ less. behind other less high) (cases_Bool (other == from))
     by_one false e (Some at) behind = record {
       here = behind.here;
       low = let less = behind.low in omega (arith, less);
       high = behind.high;
-      first = λ other low high. at_first e other low (λ less. behind.first other less high) (either (other == from));
+      first = λ other low high. at_first e other low (λ less. behind.first other less high) (cases_Bool (other == from));
     }

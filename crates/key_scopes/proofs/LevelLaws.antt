@@ -11,9 +11,9 @@ use Rattle.std.proofs.lemmas.List.Elements.{All-cons, All-from_get_or, All-head,
 use Rattle.std.proofs.lemmas.List.Sorted.{IsNonDecreasingBy-from_sort, answers_always}
 use denote.Param.Members.{Mut}
 use Rattle.key_scopes.specs.Defined.{is_level_within}
-use Rattle.key_scopes.specs.Numbered.{Entry, entries, entry_of}
+use Rattle.key_scopes.specs.Numbered.{KeyEntry, entries, entry_of}
 use Rattle.key_scopes.specs.OwnKeys.{by_level, is_at, numbers}
-use Rattle.key_scopes.proofs.DefineLaws.{Written}
+use Rattle.key_scopes.proofs.DefineLaws.{WrittenKey}
 
 -- Filters
 
@@ -159,19 +159,19 @@ module _ {X : Type 0} (n : X → ℕ) where
 tied : (a b : ℕ) → (not (is_lt (nat_cmp a b)) && not (is_lt (nat_cmp b a))) ≡ (b == a)
 tied a b = grind (arith, nat_tests)
 
-abbrev pub level_of : Written → ℕ
+abbrev pub level_of : WrittenKey → ℕ
 level_of written = written.2
 
-stays : (written sorted : List Written) (level : ℕ) → IsStableByKey level_of nat_cmp written sorted
+stays : (written sorted : List WrittenKey) (level : ℕ) → IsStableByKey level_of nat_cmp written sorted
     → filter (of level_of level) sorted ≡ filter (of level_of level) written
 stays written sorted level stable =
-    let some : Written = (record { ref_ptr = (0, 0); now = [] }, 0, level, 0) in
-    let test : Written → Bool = ties (λ (x : Written) (y : Written). is_lt (nat_cmp x.2 y.2)) some in
-    let same : (y : Written) → test y ≡ of level_of level y = λ y. tied level y.2 in
+    let some : WrittenKey = (record { ref_ptr = (0, 0); now = [] }, 0, level, 0) in
+    let test : WrittenKey → Bool = ties (λ (x : WrittenKey) (y : WrittenKey). is_lt (nat_cmp x.2 y.2)) some in
+    let same : (y : WrittenKey) → test y ≡ of level_of level y = λ y. tied level y.2 in
     (λ i. filter (λ y. sym (same y) i) sorted) ∙ stable some ∙ (λ i. filter (λ y. same y i) written)
 
 -- those below the count, by level
-levels_sorted : (count : ℕ) (written sorted : List Written) → IsNonDecreasingBy level_of sorted
+levels_sorted : (count : ℕ) (written sorted : List WrittenKey) → IsNonDecreasingBy level_of sorted
     → IsStableByKey level_of nat_cmp written sorted
     → filter (is_level_within count) (entries sorted) ≡ by_level count (entries written)
 levels_sorted count written sorted up stable =
@@ -186,11 +186,11 @@ levels_sorted count written sorted up stable =
     ∙ (λ i. flat_map (λ level. each level i) (numbers 0 count))
 
 -- as `sort_by_key` does
-pub sorted_entries : {F : Type 0} {g : Mut F (Bor Written × Unit {0}) ℕ} {f : F} (count : ℕ)
-    (written sorted : List Written)
-    → ((key : Written → ℕ) → ComputesKey g key f → IsSortedByKey key nat_cmp sorted)
-    → ((key : Written → ℕ) → ComputesKey g key f → IsStableByKey key nat_cmp written sorted)
-    → ((f : F) (a : Bor Written × Unit {0}) (r : ℕ) (f' : F) → Called g f a r f' → r ≡ level_of a.0.now)
+pub sorted_entries : {F : Type 0} {g : Mut F (Bor WrittenKey × Unit {0}) ℕ} {f : F} (count : ℕ)
+    (written sorted : List WrittenKey)
+    → ((key : WrittenKey → ℕ) → ComputesKey g key f → IsSortedByKey key nat_cmp sorted)
+    → ((key : WrittenKey → ℕ) → ComputesKey g key f → IsStableByKey key nat_cmp written sorted)
+    → ((f : F) (a : Bor WrittenKey × Unit {0}) (r : ℕ) (f' : F) → Called g f a r f' → r ≡ level_of a.0.now)
     → filter (is_level_within count) (entries sorted) ≡ by_level count (entries written)
 sorted_entries {F} {g} {f} count written sorted rising stable gives =
     let computes : ComputesKey g level_of f = answers_always g (λ a r. r ≡ level_of a.0.now) f gives in

@@ -1,4 +1,3 @@
-pub mod TestLaws
 pub mod OptionLaws
 pub mod AboveLaws
 pub mod NameLaws

@@ -6,22 +6,14 @@ use Rattle.std.specs.List.{list_any}
 use Rattle.std.proofs.Common.{refl, sym, ap, ◌∙◌}
 use Rattle.std.proofs.lemmas.Bool.{true≢false}
 use Rattle.std.proofs.lemmas.Slice.Eq.{bytes_eq-Decides}
+use Rattle.dita_doc.proofs.Lists.{is_other}
+use Rattle.dita_doc.proofs.Tests.{text_swaps}
 use Rattle.plan_nodes.proofs.TextSetLaws.{Str, has_one, is_one, one_append, order, set_put, texts_push}
 use Rattle.key_scopes.specs.Named.{texts}
 use Rattle.map_spec.specs.Branches.{each_once}
 use Rattle.map_spec.specs.Scopes.{bad_names, good_names, is_good_name}
 
 -- Equal texts
-
-by_truth : (a b : Bool) → (a ≡ true → b ≡ true) → (b ≡ true → a ≡ true) → a ≡ b
-by_truth true b there back = sym (there refl)
-by_truth false true there back = back refl
-by_truth false false there back = refl
-
-pub turned : (a b : List ℕ) → bytes_eq a b ≡ bytes_eq b a
-turned a b = by_truth (bytes_eq a b) (bytes_eq b a)
-    (λ e. (bytes_eq-Decides b a).1 (sym ((bytes_eq-Decides a b).0 e)))
-    (λ e. (bytes_eq-Decides a b).1 (sym ((bytes_eq-Decides b a).0 e)))
 
 -- A set of texts
 
@@ -60,9 +52,6 @@ known_again keys later text written known same there = λ t.
 
 -- Each once
 
-abbrev other : List ℕ → List ℕ → Bool
-other name each = not (bytes_eq name each)
-
 filter-push : (p : List ℕ → Bool) (names : List (List ℕ)) (x : List ℕ)
     → filter p (names ++ x ∷ []) ≡ (if p x then filter p names ++ x ∷ [] else filter p names)
 filter-push p [] x = by_one (p x) refl
@@ -88,19 +77,19 @@ once-push : (names : List (List ℕ)) (x : List ℕ)
     → each_once (names ++ x ∷ []) ≡ one_more names x (list_any (bytes_eq x) names)
 once-push [] x = refl
 once-push (name ∷ names) x =
-    ap (λ some. name ∷ filter (other name) some) (once-push names x)
+    ap (λ some. name ∷ filter (is_other name) some) (once-push names x)
     ∙ by_two (bytes_eq x name) (list_any (bytes_eq x) names) refl
   where
     by_two : (a b : Bool) → bytes_eq x name ≡ a
-        → name ∷ filter (other name) (one_more names x b) ≡ one_more (name ∷ names) x (a || b)
+        → name ∷ filter (is_other name) (one_more names x b) ≡ one_more (name ∷ names) x (a || b)
     by_two true true e = refl
     by_two true false e =
-        let same : bytes_eq name x ≡ true = turned name x ∙ e in
-        ap (λ more. name ∷ more) (filter-push (other name) (each_once names) x ∙ rw same refl)
+        let same : bytes_eq name x ≡ true = text_swaps name x ∙ e in
+        ap (λ more. name ∷ more) (filter-push (is_other name) (each_once names) x ∙ rw same refl)
     by_two false true e = refl
     by_two false false e =
-        let same : bytes_eq name x ≡ false = turned name x ∙ e in
-        ap (λ more. name ∷ more) (filter-push (other name) (each_once names) x ∙ rw same refl)
+        let same : bytes_eq name x ≡ false = text_swaps name x ∙ e in
+        ap (λ more. name ∷ more) (filter-push (is_other name) (each_once names) x ∙ rw same refl)
 
 any-filter : (p : List ℕ → Bool) (names : List (List ℕ)) (x : List ℕ) → p x ≡ true
     → list_any (bytes_eq x) (filter p names) ≡ list_any (bytes_eq x) names

@@ -6,16 +6,16 @@ use Rattle.std.proofs.lemmas.Bool.Decides.{nat_tests}
 use Rattle.std.proofs.lemmas.List.{append-nil, append_assoc, take_all}
 use Rattle.std.proofs.lemmas.List.Elements.{filter_map-append, filter-append}
 use Rattle.std.proofs.lemmas.List.Sums.{sum_by-cons}
-use Rattle.std.proofs.lemmas.Option.{slice_get-map}
 use Rattle.dita_doc.specs.declared.fault.FaultCode.TheVariants as faults
 use Rattle.dita_doc.specs.declared.plan.PlanNode.{PlanNode}
 use Rattle.dita_doc.specs.declared.plan.Scope.{Scope}
 use Rattle.key_scopes.specs.declared.numbering.Numbering.{Numbering}
 use Rattle.key_scopes.specs.Numbered.{AreNumbered, IsNew, IsPut, IsScopePut, entries, entries_at, entry, faults_at, has_name, keys_name, keys_written, place_in, scope_around, scope_of, scope_placed, scopes_before, scopes_put, told_at}
 use Rattle.key_scopes.proofs.PlaceLaws.{all_more}
+use Rattle.plan_nodes.proofs.HomeLaws.{value_same}
 use Rattle.plan_nodes.proofs.PlaceLaws.{known, known_at, known_more, place_more, up_from}
-use Rattle.map_spec.specs.Cascade.{attribute_at, places_up, whole_at}
-use Rattle.map_spec.specs.Scopes.{bad_names, begins, good_names, has_scope_name, key_faults, keys_defined, keys_of, may_define, node_fault, number_of, places, root_scope, scope_at, scope_begun, scope_faults, scope_on}
+use Rattle.map_spec.specs.Cascade.{places_up, whole_at}
+use Rattle.map_spec.specs.Scopes.{bad_names, begins, good_names, has_scope_name, key_name_faults, keys_defined, keys_of, may_define, node_fault, number_of, places, root_scope, scope_at, scope_begun, scope_faults, scope_on}
 use Rattle.map_spec.specs.Written.{Whole}
 use Rattle.plan_nodes.specs.Home.{value_at}
 use Rattle.plan_nodes.specs.Preorder.{HasParentsBefore, is_in_table_at, tables_around}
@@ -182,7 +182,7 @@ module _ (world : World) (nodes : List PlanNode) (at : ℕ) (node : PlanNode) (i
       by_one true = refl
       by_one false = refl
 
-      whole : scope_faults at node ++ key_faults world nodes at node ≡ faults_at world nodes at
+      whole : scope_faults at node ++ key_name_faults world nodes at node ≡ faults_at world nodes at
       whole = rw is refl
 
   keys_here : (in_table : Bool) → in_table ≡ is_in_table_at nodes at
@@ -210,14 +210,6 @@ module _ (world : World) (nodes : List PlanNode) (at : ℕ) (node : PlanNode) (i
       ap (λ some. map (entry some node.level at) keys) same
       ∙ ap (map (entry (scope_at nodes at) node.level at)) defined ∙ rw is refl
 
--- the value that its element has
-pub own_value : (world : World) (homes : List (Option Whole)) (nodes : List PlanNode) (at : ℕ) (node : PlanNode)
-    (name : List ℕ) → homes ≡ map (whole_at world) nodes → slice_get nodes at ≡ Some node
-    → value_at homes at name ≡ attribute_at world name node
-own_value world homes nodes at node name same is =
-    ap (λ all. value_at all at name) same
-    ∙ rw (slice_get-map (whole_at world) nodes at, is) refl
-
 -- what a node puts is what it adds
 pub number_put : (world : World) (homes : List (Option Whole)) (nodes : List PlanNode) (at : ℕ) (node : PlanNode)
     (in_table : Bool) (old new : Numbering) → homes ≡ map (whole_at world) nodes → HasParentsBefore nodes
@@ -226,7 +218,7 @@ pub number_put : (world : World) (homes : List (Option Whole)) (nodes : List Pla
     → IsPut at node (keys_written (may_define node.kind && not in_table) (value_at homes at keys_name)) old new
     → AreNumbered world nodes (at + 1) new
 number_put world homes nodes at node in_table old new same before within is table known put =
-    let value = own_value world homes nodes at node keys_name same is in
+    let value = value_same world homes nodes at node keys_name same is in
     let keys : keys_written (may_define node.kind && not in_table) (value_at homes at keys_name)
     ≡ (if may_define node.kind && not in_table then keys_of world node else []) =
     ap (keys_written (may_define node.kind && not in_table)) value in

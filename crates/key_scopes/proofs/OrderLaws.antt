@@ -5,15 +5,15 @@ use Rattle.std.specs.Cmp.Lexicographic.{slice_cmp}
 use Rattle.std.specs.List.Sorted.{IsPartitionPoint, IsPartitionedBy}
 use Rattle.std.specs.Ordering.{is_eq, is_lt, nat_cmp, ordering_reverse, ordering_then}
 use Rattle.std.proofs.Common.{Ordering, Less, Equal, Greater, refl, sym, ap, ◌∙◌, arith, get_or, inl, inr}
-use Rattle.std.proofs.lemmas.Bool.{true≢false}
+use Rattle.std.proofs.lemmas.Bool.{and_from, cases_Bool, eq-eqb, eqb-true, true≢false}
 use Rattle.std.proofs.lemmas.Bool.Decides.{nat_tests}
 use Rattle.std.proofs.lemmas.Cmp.{nat_cmp_total, nat_list_cmp_total, on_total, ranked, then_total, tied_itself}
 use Rattle.std.proofs.lemmas.List.{get_or-map, length-map}
 use Rattle.dita_doc.proofs.NameOrder.{same_from_equal}
+use Rattle.dita_doc.proofs.Tests.{equal_text, first_holds, same_text, second_holds}
 use Rattle.key_scopes.specs.declared.definitions.Definition.{Definition}
 use Rattle.key_scopes.specs.Defined.{AreStrict, first_order, is_below, own_at, probe}
 use Rattle.key_scopes.specs.Table.{First, is_first, own_in, first_of, firsts_of}
-use Rattle.key_scopes.proofs.TestLaws.{and_both, and_left, and_right, either, number_same, same_number, same_text, text_same}
 
 pub first_total : IsTotalOrder first_order
 first_total = then_total (on_total (λ (f : First). f.key) nat_list_cmp_total)
@@ -50,13 +50,13 @@ module _ (scope : ℕ) (key : List ℕ) where
       by_two Equal Equal f g e =
           let text : key ≡ first.key = sym (same_from_equal first.key key f) in
           let number : first.scope ≡ scope = ranked first.scope scope Equal (sym g) in
-          and_both (first.scope == scope) (bytes_eq key first.key) (number_same first.scope scope number)
-          (text_same key first.key text)
+          and_from (first.scope == scope) (bytes_eq key first.key) (eq-eqb first.scope scope number)
+          (equal_text key first.key text)
 
   pub equal_one : (first : First) → is_first scope key first ≡ true → order first ≡ Equal
   equal_one first e =
-      let number = same_number first.scope scope (and_left (first.scope == scope) (bytes_eq key first.key) e) in
-      let text = same_text key first.key (and_right (first.scope == scope) (bytes_eq key first.key) e) in
+      let number = eqb-true first.scope scope (first_holds (first.scope == scope) (bytes_eq key first.key) e) in
+      let text = same_text key first.key (second_holds (first.scope == scope) (bytes_eq key first.key) e) in
       rw (number, ← text, tied_itself nat_list_cmp_total key, tied_itself nat_cmp_total scope) refl
 
   is_other : (first : First) → is_eq (order first) ≡ false → is_first scope key first ≡ false
@@ -99,10 +99,10 @@ module _ (scope : ℕ) (key : List ℕ) where
 
   pub parted : (definitions : List Definition) → AreStrict (firsts_of definitions)
       → IsPartitionedBy (is_below scope key) definitions
-  parted definitions strict i j d le inside below = by_test (either (i == j))
+  parted definitions strict i j d le inside below = by_test (cases_Bool (i == j))
     where
       by_test : ((i == j) ≡ true) ⊎ ((i == j) ≡ false) → is_below scope key (get_or definitions i d) ≡ true
-      by_test (inl same) = ap (λ n. is_below scope key (get_or definitions n d)) (same_number i j same) ∙ below
+      by_test (inl same) = ap (λ n. is_below scope key (get_or definitions n d)) (eqb-true i j same) ∙ below
       by_test (inr differs) =
           let less : i < j = grind (arith, nat_tests) in
           ap is_lt (IsTotalOrder.trans first_total (first_of (get_or definitions i d))

@@ -6,11 +6,13 @@ use Rattle.std.specs.List.Sorted.{IsPartitionPoint, IsPartitionedBy}
 use Rattle.std.specs.Option.{option_and_then, option_map_or}
 use Rattle.std.specs.Ordering.{is_gt, nat_cmp, ordering_index, ordering_reverse, ordering_then}
 use Rattle.std.proofs.Common.{Ordering, Less, Equal, Greater, refl, sym, ap, subst, ◌∙◌, arith, get_or, inl, inr, not}
-use Rattle.std.proofs.lemmas.Bool.{true≢false}
+use Rattle.std.proofs.lemmas.Bool.{cases_Bool, eqb-true, not-false, not-true, true≢false}
 use Rattle.std.proofs.lemmas.Bool.Decides.{nat_tests}
 use Rattle.std.proofs.lemmas.Cmp.{nat_list_cmp_total, ranked, tied_itself, upto}
 use Rattle.std.proofs.lemmas.List.{length-take}
+use Rattle.dita_doc.proofs.Lists.{some_at}
 use Rattle.dita_doc.proofs.NameOrder.{same_from_equal}
+use Rattle.dita_doc.proofs.Tests.{equal_text, same_text}
 use Rattle.key_scopes.specs.declared.definitions.Definition.{Definition}
 use Rattle.key_scopes.specs.Above.{encloses}
 use Rattle.key_scopes.specs.Defined.{AreStrict, first_order, is_behind, probe}
@@ -18,8 +20,6 @@ use Rattle.key_scopes.specs.Outermost.{AreNested, AreTopped, IsOutermost, last_o
 use Rattle.key_scopes.specs.Table.{First, first_of, firsts_of}
 use Rattle.key_scopes.proofs.NestedLaws.{encloses_it, high_of, low_of}
 use Rattle.key_scopes.proofs.OrderLaws.{first_total, strict_of}
-use Rattle.key_scopes.proofs.TestLaws.{either, same_number, same_text, text_same}
-use Rattle.key_scopes.proofs.OptionLaws.{there}
 use Rattle.key_scopes.proofs.ToppedLaws.{Found, found, taken}
 
 -- Orders
@@ -79,7 +79,7 @@ module _ (ends : List ℕ) (nested : AreNested ends) (definitions : List Definit
     (strict : AreStrict (firsts_of definitions)) where
   in_order : (i j : ℕ) (a b : Definition) → slice_get definitions i ≡ Some a → slice_get definitions j ≡ Some b → i ≤ j
       → is_gt (first_order (first_of a) (first_of b)) ≡ false
-  in_order i j a b first second low = by_test (either (i == j))
+  in_order i j a b first second low = by_test (cases_Bool (i == j))
     where
       one : Found definitions i a
       one = found definitions i a first
@@ -89,7 +89,7 @@ module _ (ends : List ℕ) (nested : AreNested ends) (definitions : List Definit
 
       by_test : ((i == j) ≡ true) ⊎ ((i == j) ≡ false) → is_gt (first_order (first_of a) (first_of b)) ≡ false
       by_test (inl same) =
-          let is = same_number i j same in
+          let is = eqb-true i j same in
           let alike : a ≡ b = sym (one.got a) ∙ ap (λ n. get_or definitions n a) is ∙ two.got a in
           ap (λ (d : Definition). is_gt (first_order (first_of a) (first_of d))) (sym alike)
           ∙ ap is_gt (tied_itself first_total (first_of a))
@@ -163,7 +163,7 @@ module _ (ends : List ℕ) (nested : AreNested ends) (definitions : List Definit
     is = ap (slice_get definitions) top ∙ is;
     of_key = refl;
     around = inl top;
-    least = λ place other there_is low same around. by_test place other there_is same around (either (place == at)) low;
+    least = λ place other there_is low same around. by_test place other there_is same around (cases_Bool (place == at)) low;
   }
     where
       by_test : (place : ℕ) (other : Definition) → slice_get definitions place ≡ Some other → other.key ≡ own.key
@@ -171,7 +171,7 @@ module _ (ends : List ℕ) (nested : AreNested ends) (definitions : List Definit
           → own.scope ≤ other.scope
       by_test place other there_is same around (inl here) low =
           let alike : other ≡ own = sym ((found definitions place other there_is).got own)
-          ∙ ap (λ n. get_or definitions n own) (same_number place at here) ∙ (found definitions at own is).got own in
+          ∙ ap (λ n. get_or definitions n own) (eqb-true place at here) ∙ (found definitions at own is).got own in
           let scopes_same : other.scope ≡ own.scope = ap (λ (d : Definition). d.scope) alike in
           omega (arith, scopes_same)
       by_test place other there_is same around (inr differs) low =
@@ -215,7 +215,7 @@ module _ (ends : List ℕ) (nested : AreNested ends) (definitions : List Definit
       → IsTop (suc at) own own.top
   next_top at own last own_is last_is top is false b e f =
       itself (suc at) own own_is (is ∙ rw e refl) (λ place other other_is low same around.
-      true≢false (sym (text_same own.key last.key
+      true≢false (sym (equal_text own.key last.key
       (sym (key_before at place own last other own_is last_is other_is low same)))
       ∙ e))
   next_top at own last own_is last_is top is true false e f =
@@ -234,7 +234,7 @@ module _ (ends : List ℕ) (nested : AreNested ends) (definitions : List Definit
         of_key = top.of_key ∙ sym text;
         around = inr f;
         least = λ place other other_is low same around. by_test text place other other_is low same around
-            (either (place == suc at));
+            (cases_Bool (place == suc at));
       }
     where
       by_test : own.key ≡ last.key → (place : ℕ) (other : Definition) → slice_get definitions place ≡ Some other
@@ -242,7 +242,7 @@ module _ (ends : List ℕ) (nested : AreNested ends) (definitions : List Definit
           → ((place == suc at) ≡ true) ⊎ ((place == suc at) ≡ false) → top.first.scope ≤ other.scope
       by_test text place other other_is low same around (inl here) =
           let alike : other ≡ own = sym ((found definitions place other other_is).got own)
-          ∙ ap (λ n. get_or definitions n own) (same_number place (suc at) here)
+          ∙ ap (λ n. get_or definitions n own) (eqb-true place (suc at) here)
           ∙ (found definitions (suc at) own own_is).got own in
           let scopes_same : other.scope ≡ own.scope = ap (λ (d : Definition). d.scope) alike in
           let under = low_of ends top.first.scope own.scope f in
@@ -259,7 +259,7 @@ module _ (ends : List ℕ) (nested : AreNested ends) (definitions : List Definit
       itself zero own is (topped zero own is) (λ place other other_is low same around. omega arith)
   one_top topped (suc at) own is =
       let here = found definitions (suc at) own is in
-      let last = there definitions at (let low = here.within in omega (arith, low)) in
+      let last = some_at definitions at (let low = here.within in omega (arith, low)) in
       let top = one_top topped at last.0 last.1 in
       next_top at own last.0 is last.1 top (topped (suc at) own is ∙ top_is at own last.0 last.1 here.within top)
       (bytes_eq own.key last.0.key) (encloses ends top.first.scope own.scope) refl refl
@@ -274,7 +274,7 @@ module _ (ends : List ℕ) (nested : AreNested ends) (definitions : List Definit
     -- one of the key that encloses the scope stands in front
     in_front : (place : ℕ) (other : Definition) → slice_get definitions place ≡ Some other → other.key ≡ key
         → encloses ends other.scope scope ≡ true → place < count
-    in_front place other other_is same around = by_test (either (nat_lt place count))
+    in_front place other other_is same around = by_test (cases_Bool (nat_lt place count))
       where
         one : Found definitions place other
         one = found definitions place other other_is
@@ -311,7 +311,7 @@ module _ (ends : List ℕ) (nested : AreNested ends) (definitions : List Definit
             between (first_of other) (first_of last) (probe scope key)
             (in_order place at other last other_is last_is (omega (arith, low, long)))
             (not_after at last last_is (omega (arith, long))) same in
-            absurd (true≢false (sym (text_same key last.key (sym (of_key ∙ same))) ∙ e))
+            absurd (true≢false (sym (equal_text key last.key (sym (of_key ∙ same))) ∙ e))
     by_key at last last_is long top true false e f =
         let is : top_by ends definitions scope key last ≡ None = rw (e, top.is, f) refl in
         subst (IsOutermost ends definitions scope key) (sym is)
@@ -360,7 +360,7 @@ module _ (ends : List ℕ) (nested : AreNested ends) (definitions : List Definit
             by_test place other other_is of_key true g =
                 let under = in_front place other other_is of_key g in absurd (omega (arith, under, same))
         by_count (suc at) same low =
-            let last = there definitions at low in
+            let last = some_at definitions at low in
             let top = one_top topped at last.0 last.1 in
             subst (λ f. IsOutermost ends definitions scope key (option_and_then (top_by ends definitions scope key) f))
             (sym last.1)
@@ -376,11 +376,11 @@ not_more Greater e = cc
 
 pub parted_behind : (scope : ℕ) (key : List ℕ) (definitions : List Definition) → AreStrict (firsts_of definitions)
     → IsPartitionedBy (λ d. not (is_behind scope key d)) definitions
-parted_behind scope key definitions strict i j d le inside before = by_test (either (i == j))
+parted_behind scope key definitions strict i j d le inside before = by_test (cases_Bool (i == j))
   where
     by_test : ((i == j) ≡ true) ⊎ ((i == j) ≡ false) → not (is_behind scope key (get_or definitions i d)) ≡ true
     by_test (inl same) =
-        ap (λ n. not (is_behind scope key (get_or definitions n d))) (same_number i j same) ∙ before
+        ap (λ n. not (is_behind scope key (get_or definitions n d))) (eqb-true i j same) ∙ before
     by_test (inr differs) =
         let less : i < j = grind (arith, nat_tests) in
         ap not (upto first_total (first_of (get_or definitions i d)) (first_of (get_or definitions j d))
@@ -389,14 +389,6 @@ parted_behind scope key definitions strict i j d le inside before = by_test (eit
         (strict_of definitions strict i j d less inside))
         (not_more (first_order (first_of (get_or definitions j d)) (probe scope key)) before))
 
-turn_true : (b : Bool) → not b ≡ true → b ≡ false
-turn_true true e = cc
-turn_true false e = refl
-
-turn_false : (b : Bool) → not b ≡ false → b ≡ true
-turn_false true e = refl
-turn_false false e = cc
-
 pub outermost_halved : (ends : List ℕ) (definitions : List Definition) (scope : ℕ) (key : List ℕ) (count : ℕ)
     → AreNested ends → AreStrict (firsts_of definitions) → AreTopped ends definitions → count ≤ length definitions
     → IsPartitionPoint (λ d. not (is_behind scope key d) ≡ true) (λ d. not (is_behind scope key d)
@@ -404,8 +396,8 @@ pub outermost_halved : (ends : List ℕ) (definitions : List Definition) (scope 
     → IsOutermost ends definitions scope key (outermost_by ends definitions count scope key)
 outermost_halved ends definitions scope key count nested strict topped within part =
     outermost_is ends nested definitions strict topped scope key count
-    (λ i d low inside. turn_true (is_behind scope key (get_or definitions i d)) (part.0 i d (omega arith) low))
-    (λ i d low inside. turn_false (is_behind scope key (get_or definitions i d)) (part.1 i d low inside)) within
+    (λ i d low inside. not-true (is_behind scope key (get_or definitions i d)) (part.0 i d (omega arith) low))
+    (λ i d low inside. not-false (is_behind scope key (get_or definitions i d)) (part.1 i d low inside)) within
 
 pub not_greater : (o : Ordering) → not (ordering_index o == ordering_index Greater) ≡ not (is_gt o)
 not_greater Less = refl

@@ -11,16 +11,15 @@ use Rattle.std.proofs.lemmas.List.Elements.{filter-append}
 use Rattle.indexmap.specs.IndexMap.{IndexMap, get, insert_entry}
 use Rattle.indexmap.proofs.CallerLemmas.{insert_entry-new}
 use Rattle.dita_doc.specs.declared.plan.PlanNode.{PlanNode}
+use Rattle.dita_doc.proofs.Tests.{equal_text, same_text, text_swaps}
 use Rattle.key_scopes.specs.Defined.{is_level_within}
-use Rattle.key_scopes.specs.Numbered.{Entry, entries, entries_at, entry, entry_of, level_at}
+use Rattle.key_scopes.specs.Numbered.{KeyEntry, entries, entries_at, entry, entry_of, level_at}
 use Rattle.key_scopes.specs.OwnKeys.{KeyPlace, by_level, first_of_each, in_scope, is_at, is_of, key_place, keys_at, numbers, own_definitions, own_keys, rows_by, rows_of, with_entry, with_key, with_key_at}
-use Rattle.key_scopes.proofs.DefineLaws.{Written}
+use Rattle.key_scopes.proofs.DefineLaws.{WrittenKey}
 use Rattle.key_scopes.proofs.LevelLaws.{map_both, through}
 use Rattle.key_scopes.proofs.OwnLaws.{level_is}
-use Rattle.key_scopes.proofs.TestLaws.{same_text, text_same}
 use Rattle.map_spec.specs.Scopes.{is_at_level, is_in_scope, keys_defined, own_places, places, places_from, scope_at, scopes}
 use Rattle.plan_nodes.proofs.OnceLaws.{firsts, firsts_push}
-use Rattle.plan_nodes.proofs.OrderLaws.{by_truth}
 use Rattle.reader_spec.specs.World.{World}
 
 abbrev pub Keys : Type 0 → Type 0
@@ -32,7 +31,7 @@ abbrev same_key : KeyPlace → KeyPlace → Bool
 same_key a b = bytes_eq a.0 b.0
 
 same_keys : (a b c : KeyPlace) → same_key a b ≡ true → same_key b c ≡ true → same_key a c ≡ true
-same_keys a b c one two = text_same a.0 c.0 (same_text a.0 b.0 one ∙ same_text b.0 c.0 two)
+same_keys a b c one two = equal_text a.0 c.0 (same_text a.0 b.0 one ∙ same_text b.0 c.0 two)
 
 once_is : (all : List KeyPlace) → first_of_each all ≡ firsts same_key same_keys all
 once_is [] = refl
@@ -71,12 +70,12 @@ row_put F G one (suc at) from (suc count) place is here others =
     ∙ ap (λ more. G from ∷ more) (row_put F G one at (from + 1) count place (omega arith) here others)
 
 -- an entry more in its scope
-in_more : (scope : ℕ) (all : List Entry) (e : Entry) → in_scope scope (all ++ e ∷ [])
+in_more : (scope : ℕ) (all : List KeyEntry) (e : KeyEntry) → in_scope scope (all ++ e ∷ [])
     ≡ in_scope scope all ++ in_scope scope (e ∷ [])
 in_more scope all e = ap (map key_place) (filter-append (is_of scope) all (e ∷ []))
     ∙ map_both key_place (filter (is_of scope) all) (filter (is_of scope) (e ∷ []))
 
-rows_more : (count : ℕ) (all : List Entry) (e : Entry)
+rows_more : (count : ℕ) (all : List KeyEntry) (e : KeyEntry)
     → with_key_at e.1 (key_place e) (rows_by count all) ≡ rows_by count (all ++ e ∷ [])
 rows_more count all e =
     row_put (λ scope. first_of_each (in_scope scope all)) (λ scope. first_of_each (in_scope scope (all ++ e ∷ [])))
@@ -109,10 +108,6 @@ none_more maps all one count before none put =
 
 -- One key more in a map
 
-turned : (a b : List ℕ) → bytes_eq a b ≡ bytes_eq b a
-turned a b = by_truth (bytes_eq a b) (bytes_eq b a)
-    (λ e. text_same b a (sym (same_text a b e))) (λ e. text_same a b (sym (same_text b a e)))
-
 found_there : (key : List ℕ) (row : List KeyPlace)
     → is_some (lookup (bytes_eq key) row) ≡ list_any (λ (other : KeyPlace). bytes_eq other.0 key) row
 found_there key [] = refl
@@ -122,8 +117,8 @@ found_there key (first ∷ row) = by_one (found_there key row) (bytes_eq first.0
         → (a : Bool) → bytes_eq first.0 key ≡ a
         → is_some (lookup (bytes_eq key) (first ∷ row))
         ≡ list_any (λ (other : KeyPlace). bytes_eq other.0 key) (first ∷ row)
-    by_one behind true e = simp (e, turned key first.0 ∙ e) refl
-    by_one behind false e = simp (e, turned key first.0 ∙ e) behind
+    by_one behind true e = simp (e, text_swaps key first.0 ∙ e) refl
+    by_one behind false e = simp (e, text_swaps key first.0 ∙ e) behind
 
 module _ {S : Type 0} (old : Keys S) (key : List ℕ) (node : ℕ) where
   pub put_there : is_some (get bytes_eq old key) ≡ true → old.entries ≡ with_key (key, node) old.entries
@@ -159,7 +154,8 @@ put_past (map ∷ maps) zero one past = absurd (omega arith)
 put_past (map ∷ maps) (suc at) one past = ap (λ more. map.entries ∷ more) (put_past maps at one (omega arith))
 
 -- Behind so many entries, of which those beyond the count are passed over
-pub rows_step : (count scopes : ℕ) (written : List Written) (at : ℕ) (d : Written) (old new : List (List KeyPlace))
+pub rows_step : (count scopes : ℕ) (written : List WrittenKey) (at : ℕ) (d : WrittenKey)
+    (old new : List (List KeyPlace))
     → at < length written → old ≡ rows_by scopes (filter (is_level_within count) (entries (take at written)))
     → new ≡ with_entry count old (entry_of (get_or written at d))
     → new ≡ rows_by scopes (filter (is_level_within count) (entries (take (at + 1) written)))
@@ -171,7 +167,7 @@ rows_step count scopes written at d old new within before more =
     ∙ ap (filter (is_level_within count)) (map_both entry_of (take at written) (get_or written at d ∷ []))
     ∙ filter-append (is_level_within count) (entries (take at written)) (entry_of (get_or written at d) ∷ [])))
   where
-    by_one : (item : Written) (a : Bool) → nat_lt item.2 count ≡ a
+    by_one : (item : WrittenKey) (a : Bool) → nat_lt item.2 count ≡ a
         → with_entry count (rows_by scopes (filter (is_level_within count) (entries (take at written)))) (entry_of item)
         ≡ rows_by scopes (filter (is_level_within count) (entries (take at written))
         ++ filter (is_level_within count) (entry_of item ∷ []))
@@ -230,7 +226,7 @@ keys_in scope level own at place (key ∷ keys) =
     by_two behind false false e f = simp (e, f) (behind ∙ rw e refl)
 
 module _ (world : World) (nodes : List PlanNode) (scope : ℕ) where
-  abbrev all : List Entry
+  abbrev all : List KeyEntry
   all = flat_map (entries_at world nodes) (places nodes)
 
   abbrev of_level : ℕ → List ℕ
@@ -297,7 +293,7 @@ numbers_long : (from count : ℕ) → length (numbers from count) ≡ count
 numbers_long from zero = refl
 numbers_long from (suc count) = ap suc (numbers_long (from + 1) count)
 
-pub rows_long : {S : Type 0} (maps : List (Keys S)) (count : ℕ) (all : List Entry) → rows_of maps ≡ rows_by count all
+pub rows_long : {S : Type 0} (maps : List (Keys S)) (count : ℕ) (all : List KeyEntry) → rows_of maps ≡ rows_by count all
     → length maps ≡ count
 rows_long maps count all are =
     sym (length-map maps (λ (m : Keys _). m.entries)) ∙ ap length are

@@ -1,22 +1,22 @@
 -- A scope's own definition is that of the least level, and of these the first; so it is the first entry in order.
-use Rattle.std.specs.Prelude.{◌≡◌, ◌+◌, ◌<◌, ◌≤◌, ◌==◌, ◌&&◌, ◌||◌, ◌++◌, ◌⊎◌, ℕ, zero, suc, Bool, true, false, List, [], ◌∷◌, Option, Some, None, bytes_eq, filter, find, length, map, nat_lt, option_map}
+use Rattle.std.specs.Prelude.{◌≡◌, ◌+◌, ◌<◌, ◌≤◌, ◌==◌, ◌&&◌, ◌++◌, ◌⊎◌, ℕ, zero, suc, Bool, true, false, List, [], ◌∷◌, Option, Some, None, bytes_eq, filter, find, length, map, nat_lt, option_map}
 use Rattle.std.specs.List.{All, Contains, flat_map, list_any}
 use Rattle.std.specs.List.Sorted.{IsPermutation}
 use Rattle.std.specs.Option.{option_or}
 use Rattle.std.specs.Ordering.{is_lt, nat_cmp, ordering_then}
 use Rattle.std.proofs.Common.{Less, Equal, refl, sym, ap, subst, ◌∙◌, arith, inl, inr}
-use Rattle.std.proofs.lemmas.Bool.{true≢false}
+use Rattle.std.proofs.lemmas.Bool.{and_from, cases_Bool, eq-eqb, eqb-true, or_right, true≢false}
 use Rattle.std.proofs.lemmas.Bool.Decides.{nat_tests}
 use Rattle.std.proofs.lemmas.Cmp.{nat_cmp_total, nat_list_cmp_total, tied_itself}
 use Rattle.std.proofs.lemmas.List.Elements.{All-append, All-cons, All-contains, All-map, All-nil, All-weaker, Contains-append_left, Contains-append_right, Contains-push}
 use Rattle.std.proofs.lemmas.List.Folds.{find-append}
 use Rattle.std.proofs.lemmas.List.Sorted.{All-permutation, Contains-permutation}
 use Rattle.dita_doc.specs.declared.plan.PlanNode.{PlanNode}
+use Rattle.dita_doc.proofs.Tests.{equal_text, first_holds, same_text, second_holds}
 use Rattle.key_scopes.specs.Defined.{AreFirsts, AreOrdered, first_by, is_entry_before, is_level_within}
-use Rattle.key_scopes.specs.Numbered.{Entry, entries_at, entry, level_at}
+use Rattle.key_scopes.specs.Numbered.{KeyEntry, entries_at, entry, level_at}
 use Rattle.key_scopes.specs.Table.{First, own_in}
 use Rattle.key_scopes.proofs.FirstLaws.{IsSearched, NotBefore, find_filter, find_is, find_none, first_among, least, matches, searched}
-use Rattle.key_scopes.proofs.TestLaws.{and_both, and_left, and_right, either, number_same, same_number, same_text, text_same}
 use Rattle.map_spec.specs.Scopes.{is_at_level, is_defined_at, is_in_scope, keys_defined, own, places, places_from, scope_at}
 use Rattle.reader_spec.specs.World.{World}
 
@@ -50,12 +50,12 @@ module _ (hit : ℕ → ℕ → Bool) (from to count : ℕ) (in_range : from < t
     first = λ place less. found.first place (omega arith) less;
   }
   or_later None None none behind = λ other place low high within. by_test other place low high within
-      (either (other == from))
+      (cases_Bool (other == from))
     where
       by_test : (other place : ℕ) → from ≤ other → other < to → place < count
           → ((other == from) ≡ true) ⊎ ((other == from) ≡ false) → hit other place ≡ false
       by_test other place low high within (inl same) =
-          ap (λ l. hit l place) (same_number other from same) ∙ none place (omega arith) within
+          ap (λ l. hit l place) (eqb-true other from same) ∙ none place (omega arith) within
       by_test other place low high within (inr differs) =
           let less : from + 1 ≤ other = grind (arith, nat_tests) in behind other place less high within
   or_later None (Some at) none behind = record {
@@ -64,14 +64,14 @@ module _ (hit : ℕ → ℕ → Bool) (from to count : ℕ) (in_range : from < t
     low = let less = behind.low in omega (arith, less);
     high = behind.high;
     within = behind.within;
-    lower = λ other place low high within. by_test other place low high within (either (other == from));
+    lower = λ other place low high within. by_test other place low high within (cases_Bool (other == from));
     first = behind.first;
   }
     where
       by_test : (other place : ℕ) → from ≤ other → other < behind.level → place < count
           → ((other == from) ≡ true) ⊎ ((other == from) ≡ false) → hit other place ≡ false
       by_test other place low high within (inl same) =
-          ap (λ l. hit l place) (same_number other from same) ∙ none place (omega arith) within
+          ap (λ l. hit l place) (eqb-true other from same) ∙ none place (omega arith) within
       by_test other place low high within (inr differs) =
           let less : from + 1 ≤ other = grind (arith, nat_tests) in behind.lower other place less high within
 
@@ -108,23 +108,19 @@ module _ (world : World) (nodes : List PlanNode) (scope : ℕ) (key : List ℕ) 
 
 -- The entries of all nodes
 
-record IsEntry (world : World) (nodes : List PlanNode) (e : Entry) : Type 0 where
+record IsEntry (world : World) (nodes : List PlanNode) (e : KeyEntry) : Type 0 where
   pub within : e.3 < length nodes
   pub scope : e.1 ≡ scope_at nodes e.3
   pub level : e.2 ≡ level_at nodes e.3
   pub defined : is_defined_at world nodes e.0 e.3 ≡ true
 
-or-right : (a b : Bool) → b ≡ true → (a || b) ≡ true
-or-right true b e = refl
-or-right false b e = e
-
 any_self : (keys : List (List ℕ)) → All (λ key. list_any (bytes_eq key) keys ≡ true) keys
 any_self [] = All-nil (λ key. list_any (bytes_eq key) [] ≡ true)
 any_self (first ∷ keys) =
-    let same : bytes_eq first first ≡ true = text_same first first refl in
+    let same : bytes_eq first first ≡ true = equal_text first first refl in
     All-cons (λ key. list_any (bytes_eq key) (first ∷ keys) ≡ true) first keys (rw same refl)
     (All-weaker (λ key. list_any (bytes_eq key) keys ≡ true) (λ key. list_any (bytes_eq key) (first ∷ keys) ≡ true)
-    (λ key e. or-right (bytes_eq key first) (list_any (bytes_eq key) keys) e) keys (any_self keys))
+    (λ key e. or_right (bytes_eq key first) (list_any (bytes_eq key) keys) e) keys (any_self keys))
 
 module _ (world : World) (nodes : List PlanNode) where
   entries_one : (at : ℕ) → at < length nodes → All (IsEntry world nodes) (entries_at world nodes at)
@@ -143,7 +139,7 @@ module _ (world : World) (nodes : List PlanNode) where
       (flat_map (entries_at world nodes) (places_from (from + 1) some))
       (entries_one from (omega arith)) (all_entries some (from + 1) (omega arith))
 
-contains_key : (make : List ℕ → Entry) (keys : List (List ℕ)) (key : List ℕ) → list_any (bytes_eq key) keys ≡ true
+contains_key : (make : List ℕ → KeyEntry) (keys : List (List ℕ)) (key : List ℕ) → list_any (bytes_eq key) keys ≡ true
     → Contains (map make keys) (make key)
 contains_key make [] key there = absurd (cc)
 contains_key make (first ∷ keys) key there = by_one (λ e. contains_key make keys key e) (bytes_eq key first) refl
@@ -156,18 +152,18 @@ contains_key make (first ∷ keys) key there = by_one (λ e. contains_key make k
     by_one behind false e =
         Contains-append_right (make first ∷ []) (map make keys) (make key) (behind (rw e at there))
 
-contains_at : (give : ℕ → List Entry) (some : List PlanNode) (from at : ℕ) (e : Entry) → from ≤ at
+contains_at : (give : ℕ → List KeyEntry) (some : List PlanNode) (from at : ℕ) (e : KeyEntry) → from ≤ at
     → at < from + length some → Contains (give at) e → Contains (flat_map give (places_from from some)) e
 contains_at give [] from at e low high there = absurd (omega arith)
 contains_at give (node ∷ some) from at e low high there =
-    by_test (λ less. contains_at give some (from + 1) at e less (omega arith) there) (either (at == from))
+    by_test (λ less. contains_at give some (from + 1) at e less (omega arith) there) (cases_Bool (at == from))
   where
     by_test : (from + 1 ≤ at → Contains (flat_map give (places_from (from + 1) some)) e)
         → ((at == from) ≡ true) ⊎ ((at == from) ≡ false)
         → Contains (give from ++ flat_map give (places_from (from + 1) some)) e
     by_test behind (inl same) =
         Contains-append_left (give from) (flat_map give (places_from (from + 1) some)) e
-        (subst (λ place. Contains (give place) e) (same_number at from same) there)
+        (subst (λ place. Contains (give place) e) (eqb-true at from same) there)
     by_test behind (inr differs) =
         let less : from + 1 ≤ at = grind (arith, nat_tests) in
         Contains-append_right (give from) (flat_map give (places_from (from + 1) some)) e (behind less)
@@ -193,53 +189,53 @@ level_before a b at place less = rw (less_is a b less) refl
 place_before : (a b at place : ℕ) → a ≡ b → at < place → is_lt (ordering_then (nat_cmp a b) (nat_cmp at place)) ≡ true
 place_before a b at place same less = rw (same_is a b same, less_is at place less) refl
 
-not_before : (key : List ℕ) (scope level at : ℕ) (e : Entry) → e.0 ≡ key → e.1 ≡ scope
+not_before : (key : List ℕ) (scope level at : ℕ) (e : KeyEntry) → e.0 ≡ key → e.1 ≡ scope
     → is_entry_before (key, scope, level, at) e ≡ is_lt (ordering_then (nat_cmp level e.2) (nat_cmp at e.3))
 not_before key scope level at e key_is scope_is =
     rw (key_is, scope_is, tied_itself nat_list_cmp_total key, tied_itself nat_cmp_total scope) refl
 
 module _ (world : World) (nodes : List PlanNode) (scope : ℕ) (key : List ℕ) where
-  abbrev counts : Entry → Bool
+  abbrev counts : KeyEntry → Bool
   counts e = is_level_within (length nodes) e && matches scope key e
 
-  entry_hit : (e : Entry) → IsEntry world nodes e → matches scope key e ≡ true → hit world nodes scope key e.2 e.3
+  entry_hit : (e : KeyEntry) → IsEntry world nodes e → matches scope key e ≡ true → hit world nodes scope key e.2 e.3
       ≡ true
   entry_hit e is matched =
-      let scope_is = same_number e.1 scope (and_left (e.1 == scope) (bytes_eq key e.0) matched) in
-      let key_is = same_text key e.0 (and_right (e.1 == scope) (bytes_eq key e.0) matched) in
-      and_both (is_in_scope nodes scope e.3) (is_at_level nodes e.2 e.3 && is_defined_at world nodes key e.3)
-      (number_same (scope_at nodes e.3) scope (sym is.scope ∙ scope_is))
-      (and_both (is_at_level nodes e.2 e.3) (is_defined_at world nodes key e.3)
-      (sym (level_is nodes e.2 e.3 is.within) ∙ number_same (level_at nodes e.3) e.2 (sym is.level))
+      let scope_is = eqb-true e.1 scope (first_holds (e.1 == scope) (bytes_eq key e.0) matched) in
+      let key_is = same_text key e.0 (second_holds (e.1 == scope) (bytes_eq key e.0) matched) in
+      and_from (is_in_scope nodes scope e.3) (is_at_level nodes e.2 e.3 && is_defined_at world nodes key e.3)
+      (eq-eqb (scope_at nodes e.3) scope (sym is.scope ∙ scope_is))
+      (and_from (is_at_level nodes e.2 e.3) (is_defined_at world nodes key e.3)
+      (sym (level_is nodes e.2 e.3 is.within) ∙ eq-eqb (level_at nodes e.3) e.2 (sym is.level))
       (ap (λ text. is_defined_at world nodes text e.3) key_is ∙ is.defined))
 
   hit_entry : (level at : ℕ) → at < length nodes → hit world nodes scope key level at ≡ true
       → Contains (flat_map (entries_at world nodes) (places nodes)) (key, scope, level, at)
   hit_entry level at within here =
-      let in_scope = and_left (is_in_scope nodes scope at)
+      let in_scope = first_holds (is_in_scope nodes scope at)
       (is_at_level nodes level at && is_defined_at world nodes key at) here in
-      let both = and_right (is_in_scope nodes scope at)
+      let both = second_holds (is_in_scope nodes scope at)
       (is_at_level nodes level at && is_defined_at world nodes key at) here in
-      let scope_is = same_number (scope_at nodes at) scope in_scope in
-      let level_same = same_number (level_at nodes at) level
-      (level_is nodes level at within ∙ and_left (is_at_level nodes level at) (is_defined_at world nodes key at)
+      let scope_is = eqb-true (scope_at nodes at) scope in_scope in
+      let level_same = eqb-true (level_at nodes at) level
+      (level_is nodes level at within ∙ first_holds (is_at_level nodes level at) (is_defined_at world nodes key at)
       both) in
       contains_at (entries_at world nodes) nodes 0 at (key, scope, level, at) (omega arith) (omega arith)
       (subst (λ l. Contains (entries_at world nodes at) (key, scope, l, at)) level_same
       (subst (λ s. Contains (entries_at world nodes at) (key, s, level_at nodes at, at)) scope_is
       (contains_key (entry (scope_at nodes at) (level_at nodes at) at) (keys_defined world nodes at) key
-      (and_right (is_at_level nodes level at) (is_defined_at world nodes key at) both))))
+      (second_holds (is_at_level nodes level at) (is_defined_at world nodes key at) both))))
 
   counts_it : (level at : ℕ) → level < length nodes → counts (key, scope, level, at) ≡ true
   counts_it level at high =
       let less : nat_lt level (length nodes) ≡ true = grind (arith, nat_tests) in
-      and_both (nat_lt level (length nodes)) ((scope == scope) && bytes_eq key key) less
-      (and_both (scope == scope) (bytes_eq key key) (number_same scope scope refl) (text_same key key refl))
+      and_from (nat_lt level (length nodes)) ((scope == scope) && bytes_eq key key) less
+      (and_from (scope == scope) (bytes_eq key key) (eq-eqb scope scope refl) (equal_text key key refl))
 
-  abbrev node_of : Option Entry → Option ℕ
-  node_of found = option_map (λ (e : Entry). e.3) found
+  abbrev node_of : Option KeyEntry → Option ℕ
+  node_of found = option_map (λ (e : KeyEntry). e.3) found
 
-  module _ (sorted : List Entry) (permuted : IsPermutation (flat_map (entries_at world nodes) (places nodes)) sorted)
+  module _ (sorted : List KeyEntry) (permuted : IsPermutation (flat_map (entries_at world nodes) (places nodes)) sorted)
       (ordered : AreOrdered sorted) where
     all_are : All (IsEntry world nodes) sorted
     all_are = All-permutation (IsEntry world nodes) (flat_map (entries_at world nodes) (places nodes)) sorted permuted
@@ -251,7 +247,7 @@ module _ (world : World) (nodes : List PlanNode) (scope : ℕ) (key : List ℕ) 
         Contains-permutation (flat_map (entries_at world nodes) (places nodes)) sorted (key, scope, level, at) permuted
         (hit_entry level at within here)
 
-    by_both : (found : Option Entry) → find counts sorted ≡ found → (node : Option ℕ)
+    by_both : (found : Option KeyEntry) → find counts sorted ≡ found → (node : Option ℕ)
         → IsLeastOf (hit world nodes scope key) 0 (length nodes) (length nodes) node → node_of found ≡ node
     by_both None none None is = refl
     by_both None none (Some at) is =
@@ -261,26 +257,26 @@ module _ (world : World) (nodes : List PlanNode) (scope : ℕ) (key : List ℕ) 
     by_both (Some e) found None is =
         let both = find_is (IsEntry world nodes) counts sorted e found all_are in
         let level_in : nat_lt e.2 (length nodes) ≡ true =
-        and_left (nat_lt e.2 (length nodes)) (matches scope key e) both.1 in
-        let matched = and_right (nat_lt e.2 (length nodes)) (matches scope key e) both.1 in
+        first_holds (nat_lt e.2 (length nodes)) (matches scope key e) both.1 in
+        let matched = second_holds (nat_lt e.2 (length nodes)) (matches scope key e) both.1 in
         let high : e.2 < length nodes = grind (arith, nat_tests) in
         absurd (true≢false (sym (entry_hit e both.0 matched) ∙ is e.2 e.3 (omega arith) high both.0.within))
     by_both (Some e) found (Some at) is =
         let both = find_is (IsEntry world nodes) counts sorted e found all_are in
         let level_in : nat_lt e.2 (length nodes) ≡ true =
-        and_left (nat_lt e.2 (length nodes)) (matches scope key e) both.1 in
-        let matched = and_right (nat_lt e.2 (length nodes)) (matches scope key e) both.1 in
-        let key_is = same_text key e.0 (and_right (e.1 == scope) (bytes_eq key e.0) matched) in
-        let scope_is = same_number e.1 scope (and_left (e.1 == scope) (bytes_eq key e.0) matched) in
+        first_holds (nat_lt e.2 (length nodes)) (matches scope key e) both.1 in
+        let matched = second_holds (nat_lt e.2 (length nodes)) (matches scope key e) both.1 in
+        let key_is = same_text key e.0 (second_holds (e.1 == scope) (bytes_eq key e.0) matched) in
+        let scope_is = eqb-true e.1 scope (first_holds (e.1 == scope) (bytes_eq key e.0) matched) in
         let here = entry_hit e both.0 matched in
         let not : is_lt (ordering_then (nat_cmp is.level e.2) (nat_cmp at e.3)) ≡ false =
         sym (not_before key scope is.level at e (sym key_is) scope_is)
         ∙ All-contains (NotBefore counts e) sorted (key, scope, is.level, at) (least counts sorted e ordered found)
         (there_is is.level at is.within is.here) (counts_it is.level at is.high) in
         ap Some (same_place e at is.level both.0.within here not is.lower is.first
-        (either (nat_lt is.level e.2)) (either (nat_lt e.2 is.level)) (either (nat_lt at e.3)) (either (nat_lt e.3 at)))
+        (cases_Bool (nat_lt is.level e.2)) (cases_Bool (nat_lt e.2 is.level)) (cases_Bool (nat_lt at e.3)) (cases_Bool (nat_lt e.3 at)))
       where
-        same_place : (e : Entry) (at level : ℕ) → e.3 < length nodes → hit world nodes scope key e.2 e.3 ≡ true
+        same_place : (e : KeyEntry) (at level : ℕ) → e.3 < length nodes → hit world nodes scope key e.2 e.3 ≡ true
             → is_lt (ordering_then (nat_cmp level e.2) (nat_cmp at e.3)) ≡ false
             → ((other place : ℕ) → 0 ≤ other → other < level → place < length nodes
             → hit world nodes scope key other place ≡ false)
@@ -305,13 +301,13 @@ module _ (world : World) (nodes : List PlanNode) (scope : ℕ) (key : List ℕ) 
             absurd (true≢false (sym here ∙ ap (λ l. hit world nodes scope key l e.3) same ∙ first e.3 less))
         same_place e at level within here not lower first (inr a) (inr b) (inr c) (inr d) = grind (arith, nat_tests)
 
-  node_first : (found : Option Entry) → option_map (λ (first : First). first.node) (option_map first_by found)
+  node_first : (found : Option KeyEntry) → option_map (λ (first : First). first.node) (option_map first_by found)
       ≡ node_of found
   node_first None = refl
   node_first (Some e) = refl
 
   -- the first definition among entries of all nodes is the scope's own
-  pub own_is : (count : ℕ) (entries : List Entry) (firsts : List First) → count ≡ length nodes
+  pub own_is : (count : ℕ) (entries : List KeyEntry) (firsts : List First) → count ≡ length nodes
       → entries ≡ flat_map (entries_at world nodes) (places nodes) → AreFirsts count entries firsts
       → own_in firsts scope key ≡ own world nodes scope key
   own_is count entries firsts long all are =

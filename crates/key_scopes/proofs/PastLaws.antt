@@ -3,13 +3,12 @@ use Rattle.std.specs.Prelude.{◌≡◌, ◌+◌, ◌<◌, ◌≤◌, ◌==◌, 
 use Rattle.std.specs.List.{flat_map, list_any}
 use Rattle.std.specs.Option.{option_and_then, option_map_or, option_or}
 use Rattle.std.proofs.Common.{refl, sym, ap, ◌∙◌, arith, inl, inr}
-use Rattle.std.proofs.lemmas.Bool.{true≢false}
+use Rattle.std.proofs.lemmas.Bool.{cases_Bool, true≢false}
 use Rattle.std.proofs.lemmas.Bool.Decides.{nat_tests}
 use Rattle.dita_doc.specs.declared.plan.PlanNode.{PlanNode}
 use Rattle.dita_doc.specs.declared.plan.Scope.{Scope}
 use Rattle.key_scopes.specs.Above.{AreInPreorder, parent_in}
 use Rattle.key_scopes.proofs.ScopeTreeLaws.{begun_within}
-use Rattle.key_scopes.proofs.TestLaws.{either}
 use Rattle.map_spec.specs.Cascade.{places_up}
 use Rattle.map_spec.specs.Scopes.{begins, behind, child_scopes, first_found, has_scope_name, is_at_level, is_child_of, is_in_scope, numbered, own, own_places, places, qualified, scope_at, scope_on, scopes}
 use Rattle.reader_spec.specs.World.{World}
@@ -31,7 +30,7 @@ found_begins nodes (first ∷ some) at found =
     by_one behind false e = behind (rw e at found)
 
 begins_within : (nodes : List PlanNode) (at : ℕ) → begins nodes at ≡ true → at < length nodes
-begins_within nodes at begun = by_test (either (nat_lt at (length nodes)))
+begins_within nodes at begun = by_test (cases_Bool (nat_lt at (length nodes)))
   where
     past : (some : List PlanNode) (n : ℕ) → length some ≤ n → slice_get some n ≡ None
     past [] n out = refl

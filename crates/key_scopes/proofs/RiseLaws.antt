@@ -2,16 +2,17 @@
 use Rattle.std.specs.Prelude.{◌≡◌, ◌<◌, ◌≤◌, ◌==◌, ℕ, zero, suc, Bool, true, false, List, [], ◌∷◌, Option, Some, None, bytes_eq, length, slice_get, if◌then◌else◌}
 use Rattle.std.specs.Option.{option_or}
 use Rattle.std.proofs.Common.{Less, Equal, refl, sym, ap, ap₂, ◌∙◌, arith, get_or}
+use Rattle.std.proofs.lemmas.Bool.{and_from, eq-eqb, eqb-true}
 use Rattle.std.proofs.lemmas.Bool.Decides.{nat_tests}
 use Rattle.dita_doc.specs.declared.plan.Scope.{Scope}
+use Rattle.dita_doc.proofs.Tests.{equal_text, first_holds, same_text, second_holds}
 use Rattle.key_scopes.specs.declared.definitions.Definition.{Definition}
 use Rattle.key_scopes.specs.Above.{around_in, parent_in, risen}
 use Rattle.key_scopes.specs.Defined.{AreStrict, first_order}
 use Rattle.key_scopes.specs.Rising.{outermost_from, outermost_in}
 use Rattle.key_scopes.specs.Table.{first_of, firsts_of, is_first, own_in}
 use Rattle.key_scopes.proofs.OrderLaws.{equal_one}
-use Rattle.key_scopes.proofs.TestLaws.{and_both, and_left, and_right, number_same, same_number, same_text, text_same}
-use Rattle.map_spec.specs.Scopes.{found}
+use Rattle.map_spec.specs.Scopes.{definition_found}
 
 -- Rising by parents that stand before
 
@@ -113,8 +114,8 @@ defined_of (first ∷ definitions) scope key node found =
       at = 0;
       definition = first;
       is = refl;
-      of_key = sym (same_text key first.key (and_right (first.scope == scope) (bytes_eq key first.key) e));
-      of_scope = same_number first.scope scope (and_left (first.scope == scope) (bytes_eq key first.key) e);
+      of_key = sym (same_text key first.key (second_holds (first.scope == scope) (bytes_eq key first.key) e));
+      of_scope = eqb-true first.scope scope (first_holds (first.scope == scope) (bytes_eq key first.key) e);
     }
     by_one behind false e =
         let one = behind (rw e at found) in
@@ -134,9 +135,9 @@ own_of [] scope key at top strict is same_key same_scope = cc
 own_of (first ∷ definitions) scope key zero top strict is same_key same_scope =
     let same : first ≡ top = cc in
     let here : is_first scope key (first_of first) ≡ true =
-    and_both (first.scope == scope) (bytes_eq key first.key)
-    (number_same first.scope scope (ap (λ (d : Definition). d.scope) same ∙ same_scope))
-    (text_same key first.key (sym (ap (λ (d : Definition). d.key) same ∙ same_key))) in
+    and_from (first.scope == scope) (bytes_eq key first.key)
+    (eq-eqb first.scope scope (ap (λ (d : Definition). d.scope) same ∙ same_scope))
+    (equal_text key first.key (sym (ap (λ (d : Definition). d.key) same ∙ same_key))) in
     rw here (ap (λ (d : Definition). Some d.node) same)
 own_of (first ∷ definitions) scope key (suc at) top strict is same_key same_scope =
     by_one (own_of definitions scope key at top
@@ -161,9 +162,9 @@ own_of (first ∷ definitions) scope key (suc at) top strict is same_key same_sc
         ∙ strict 0 (suc at) (first_of top) (omega arith) (omega (arith, there.0)) in
         let equal : first_order (first_of first) (first_of top) ≡ Equal =
         equal_one top.scope top.key (first_of first)
-        (and_both (first.scope == top.scope) (bytes_eq top.key first.key)
-        (number_same first.scope top.scope
-        (same_number first.scope scope (and_left (first.scope == scope) (bytes_eq key first.key) e) ∙ sym same_scope))
-        (text_same top.key first.key
-        (same_key ∙ same_text key first.key (and_right (first.scope == scope) (bytes_eq key first.key) e)))) in
+        (and_from (first.scope == top.scope) (bytes_eq top.key first.key)
+        (eq-eqb first.scope top.scope
+        (eqb-true first.scope scope (first_holds (first.scope == scope) (bytes_eq key first.key) e) ∙ sym same_scope))
+        (equal_text top.key first.key
+        (same_key ∙ same_text key first.key (second_holds (first.scope == scope) (bytes_eq key first.key) e)))) in
         absurd (let both = sym before ∙ equal in cc)

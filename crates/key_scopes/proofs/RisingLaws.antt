@@ -2,13 +2,13 @@
 use Rattle.std.specs.Prelude.{◌≡◌, ◌<◌, ◌≤◌, ◌⊎◌, ℕ, zero, suc, true, false, List, Option, Some, None, IfSome, length, nat_lt, slice_get}
 use Rattle.std.specs.Option.{option_map_or, option_or}
 use Rattle.std.proofs.Common.{refl, sym, ap, subst, ◌∙◌, arith, inl, inr}
+use Rattle.std.proofs.lemmas.Bool.{cases_Bool}
 use Rattle.std.proofs.lemmas.Bool.Decides.{nat_tests}
 use Rattle.std.proofs.lemmas.Option.{slice_get_past}
 use Rattle.dita_doc.specs.declared.plan.Scope.{Scope}
+use Rattle.dita_doc.proofs.Lists.{some_at}
 use Rattle.key_scopes.specs.Above.{AreInPreorder, around_in, parent_in}
-use Rattle.key_scopes.proofs.OptionLaws.{there}
 use Rattle.key_scopes.proofs.RiseLaws.{up}
-use Rattle.key_scopes.proofs.TestLaws.{either}
 use Rattle.key_scopes.specs.Rising.{outermost_from}
 
 abbrev pub parent_or_root : Option Scope → ℕ
@@ -16,7 +16,7 @@ parent_or_root one = option_map_or (λ (scope : Scope). scope.parent) one 0
 
 -- each parent stands before its scope
 pub parent_low : (all : List Scope) → AreInPreorder (parent_in all) (length all) → (at : ℕ) → 0 < at → parent_in all at < at
-parent_low all ordered at some = by_test (either (nat_lt at (length all)))
+parent_low all ordered at some = by_test (cases_Bool (nat_lt at (length all)))
   where
     by_test : (nat_lt at (length all) ≡ true) ⊎ (nat_lt at (length all) ≡ false) → parent_in all at < at
     by_test (inl low) = ordered.before at some (grind (arith, nat_tests))
@@ -42,7 +42,7 @@ module _ (all : List Scope) (ordered : AreInPreorder (parent_in all) (length all
 
   pub around_other : (at : ℕ) → 0 < at → at < length all → around_in all at ≡ Some (parent_in all at)
   around_other at above within =
-      let is = there all at within in
+      let is = some_at all at within in
       let same : parent_in all at ≡ is.0.parent = rw is.1 refl in
       let less = lower at above within in
       let test : nat_lt is.0.parent at ≡ true = grind (arith, nat_tests) in

@@ -3,7 +3,7 @@ use Rattle.std.specs.Prelude.{◌≡◌, ◌+◌, ◌-◌, ◌<◌, ◌≤◌, �
 use Rattle.std.specs.List.{filter_map}
 use Rattle.std.specs.Option.{option_map_or}
 use Rattle.std.proofs.Common.{refl, sym, ap, subst, ◌∙◌, arith, inl, inr, length-append}
-use Rattle.std.proofs.lemmas.Bool.{true≢false}
+use Rattle.std.proofs.lemmas.Bool.{cases_Bool, true≢false}
 use Rattle.std.proofs.lemmas.Bool.Decides.{nat_tests}
 use Rattle.std.proofs.lemmas.List.{append-nil, append_assoc, take_all}
 use Rattle.dita_doc.specs.declared.plan.PlanNode.{PlanNode}
@@ -11,7 +11,6 @@ use Rattle.dita_doc.specs.declared.plan.Scope.{Scope}
 use Rattle.key_scopes.specs.Above.{AreInPreorder, IsAbove, parent_in, risen}
 use Rattle.key_scopes.specs.Numbered.{has_name, scope_placed, scopes_before}
 use Rattle.key_scopes.proofs.AboveLaws.{above_both, above_one, above_self}
-use Rattle.key_scopes.proofs.TestLaws.{either}
 use Rattle.key_scopes.proofs.NumberLaws.{begun_more, count_put, longer, one_if, scope_above}
 use Rattle.key_scopes.proofs.TreeLaws.{node_there, parent_at}
 use Rattle.map_spec.specs.Scopes.{begins, has_scope_name, number_of, places, root_scope, scope_at, scope_begun, scopes}
@@ -276,7 +275,7 @@ module _ (nodes : List PlanNode) where
         let one : count + 1 ≡ suc count = omega arith in
         let counted = ap (number_of nodes) (sym one) ∙ count_put nodes count found.0 found.1 in
         by_one found.0 found.1 counted (λ less. all_stand count (omega arith) number some less)
-        (has_name count found.0) refl (either (nat_lt number (number_of nodes count)))
+        (has_name count found.0) refl (cases_Bool (nat_lt number (number_of nodes count)))
       where
         by_one : (node : PlanNode) → slice_get nodes count ≡ Some node
             → number_of nodes (suc count) ≡ number_of nodes count + one_if (has_name count node)

@@ -9,13 +9,11 @@ use Rattle.std.proofs.lemmas.Cmp.{tied_itself}
 use Rattle.std.proofs.lemmas.List.Elements.{All-from_get_or, All-get_or, All-head, All-tail}
 use Rattle.std.proofs.lemmas.List.Sorted.{ranks_by, sorted_far, sum_by-IsPermutation}
 use Rattle.std.proofs.lemmas.List.Sums.{sum_by-cons}
+use Rattle.dita_doc.proofs.Tests.{from_zero}
 
 -- each function has the same sum over the two
 abbrev pub HaveSame : {X : Type 0} → List X → List X → Type 0
 HaveSame {X} xs ys = (f : X → ℕ) → sum_by f xs ≡ sum_by f ys
-
-from_zero : (n : ℕ) → n ≡ 0 + n
-from_zero n = omega arith
 
 sum_filter : {X : Type 0} (p : X → Bool) (f : X → ℕ) (xs : List X)
     → sum_by f (filter p xs) ≡ sum_by (λ x. if p x then f x else 0) xs

@@ -2,11 +2,11 @@
 use Rattle.std.specs.Prelude.{◌≡◌, ◌<◌, ◌≤◌, ◌++◌, ◌⊎◌, ℕ, zero, suc, true, false, List, [], ◌∷◌, Some, length, nat_lt, slice_get, take}
 use Rattle.std.proofs.Common.{refl, sym, ap, subst, ◌∙◌, arith, get_or, inl, inr, length-append}
 use Rattle.std.proofs.Math.Seq.{take-append_seam}
+use Rattle.std.proofs.lemmas.Bool.{cases_Bool}
 use Rattle.std.proofs.lemmas.Bool.Decides.{nat_tests}
 use Rattle.std.proofs.lemmas.List.{take-append-le}
 use Rattle.key_scopes.specs.declared.definitions.Definition.{Definition}
 use Rattle.key_scopes.specs.Outermost.{AreTopped, top_for}
-use Rattle.key_scopes.proofs.TestLaws.{either}
 use Rattle.plan_nodes.proofs.ListLaws.{get_more}
 
 -- A definition at a place
@@ -43,7 +43,7 @@ get_end (first ∷ definitions) last = get_end definitions last
 pub topped_more : (ends : List ℕ) (old new : List Definition) (last : Definition) → AreTopped ends old
     → last.top ≡ top_for ends old last.key last.scope → new ≡ old ++ last ∷ [] → AreTopped ends new
 topped_more ends old new last topped top more = subst (AreTopped ends) (sym more)
-    (λ at own is. by_test at own is (found (old ++ last ∷ []) at own is) (either (nat_lt at (length old))))
+    (λ at own is. by_test at own is (found (old ++ last ∷ []) at own is) (cases_Bool (nat_lt at (length old))))
   where
     by_test : (at : ℕ) (own : Definition) → slice_get (old ++ last ∷ []) at ≡ Some own → Found (old ++ last ∷ []) at own
         → (nat_lt at (length old) ≡ true) ⊎ (nat_lt at (length old) ≡ false)

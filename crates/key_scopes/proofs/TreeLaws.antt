@@ -1,14 +1,14 @@
 -- The parents of a tree's nodes: each stands on the way up from the node before.
 use Rattle.std.specs.Prelude.{◌≡◌, ◌+◌, ◌-◌, ◌<◌, ◌==◌, ◌⊎◌, ℕ, true, false, nat_lt, zero, suc, List, [], ◌∷◌, ◌++◌, Some, length, map, slice_get}
 use Rattle.std.proofs.Common.{refl, sym, ap, subst, ◌∙◌, arith, inl, inr, length-append}
+use Rattle.std.proofs.lemmas.Bool.{cases_Bool, eqb-true}
 use Rattle.std.proofs.lemmas.Bool.Decides.{nat_tests}
 use Rattle.std.proofs.lemmas.List.{length-map, map-append}
 use Rattle.dita_doc.specs.declared.plan.PlanNode.{PlanNode}
 use Rattle.key_scopes.specs.Above.{AreInPreorder, IsAbove, end_at}
 use Rattle.key_scopes.proofs.AboveLaws.{above_both, above_one, above_self, end_left, end_right}
-use Rattle.key_scopes.proofs.TestLaws.{either, same_number}
 use Rattle.map_spec.specs.MapTree.{Head, MapTree, MapNode, NoNodes, count, nodes_below, plan_nodes}
-use Rattle.plan_nodes.proofs.EndLaws.{length_below}
+use Rattle.map_lemmas.proofs.TreeLaws.{length_below}
 use Rattle.plan_nodes.proofs.PreorderLaws.{tree_has_parents}
 use Rattle.plan_nodes.specs.Preorder.{HasOneRoot, HasParentsBefore, IsTree, shape}
 
@@ -122,15 +122,15 @@ module _ (parent : ℕ → ℕ) where
     where
       by_place : parent (before + 1) ≡ around → IsAbove parent around before → AllAbove (before + 1) (count below)
           → AllAbove (before + 1 + count below) (count more) → AllAbove before (count (MapNode head below more))
-      by_place here above first second = λ at low high. by_three at low high (either (at == before + 1))
-          (either (nat_lt at (before + 1 + count below + 1)))
+      by_place here above first second = λ at low high. by_three at low high (cases_Bool (at == before + 1))
+          (cases_Bool (nat_lt at (before + 1 + count below + 1)))
         where
           by_three : (at : ℕ) → before < at → at < before + 1 + count (MapNode head below more)
               → ((at == before + 1) ≡ true) ⊎ ((at == before + 1) ≡ false)
               → (nat_lt at (before + 1 + count below + 1) ≡ true) ⊎ (nat_lt at (before + 1 + count below + 1) ≡ false)
               → IsAbove parent (parent at) (at - 1)
           by_three at low high (inl same) b =
-              let is = same_number at (before + 1) same in
+              let is = eqb-true at (before + 1) same in
               let one : before ≡ before + 1 - 1 = omega arith in
               subst (λ n. IsAbove parent (parent n) (n - 1)) (sym is)
               (subst (λ n. IsAbove parent n (before + 1 - 1)) (sym here) (subst (IsAbove parent around) one above))

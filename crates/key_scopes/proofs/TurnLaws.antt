@@ -6,16 +6,15 @@ use Rattle.std.specs.Fn.{Called, ComputesKey}
 use Rattle.std.specs.List.{All, flat_map}
 use Rattle.std.specs.List.Sorted.{IsPartitionPoint, IsPartitionedBy}
 use Rattle.std.proofs.Common.{refl, sym, ap, subst, ◌∙◌, arith, get_or, inl, inr}
-use Rattle.std.proofs.lemmas.Bool.{true≢false}
+use Rattle.std.proofs.lemmas.Bool.{cases_Bool, eq-eqb, eqb-true, not-false, not-true, true≢false}
 use Rattle.std.proofs.lemmas.Bool.Decides.{nat_tests}
 use Rattle.std.proofs.lemmas.List.Elements.{All-append, All-cons, All-get_or, All-head, All-nil, All-tail, All-weaker}
 use Rattle.std.proofs.lemmas.List.Sorted.{IsPartitionPoint-from_clause}
 use Rattle.dita_doc.specs.declared.plan.Scope.{Scope}
 use Rattle.key_scopes.specs.declared.children.ChildName.{ChildName}
-use Rattle.key_scopes.specs.Children.{all_names, names_of, ranked}
+use Rattle.key_scopes.specs.Children.{all_names, child_names_of, ranked}
 use Rattle.key_scopes.specs.Ways.{AreInTurn, is_later}
 use Rattle.key_scopes.proofs.FirstLaws.{find_is}
-use Rattle.key_scopes.proofs.TestLaws.{either, number_same, same_number}
 use Rattle.map_spec.specs.Scopes.{numbered}
 
 -- The order
@@ -34,7 +33,7 @@ later_cases child rank name e = by_one (nat_lt child name.child) refl
         by_two : (a b : Bool) → (child == name.child) ≡ a → nat_lt rank name.rank ≡ b → (a && b) ≡ true
             → (child < name.child) ⊎ ((child ≡ name.child) × (rank < name.rank))
         by_two true true g h both =
-            let less : rank < name.rank = grind (arith, nat_tests) in inr (same_number child name.child g, less)
+            let less : rank < name.rank = grind (arith, nat_tests) in inr (eqb-true child name.child g, less)
         by_two true false g h both = cc
         by_two false b g h both = cc
 
@@ -47,7 +46,7 @@ pub later_rank : (child rank : ℕ) (name : ChildName) → child ≡ name.child 
 later_rank child rank name same less =
     let first : nat_lt child name.child ≡ false = grind (arith, nat_tests) in
     let second : nat_lt rank name.rank ≡ true = grind (arith, nat_tests) in
-    rw (first, number_same child name.child same, second) refl
+    rw (first, eq-eqb child name.child same, second) refl
 
 pub later_trans : (child rank : ℕ) (a b : ChildName) → is_later child rank a ≡ true → is_later a.child a.rank b ≡ true
     → is_later child rank b ≡ true
@@ -64,7 +63,7 @@ later_trans child rank a b first second =
 
 -- of two one at most is later
 pub not_later : (a b : ChildName) → is_later a.child a.rank b ≡ true → is_later b.child b.rank a ≡ false
-not_later a b e = by_one (either (is_later b.child b.rank a))
+not_later a b e = by_one (cases_Bool (is_later b.child b.rank a))
   where
     by_both : (a.child < b.child) ⊎ ((a.child ≡ b.child) × (a.rank < b.rank))
         → (b.child < a.child) ⊎ ((b.child ≡ a.child) × (b.rank < a.rank)) → is_later b.child b.rank a ≡ false
@@ -79,7 +78,7 @@ not_later a b e = by_one (either (is_later b.child b.rank a))
     by_one (inr f) = f
 
 pub not_itself : (a : ChildName) → is_later a.child a.rank a ≡ false
-not_itself a = by_one (either (is_later a.child a.rank a))
+not_itself a = by_one (cases_Bool (is_later a.child a.rank a))
   where
     by_one : (is_later a.child a.rank a ≡ true) ⊎ (is_later a.child a.rank a ≡ false) → is_later a.child a.rank a ≡ false
     by_one (inl f) = not_later a a f
@@ -98,7 +97,7 @@ in_turn_at (name ∷ names) turn (suc i) (suc j) d low within =
 
 pub parted_in_turn : (child rank : ℕ) (names : List ChildName) → AreInTurn names
     → IsPartitionedBy (λ name. not (is_later child rank name)) names
-parted_in_turn child rank names turn i j d le inside below = by_test (either (i == j))
+parted_in_turn child rank names turn i j d le inside below = by_test (cases_Bool (i == j))
   where
     by_later : i < j → (is_later child rank (get_or names i d) ≡ true) ⊎ (is_later child rank (get_or names i d) ≡ false)
         → not (is_later child rank (get_or names i d)) ≡ true
@@ -109,10 +108,10 @@ parted_in_turn child rank names turn i j d le inside below = by_test (either (i 
     by_later less (inr f) = ap not f
 
     by_test : ((i == j) ≡ true) ⊎ ((i == j) ≡ false) → not (is_later child rank (get_or names i d)) ≡ true
-    by_test (inl same) = ap (λ n. not (is_later child rank (get_or names n d))) (same_number i j same) ∙ below
+    by_test (inl same) = ap (λ n. not (is_later child rank (get_or names n d))) (eqb-true i j same) ∙ below
     by_test (inr differs) =
         let less : i < j = grind (arith, nat_tests) in
-        by_later less (either (is_later child rank (get_or names i d)))
+        by_later less (cases_Bool (is_later child rank (get_or names i d)))
 
 pub found_passes : (p : ChildName → Bool) (names : List ChildName) (name : ChildName) → find p names ≡ Some name
     → p name ≡ true
@@ -125,14 +124,6 @@ found_passes p (first ∷ names) name is = by_one (λ there. found_passes p name
         let same : first ≡ name = cc in
         ap p (sym same) ∙ e
     by_one behind false e = behind (rw e at is)
-
-not_true : (a : Bool) → not a ≡ true → a ≡ false
-not_true true e = cc
-not_true false e = refl
-
-not_false : (a : Bool) → not a ≡ false → a ≡ true
-not_false true e = refl
-not_false false e = cc
 
 halves : (p : ChildName → Bool) (names : List ChildName) (at : ℕ)
     → ((k : ℕ) (d : ChildName) → k < at → k < length names → p (get_or names k d) ≡ false)
@@ -150,8 +141,8 @@ pub found_by_half : (p : ChildName → Bool) (names : List ChildName) (at : ℕ)
     → IsPartitionPoint (λ name. not (p name) ≡ true) (λ name. not (p name) ≡ false) names at
     → find p names ≡ slice_get names at
 found_by_half p names at part =
-    halves p names at (λ k d low within. not_true (p (get_or names k d)) (part.0 k d (omega arith) low))
-    (λ k d low within. not_false (p (get_or names k d)) (part.1 k d low within))
+    halves p names at (λ k d low within. not-true (p (get_or names k d)) (part.0 k d (omega arith) low))
+    (λ k d low within. not-false (p (get_or names k d)) (part.1 k d low within))
 
 -- so the first name behind stands where `partition_point` parts the names
 pub found_parted : (child rank : ℕ) {F : Type 0} {g : Mut F (Bor ChildName × Unit {0}) Bool} {f : F}
@@ -271,27 +262,28 @@ ranked_in_turn parent child rank (name ∷ names) = (
 )
 
 from_number : (at : ℕ) (scopes : List Scope)
-    → All (λ (name : ChildName). at ≤ name.child) (flat_map names_of (numbered at scopes))
+    → All (λ (name : ChildName). at ≤ name.child) (flat_map child_names_of (numbered at scopes))
 from_number at [] = All-nil (λ (name : ChildName). at ≤ name.child)
 from_number at (scope ∷ scopes) =
-    All-append (λ (name : ChildName). at ≤ name.child) (names_of (scope, at)) (flat_map names_of (numbered (at + 1) scopes))
+    All-append (λ (name : ChildName). at ≤ name.child) (child_names_of (scope, at)) (flat_map child_names_of (numbered (at + 1) scopes))
     (All-weaker (IsFrom at 0) (λ (name : ChildName). at ≤ name.child) (λ n is. let same = is.0 in omega arith)
-    (names_of (scope, at)) (ranked_from scope.parent at 0 scope.names))
+    (child_names_of (scope, at)) (ranked_from scope.parent at 0 scope.names))
     (All-weaker (λ (name : ChildName). at + 1 ≤ name.child) (λ (name : ChildName). at ≤ name.child)
-    (λ n is. omega arith) (flat_map names_of (numbered (at + 1) scopes)) (from_number (at + 1) scopes))
+    (λ n is. omega arith) (flat_map child_names_of (numbered (at + 1) scopes)) (from_number (at + 1) scopes))
 
-in_turn_from : (at : ℕ) (scopes : List Scope) → AreInTurn (flat_map names_of (numbered at scopes))
+in_turn_from : (at : ℕ) (scopes : List Scope) → AreInTurn (flat_map child_names_of (numbered at scopes))
 in_turn_from at [] = tt
 in_turn_from at (scope ∷ scopes) =
-    both_in_turn (names_of (scope, at)) (flat_map names_of (numbered (at + 1) scopes))
+    both_in_turn (child_names_of (scope, at)) (flat_map child_names_of (numbered (at + 1) scopes))
     (ranked_in_turn scope.parent at 0 scope.names) (in_turn_from (at + 1) scopes)
     (All-weaker (IsFrom at 0)
-    (λ name. All (λ other. is_later name.child name.rank other ≡ true) (flat_map names_of (numbered (at + 1) scopes)))
+    (λ name. All (λ other. is_later name.child name.rank other ≡ true)
+    (flat_map child_names_of (numbered (at + 1) scopes)))
     (λ name is. All-weaker (λ (other : ChildName). at + 1 ≤ other.child)
     (λ other. is_later name.child name.rank other ≡ true)
     (λ other low. later_scope name.child name.rank other (let same = is.0 in omega arith))
-    (flat_map names_of (numbered (at + 1) scopes)) (from_number (at + 1) scopes))
-    (names_of (scope, at)) (ranked_from scope.parent at 0 scope.names))
+    (flat_map child_names_of (numbered (at + 1) scopes)) (from_number (at + 1) scopes))
+    (child_names_of (scope, at)) (ranked_from scope.parent at 0 scope.names))
 
 pub all_in_turn : (scopes : List Scope) → AreInTurn (all_names scopes)
 all_in_turn scopes = in_turn_from 0 scopes

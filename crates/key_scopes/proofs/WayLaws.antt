@@ -1,24 +1,26 @@
 -- The definitions by qualified keys, way by way.
-use Rattle.std.specs.Prelude.{◌≡◌, ◌+◌, ◌<◌, ◌≤◌, ◌==◌, ◌&&◌, ℕ, zero, suc, Bool, true, false, List, [], ◌∷◌, ◌++◌, Option, Some, None, filter, find, length, map, option_map, slice_get}
+use Rattle.std.specs.Prelude.{◌≡◌, ◌+◌, ◌<◌, ◌==◌, ◌&&◌, ℕ, suc, Bool, true, false, List, [], ◌∷◌, ◌++◌, Option, Some, None, filter, find, length, map, option_map, slice_get}
 use Rattle.std.specs.List.{All, filter_map, flat_map}
 use Rattle.std.specs.Option.{option_and_then, option_or}
 use Rattle.std.proofs.Common.{refl, sym, ap, subst, ◌∙◌, arith}
+use Rattle.std.proofs.lemmas.Bool.{eqb-true}
 use Rattle.std.proofs.lemmas.Bool.Decides.{nat_tests}
 use Rattle.std.proofs.lemmas.List.{length-drop, map-append}
-use Rattle.std.proofs.lemmas.List.Elements.{All-cons, All-head, All-nil, All-tail, All-weaker}
+use Rattle.std.proofs.lemmas.List.Elements.{All-head, All-tail, All-weaker}
 use Rattle.dita_doc.specs.declared.plan.PlanNode.{PlanNode}
 use Rattle.dita_doc.specs.declared.plan.Scope.{Scope}
+use Rattle.dita_doc.proofs.Tests.{and_false, and_true, second_holds}
 use Rattle.key_scopes.specs.declared.children.ChildName.{ChildName}
-use Rattle.key_scopes.specs.Children.{all_names, names_of, ranked}
+use Rattle.key_scopes.specs.Children.{all_names, child_names_of, ranked}
 use Rattle.key_scopes.specs.Rising.{by_names}
 use Rattle.key_scopes.specs.Ways.{AreInTurn, Way, is_behind, is_later, leads, next_way, way_in}
-use Rattle.key_scopes.proofs.DotLaws.{behind_dot, cut, leads_short}
+use Rattle.key_scopes.proofs.DotLaws.{all_each, behind_dot, cut, leads_short}
 use Rattle.key_scopes.proofs.FirstLaws.{find_is}
 use Rattle.key_scopes.proofs.OptionLaws.{or_assoc}
-use Rattle.key_scopes.proofs.TestLaws.{and_right, same_number}
 use Rattle.key_scopes.proofs.TurnLaws.{all_in_turn, later_trans, not_itself, not_later}
 use Rattle.map_spec.specs.Scopes.{begins, behind, first_found, is_child_of, numbered, own, places, qualified, scope_begun, scopes}
 use Rattle.reader_spec.specs.World.{World}
+use Rattle.map_lemmas.proofs.KeyLaws.{qualified_same}
 
 -- Lists of answers
 
@@ -95,7 +97,7 @@ module _ (try : Way → Option ℕ) (attempt : ℕ → List ℕ → Option ℕ) 
 
   all_scopes : (at : ℕ) (some : List Scope) → 0 < at
       → first_found (flat_map attempts (filter (is_child_of scope) (numbered at some)))
-      ≡ answers try key (filter (leads scope key) (flat_map names_of (numbered at some)))
+      ≡ answers try key (filter (leads scope key) (flat_map child_names_of (numbered at some)))
   all_scopes at [] above = refl
   all_scopes at (one ∷ some) above =
       by_test (all_scopes (at + 1) some (omega arith)) (one.parent == scope) refl
@@ -104,24 +106,24 @@ module _ (try : Way → Option ℕ) (attempt : ℕ → List ℕ → Option ℕ) 
       not_root = grind (arith, nat_tests)
 
       later : List ChildName
-      later = flat_map names_of (numbered (at + 1) some)
+      later = flat_map child_names_of (numbered (at + 1) some)
 
       by_test : first_found (flat_map attempts (filter (is_child_of scope) (numbered (at + 1) some)))
-          ≡ answers try key (filter (leads scope key) (flat_map names_of (numbered (at + 1) some)))
+          ≡ answers try key (filter (leads scope key) (flat_map child_names_of (numbered (at + 1) some)))
           → (a : Bool) → (one.parent == scope) ≡ a
           → first_found (flat_map attempts (filter (is_child_of scope) (numbered at (one ∷ some))))
-          ≡ answers try key (filter (leads scope key) (flat_map names_of (numbered at (one ∷ some))))
+          ≡ answers try key (filter (leads scope key) (flat_map child_names_of (numbered at (one ∷ some))))
       by_test behind true e =
-          let is : one.parent ≡ scope = same_number one.parent scope e in
-          let right : answers try key (filter (leads scope key) (flat_map names_of (numbered at (one ∷ some))))
+          let is : one.parent ≡ scope = eqb-true one.parent scope e in
+          let right : answers try key (filter (leads scope key) (flat_map child_names_of (numbered at (one ∷ some))))
           ≡ option_or (answers try key (filter (leads scope key) (ranked scope at 0 one.names)))
-          (answers try key (filter (leads scope key) (flat_map names_of (numbered (at + 1) some)))) =
-          ap (answers try key) (filter_append (leads scope key) (names_of (one, at))
-          (flat_map names_of (numbered (at + 1) some)))
-          ∙ answers_append try key (filter (leads scope key) (names_of (one, at)))
-          (filter (leads scope key) (flat_map names_of (numbered (at + 1) some)))
+          (answers try key (filter (leads scope key) (flat_map child_names_of (numbered (at + 1) some)))) =
+          ap (answers try key) (filter_append (leads scope key) (child_names_of (one, at))
+          (flat_map child_names_of (numbered (at + 1) some)))
+          ∙ answers_append try key (filter (leads scope key) (child_names_of (one, at)))
+          (filter (leads scope key) (flat_map child_names_of (numbered (at + 1) some)))
           ∙ ap (λ p. option_or (answers try key (filter (leads scope key) (ranked p at 0 one.names)))
-          (answers try key (filter (leads scope key) (flat_map names_of (numbered (at + 1) some))))) is in
+          (answers try key (filter (leads scope key) (flat_map child_names_of (numbered (at + 1) some))))) is in
           let left : first_found (flat_map attempts (filter (is_child_of scope) (numbered at (one ∷ some))))
           ≡ option_or (first_found (map (attempted at) one.names))
           (first_found (flat_map attempts (filter (is_child_of scope) (numbered (at + 1) some)))) =
@@ -130,16 +132,16 @@ module _ (try : Way → Option ℕ) (attempt : ℕ → List ℕ → Option ℕ) 
           left
           ∙ ap (option_or (first_found (map (attempted at) one.names))) behind
           ∙ ap (λ x. option_or x (answers try key (filter (leads scope key)
-          (flat_map names_of (numbered (at + 1) some))))) (one_scope at 0 one.names)
+          (flat_map child_names_of (numbered (at + 1) some))))) (one_scope at 0 one.names)
           ∙ sym right
       by_test behind false e =
           let left : first_found (flat_map attempts (filter (is_child_of scope) (numbered at (one ∷ some))))
           ≡ first_found (flat_map attempts (filter (is_child_of scope) (numbered (at + 1) some))) =
           rw (not_root, e) refl in
           left ∙ behind
-          ∙ sym (ap (answers try key) (filter_append (leads scope key) (names_of (one, at))
-          (flat_map names_of (numbered (at + 1) some))
-          ∙ ap (λ x. x ++ filter (leads scope key) (flat_map names_of (numbered (at + 1) some)))
+          ∙ sym (ap (answers try key) (filter_append (leads scope key) (child_names_of (one, at))
+          (flat_map child_names_of (numbered (at + 1) some))
+          ∙ ap (λ x. x ++ filter (leads scope key) (flat_map child_names_of (numbered (at + 1) some)))
           (other_scope one.parent at 0 one.names e)))
 
 abbrev pub tried : ℕ → World → List PlanNode → Way → Option ℕ
@@ -185,39 +187,6 @@ shorter scope key name e =
     let low = leads_short scope key name e in
     omega (arith, low, length-drop (length name.name + 1) key)
 
-no_key : (steps : ℕ) (world : World) (nodes : List PlanNode) (scope : ℕ) → qualified steps world nodes scope [] ≡ None
-unfolding qualified
-no_key zero world nodes scope = refl
-no_key (suc steps) world nodes scope =
-    by_ways steps world nodes scope [] ∙ none (all_names (scopes nodes))
-  where
-    none : (names : List ChildName) → answers (tried steps world nodes) [] (filter (leads scope []) names) ≡ None
-    none [] = refl
-    none (name ∷ names) = by_one (leads scope [] name) refl (none names)
-      where
-        by_one : (a : Bool) → leads scope [] name ≡ a
-            → answers (tried steps world nodes) [] (filter (leads scope []) names) ≡ None
-            → answers (tried steps world nodes) [] (filter (leads scope []) (name ∷ names)) ≡ None
-        by_one true e behind = let low = leads_short scope [] name e in absurd (omega (arith, low))
-        by_one false e behind = rw e behind
-
-pub enough : (steps more : ℕ) (world : World) (nodes : List PlanNode) (scope : ℕ) (key : List ℕ) → length key ≤ steps
-    → length key ≤ more → qualified steps world nodes scope key ≡ qualified more world nodes scope key
-enough zero more world nodes scope [] low high =
-    no_key zero world nodes scope ∙ sym (no_key more world nodes scope)
-enough zero more world nodes scope (b ∷ key) low high = absurd (omega arith)
-enough (suc steps) zero world nodes scope [] low high =
-    no_key (suc steps) world nodes scope ∙ sym (no_key zero world nodes scope)
-enough (suc steps) zero world nodes scope (b ∷ key) low high = absurd (omega arith)
-enough (suc steps) (suc more) world nodes scope key low high =
-    by_ways steps world nodes scope key
-    ∙ same_answers (tried steps world nodes) (tried more world nodes) scope key (all_names (scopes nodes))
-    (λ name e. let short = shorter scope key name e in
-    ap (option_or (own world nodes name.child (way_in key name).rest))
-    (enough steps more world nodes name.child (way_in key name).rest (omega (arith, short, low))
-    (omega (arith, short, high))))
-    ∙ sym (by_ways more world nodes scope key)
-
 -- The search, way by way
 
 -- by a way the scope's own definition, or again one by a way
@@ -241,23 +210,15 @@ filter_same p q (name ∷ names) same =
     by_one behind true e f = rw (f, e) (ap (λ some. name ∷ some) behind)
     by_one behind false e f = rw (f, e) behind
 
-pub all_each : (P : ChildName → Type 0) (names : List ChildName) → ((n : ChildName) → P n) → All P names
-all_each P [] each = All-nil P
-all_each P (name ∷ names) each = All-cons P name names (each name) (all_each P names each)
-
-and_true : (a : Bool) → (a && true) ≡ a
-and_true true = refl
-and_true false = refl
-
 pub by_all_ways : (world : World) (nodes : List PlanNode) (scope : ℕ) (key : List ℕ)
     → by_names world nodes key scope ≡ behind_way world nodes scope key None
 by_all_ways world nodes scope key =
-    enough (length key) (suc (length key)) world nodes scope key (omega arith) (omega arith)
+    qualified_same (length key) (suc (length key)) world nodes scope key (omega arith) (omega arith)
     ∙ by_ways (length key) world nodes scope key
     ∙ same_answers (tried (length key) world nodes) (by_way world nodes) scope key (all_names (scopes nodes))
     (λ name e. let short = shorter scope key name e in
     ap (option_or (own world nodes name.child (way_in key name).rest))
-    (enough (length key) (length (way_in key name).rest) world nodes name.child (way_in key name).rest
+    (qualified_same (length key) (length (way_in key name).rest) world nodes name.child (way_in key name).rest
     (omega (arith, short)) (omega arith)))
     ∙ ap (answers (by_way world nodes) key) (filter_same (leads scope key) (λ name. leads scope key name && true)
     (all_names (scopes nodes)) (all_each (λ name. leads scope key name ≡ (leads scope key name && true))
@@ -291,10 +252,6 @@ behind_both : (last : Option Way) (a b : ChildName) → is_behind last a ≡ tru
 behind_both None a b first second = refl
 behind_both (Some way) a b first second = later_trans way.child way.rank a b first second
 
-and_false : (a : Bool) → (a && false) ≡ false
-and_false true = refl
-and_false false = refl
-
 split_first : (scope : ℕ) (key : List ℕ) (last : Option Way) (names : List ChildName) (first : ChildName)
     → AreInTurn names → find (λ name. leads scope key name && is_behind last name) names ≡ Some first
     → filter (λ name. leads scope key name && is_behind last name) names
@@ -313,7 +270,7 @@ split_first scope key last (name ∷ names) first turn is =
     by_one behind true e =
         let there = rw e at is in
         let same : name ≡ first = cc in
-        let before = and_right (leads scope key name) (is_behind last name) e in
+        let before = second_holds (leads scope key name) (is_behind last name) e in
         let left : filter (λ name. leads scope key name && is_behind last name) (name ∷ names)
         ≡ name ∷ filter (λ n. leads scope key n && is_behind last n) names = rw e refl in
         let none : (leads scope key name && is_later name.child name.rank name) ≡ false =

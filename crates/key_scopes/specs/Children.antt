@@ -16,19 +16,19 @@ ranked parent child rank [] = []
 ranked parent child rank (name ∷ names) =
     record { parent = parent; name = name; child = child; rank = rank } ∷ ranked parent child (rank + 1) names
 
-abbrev pub names_of : Scope × ℕ → List ChildName
-names_of child = ranked child.0.parent child.1 0 child.0.names
+abbrev pub child_names_of : Scope × ℕ → List ChildName
+child_names_of child = ranked child.0.parent child.1 0 child.0.names
 
 -- the names of all scopes, by scope and then by their order
 abbrev pub all_names : List Scope → List ChildName
-all_names scopes = flat_map names_of (numbered 0 scopes)
+all_names scopes = flat_map child_names_of (numbered 0 scopes)
 
 abbrev pub is_named : ℕ → List ℕ → ChildName → Bool
 is_named parent name own = (own.parent == parent) && bytes_eq own.name name
 
 -- those of this name within a scope
-abbrev pub named : ℕ → List ℕ → List ChildName → List ChildName
-named parent name names = filter (is_named parent name) names
+abbrev pub those_named : ℕ → List ℕ → List ChildName → List ChildName
+those_named parent name names = filter (is_named parent name) names
 
 -- The order of names: by parent, name, scope and rank
 
@@ -54,7 +54,7 @@ AreShort longest names = All (λ (own : ChildName). length own.name ≤ longest)
 
 -- the names of scopes in this order, of which those of each name are the scopes' own; none is longer than this
 pub record AreChildNames (scopes : List Scope) (names : List ChildName) (longest : ℕ) : Type 0 where
-  pub named : (parent : ℕ) (name : List ℕ) → named parent name names ≡ named parent name (all_names scopes)
+  pub named : (parent : ℕ) (name : List ℕ) → those_named parent name names ≡ those_named parent name (all_names scopes)
   pub sorted : IsSorted name_cmp names
   pub short : AreShort longest (all_names scopes)
 

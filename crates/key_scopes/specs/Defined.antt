@@ -7,26 +7,26 @@ use Rattle.std.specs.Ordering.{is_eq, is_gt, is_lt, nat_cmp, ordering_then}
 use Rattle.std.proofs.Common.{Ordering, Less, get_or}
 use Rattle.dita_doc.specs.declared.plan.Scope.{Scope}
 use Rattle.key_scopes.specs.declared.definitions.Definition.{Definition}
-use Rattle.key_scopes.specs.Numbered.{Entry}
+use Rattle.key_scopes.specs.Numbered.{KeyEntry}
 use Rattle.key_scopes.specs.Above.{AreEndsFrom, AreInPreorder, parent_in}
 use Rattle.key_scopes.specs.Children.{AreChildNames}
 use Rattle.key_scopes.specs.Outermost.{AreTopped}
 use Rattle.key_scopes.specs.OwnKeys.{by_level, rows_by}
 use Rattle.key_scopes.specs.Table.{First, Table, first_of, firsts_of, is_first}
 
-abbrev pub first_by : Entry → First
+abbrev pub first_by : KeyEntry → First
 first_by entry = record { key = entry.0; scope = entry.1; node = entry.3 }
 
 -- whether the last one is of the entry's key and scope
-abbrev pub is_last_of : List First → Entry → Bool
+abbrev pub is_last_of : List First → KeyEntry → Bool
 is_last_of [] entry = false
 is_last_of (first ∷ []) entry = is_first entry.1 entry.0 first
 is_last_of (first ∷ next ∷ firsts) entry = is_last_of (next ∷ firsts) entry
 
-abbrev pub with_first : List First → Entry → List First
+abbrev pub with_first : List First → KeyEntry → List First
 with_first firsts entry = if is_last_of firsts entry then firsts else firsts ++ first_by entry ∷ []
 
-abbrev pub firsts_by : List First → List Entry → List First
+abbrev pub firsts_by : List First → List KeyEntry → List First
 firsts_by firsts [] = firsts
 firsts_by firsts (entry ∷ entries) = firsts_by (with_first firsts entry) entries
 
@@ -56,34 +56,34 @@ own_at definitions at scope key = option_and_then (λ (definition : Definition).
     (slice_get definitions at)
 
 -- the order of entries: by key, scope, level and place
-abbrev pub entry_order : Entry → Entry → Ordering
+abbrev pub entry_order : KeyEntry → KeyEntry → Ordering
 entry_order a b =
     ordering_then (ordering_then (ordering_then (slice_cmp nat_cmp a.0 b.0) (nat_cmp a.1 b.1)) (nat_cmp a.2 b.2))
     (nat_cmp a.3 b.3)
 
-abbrev pub is_entry_before : Entry → Entry → Bool
+abbrev pub is_entry_before : KeyEntry → KeyEntry → Bool
 is_entry_before a b = is_lt (entry_order a b)
 
-abbrev pub AreOrdered : List Entry → Type 0
-AreOrdered entries = (i j : ℕ) (d : Entry) → i ≤ j → j < length entries
+abbrev pub AreOrdered : List KeyEntry → Type 0
+AreOrdered entries = (i j : ℕ) (d : KeyEntry) → i ≤ j → j < length entries
     → is_entry_before (get_or entries j d) (get_or entries i d) ≡ false
 
 -- no level is beyond the count of nodes
-abbrev pub is_level_within : ℕ → Entry → Bool
+abbrev pub is_level_within : ℕ → KeyEntry → Bool
 is_level_within count entry = nat_lt entry.2 count
 
-abbrev pub with_entry : ℕ → List First → Entry → List First
+abbrev pub with_entry : ℕ → List First → KeyEntry → List First
 with_entry count firsts entry = if is_level_within count entry then with_first firsts entry else firsts
 
 -- the first definitions among entries in any order
-pub record AreFirsts (count : ℕ) (entries : List Entry) (firsts : List First) : Type 0 where
-  pub sorted : List Entry
+pub record AreFirsts (count : ℕ) (entries : List KeyEntry) (firsts : List First) : Type 0 where
+  pub sorted : List KeyEntry
   pub permuted : IsPermutation entries sorted
   pub ordered : AreOrdered sorted
   pub are : firsts ≡ firsts_by [] (filter (is_level_within count) sorted)
 
 -- a table of these scopes, with the keys that so many nodes define
-pub record IsTableBy (count : ℕ) (all : List Scope) (written : List Entry) (table : Table) : Type 0 where
+pub record IsTableBy (count : ℕ) (all : List Scope) (written : List KeyEntry) (table : Table) : Type 0 where
   pub scopes : table.scopes ≡ all
   pub ends : AreInPreorder (parent_in all) (length all) → AreEndsFrom (parent_in all) (length all) 0 table.ends
   pub topped : AreTopped table.ends table.definitions

@@ -9,7 +9,7 @@ use Rattle.dita_doc.specs.declared.plan.PlanNode.{PlanNode}
 use Rattle.dita_doc.specs.declared.plan.Scope.{Scope}
 use Rattle.key_scopes.specs.declared.numbering.Numbering.{Numbering}
 use Rattle.map_spec.specs.Branches.{words_written}
-use Rattle.map_spec.specs.Scopes.{bad_names, begins, good_names, has_scope_name, key_faults, keys_defined, node_fault, number_of, places, root_scope, scope_at, scope_begun, scope_faults}
+use Rattle.map_spec.specs.Scopes.{bad_names, begins, good_names, has_scope_name, key_name_faults, keys_defined, node_fault, number_of, places, root_scope, scope_at, scope_begun, scope_faults}
 use Rattle.reader_spec.specs.World.{World}
 
 abbrev pub told_at : List Bool → ℕ → Bool
@@ -23,16 +23,16 @@ keys_name = codes "keys"
 
 -- A key that a node defines, with the scope, and the level and the place of the node
 
-abbrev pub Entry : Type 0
-Entry = List ℕ × ℕ × ℕ × ℕ
+abbrev pub KeyEntry : Type 0
+KeyEntry = List ℕ × ℕ × ℕ × ℕ
 
-abbrev pub entry : ℕ → ℕ → ℕ → List ℕ → Entry
+abbrev pub entry : ℕ → ℕ → ℕ → List ℕ → KeyEntry
 entry scope level place key = (key, scope, level, place)
 
-abbrev pub entry_of : Bor (List ℕ) × ℕ × ℕ × ℕ → Entry
+abbrev pub entry_of : Bor (List ℕ) × ℕ × ℕ × ℕ → KeyEntry
 entry_of written = (written.0.now, written.1, written.2, written.3)
 
-abbrev pub entries : List (Bor (List ℕ) × ℕ × ℕ × ℕ) → List Entry
+abbrev pub entries : List (Bor (List ℕ) × ℕ × ℕ × ℕ) → List KeyEntry
 entries written = map entry_of written
 
 -- What one node puts behind what is known of those before it
@@ -97,12 +97,12 @@ scopes_before nodes count =
 
 abbrev pub faults_at : World → List PlanNode → ℕ → List Fault
 faults_at world nodes at = option_map_or
-    (λ (node : PlanNode). scope_faults at node ++ key_faults world nodes at node) (slice_get nodes at) []
+    (λ (node : PlanNode). scope_faults at node ++ key_name_faults world nodes at node) (slice_get nodes at) []
 
 abbrev pub level_at : List PlanNode → ℕ → ℕ
 level_at nodes at = option_map_or (λ (node : PlanNode). node.level) (slice_get nodes at) 0
 
-abbrev pub entries_at : World → List PlanNode → ℕ → List Entry
+abbrev pub entries_at : World → List PlanNode → ℕ → List KeyEntry
 entries_at world nodes at =
     map (entry (scope_at nodes at) (level_at nodes at) at) (keys_defined world nodes at)
 

@@ -3,7 +3,7 @@ use Rattle.std.specs.Prelude.{◌+◌, ◌==◌, ◌++◌, ℕ, zero, suc, Bool,
 use Rattle.std.specs.List.{flat_map, list_any}
 use Rattle.indexmap.specs.IndexMap.{IndexMap}
 use Rattle.dita_doc.specs.declared.plan.PlanNode.{PlanNode}
-use Rattle.key_scopes.specs.Numbered.{Entry}
+use Rattle.key_scopes.specs.Numbered.{KeyEntry}
 use Rattle.map_spec.specs.Scopes.{keys_defined, own_places, places_from, scopes}
 use Rattle.reader_spec.specs.World.{World}
 
@@ -35,25 +35,25 @@ abbrev pub numbers : ℕ → ℕ → List ℕ
 numbers from zero = []
 numbers from (suc count) = from ∷ numbers (from + 1) count
 
-abbrev pub is_at : ℕ → Entry → Bool
+abbrev pub is_at : ℕ → KeyEntry → Bool
 is_at level entry = entry.2 == level
 
 -- entries of levels below the count, those of a lower level first
-abbrev pub by_level : ℕ → List Entry → List Entry
+abbrev pub by_level : ℕ → List KeyEntry → List KeyEntry
 by_level count entries = flat_map (λ level. filter (is_at level) entries) (numbers 0 count)
 
-abbrev pub is_of : ℕ → Entry → Bool
+abbrev pub is_of : ℕ → KeyEntry → Bool
 is_of scope entry = entry.1 == scope
 
-abbrev pub key_place : Entry → KeyPlace
+abbrev pub key_place : KeyEntry → KeyPlace
 key_place entry = (entry.0, entry.3)
 
 -- those of a scope
-abbrev pub in_scope : ℕ → List Entry → List KeyPlace
+abbrev pub in_scope : ℕ → List KeyEntry → List KeyPlace
 in_scope scope entries = map key_place (filter (is_of scope) entries)
 
 -- those of so many scopes
-abbrev pub rows_by : ℕ → List Entry → List (List KeyPlace)
+abbrev pub rows_by : ℕ → List KeyEntry → List (List KeyPlace)
 rows_by scopes entries = map (λ scope. first_of_each (in_scope scope entries)) (numbers 0 scopes)
 
 -- One entry more
@@ -69,5 +69,5 @@ with_key_at scope one [] = []
 with_key_at zero one (row ∷ rows) = with_key one row ∷ rows
 with_key_at (suc scope) one (row ∷ rows) = row ∷ with_key_at scope one rows
 
-abbrev pub with_entry : ℕ → List (List KeyPlace) → Entry → List (List KeyPlace)
+abbrev pub with_entry : ℕ → List (List KeyPlace) → KeyEntry → List (List KeyPlace)
 with_entry count rows entry = if nat_lt entry.2 count then with_key_at entry.1 (key_place entry) rows else rows

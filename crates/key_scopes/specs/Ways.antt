@@ -3,7 +3,7 @@ use Rattle.std.specs.Prelude.{◌≡◌, ◌+◌, ◌==◌, ◌&&◌, ◌||◌, 
 use Rattle.std.specs.List.{All}
 use Rattle.dita_doc.specs.declared.plan.Scope.{Scope}
 use Rattle.key_scopes.specs.declared.children.ChildName.{ChildName}
-use Rattle.key_scopes.specs.declared.search.Step.{Step}
+use Rattle.key_scopes.specs.declared.search.SearchStep.{SearchStep}
 use Rattle.key_scopes.specs.Children.{all_names}
 use Rattle.map_spec.specs.Scopes.{behind}
 
@@ -13,7 +13,7 @@ pub record Way : Type 0 where
   pub rank : ℕ
   pub rest : List ℕ
 
-abbrev pub way_of : Step → Way
+abbrev pub way_of : SearchStep → Way
 way_of step = record { child = step.child; rank = step.rank; rest = step.rest.now }
 
 -- whether a name of a scope stands behind another

@@ -53,7 +53,7 @@ impl ChildNames {
     pub(crate) fn named(&self, parent: u32, name: &[u8]) -> &[ChildName]
         ensures { (scopes : List Scope)
             → spec.AreChildNames scopes self.now.sorted.items self.now.longest
-            → result.now ≡ spec.named parent name.now (spec.all_names scopes) }
+            → result.now ≡ spec.those_named parent name.now (spec.all_names scopes) }
     {
         named_in(&self.sorted, parent, name)
     }
@@ -78,7 +78,7 @@ fn push_names<'a>(
     child: u32,
 ) -> Result<(), AllocError>
     ensures { OnOk result (spec.names_written written.new.items
-        ≡ spec.names_written written.old.items ++ spec.names_of (scope.now, child)) }
+        ≡ spec.names_written written.old.items ++ spec.child_names_of (scope.now, child)) }
 {
     for (rank, name) in scope.names.as_slice().iter().enumerate() {
         written.push((scope.parent, name.as_str(), child, rank))?;
@@ -124,7 +124,7 @@ fn longest_of(names: &[ChildName]) -> usize
 // Those of this name in this parent.
 fn named_in<'a>(sorted: &'a [ChildName], parent: u32, name: &[u8]) -> &'a [ChildName]
     ensures { IsSorted spec.name_cmp sorted.now
-        → result.now ≡ spec.named parent name.now sorted.now }
+        → result.now ≡ spec.those_named parent name.now sorted.now }
 {
     let first = place_for(sorted, parent, name);
     let rest = names_behind(sorted, first);

@@ -15,7 +15,7 @@ use std::cmp::Ordering;
 
 /// A key that a node defines: the key, the scope, and the level and the place of the node. In this
 /// order a scope's first definition of a key stands before its others.
-pub(crate) type Written<'a> = (&'a str, u32, u32, u32);
+pub(crate) type WrittenKey<'a> = (&'a str, u32, u32, u32);
 
 /// A scope's first definition of a key.
 #[derive(Drop)]
@@ -38,7 +38,7 @@ impl Definitions {
     /// such a level is passed over.
     pub(crate) fn of(
         alloc: Global,
-        written: Vec<Written<'_>>,
+        written: Vec<WrittenKey<'_>>,
         count: usize,
         spans: &Spans,
     ) -> Result<Definitions, AllocError>
@@ -156,7 +156,7 @@ fn push_entry(
     sorted: &mut Vec<Definition>,
     spans: &Spans,
     count: usize,
-    entry: Written<'_>,
+    entry: WrittenKey<'_>,
 ) -> Result<(), AllocError>
     ensures topped { outermost_spec.AreTopped spans.now.ends.items sorted.old.items
         → OnOk result (outermost_spec.AreTopped spans.now.ends.items sorted.new.items) }

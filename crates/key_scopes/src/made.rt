@@ -17,13 +17,13 @@ ghost use Rattle.readers.specs.Only.{TellsOnly};
 ghost use Rattle.readers.specs.Told.{Agrees};
 
 use crate::children::ChildNames;
-use crate::definitions::{Definitions, Written};
+use crate::definitions::{Definitions, WrittenKey};
 use crate::numbering::{Numbering, place_in};
 use crate::own_keys::own_keys;
 use crate::spans::Spans;
 use crate::table::ScopeTable;
 use dita_doc::{Fault, List, NoMemory, PlanNode, Scope};
-use plan_nodes::{Homes, copy_nodes};
+use plan_nodes::{NodeElements, copy_nodes};
 use readers::Reader;
 use std::alloc::{AllocError, Global};
 
@@ -36,7 +36,8 @@ pub struct ScopesMade {
 }
 
 /// The scopes of nodes in preorder, and the keys that are defined in them. The nodes' own field
-/// `scope` is not looked at. The document of each node is asked for, and none of them twice.
+/// `scope` is not looked at, so over the nodes that it gave it gives the same again. The document of
+/// each node is asked for, and none of them twice.
 ///
 /// # Errors
 ///
@@ -51,6 +52,8 @@ pub fn scopes<R: Reader>(
         → IfOk result (λ made. made_spec.AreScopes world nodes.now made) }
     ensures value { preorder_spec.IsTree nodes.now → IfOk result (λ made.
         made_spec.AreScopes (R.stand reader.old).world nodes.now made) }
+    ensures again { preorder_spec.IsTree nodes.now → IfOk result (λ made.
+        made_spec.AreScopes (R.stand reader.old).world made.nodes made) }
     ensures stand { R.stand reader.new ≡ R.stand reader.old }
     ensures founded { StaysFounded (founded_spec.homes nodes.now) (R.told reader.old)
         (R.told reader.new) }
@@ -78,6 +81,8 @@ pub fn into_scopes<R: Reader>(
         → IfOk result (λ made. made_spec.AreScopes world nodes made) }
     ensures value { preorder_spec.IsTree nodes → IfOk result (λ made.
         made_spec.AreScopes (R.stand reader.old).world nodes made) }
+    ensures again { preorder_spec.IsTree nodes → IfOk result (λ made.
+        made_spec.AreScopes (R.stand reader.old).world made.nodes made) }
     ensures stand { R.stand reader.new ≡ R.stand reader.old }
     ensures founded { StaysFounded (founded_spec.homes nodes) (R.told reader.old)
         (R.told reader.new) }
@@ -109,12 +114,16 @@ fn scopes_of<R: Reader>(
         (R.told reader.old) (R.told reader.new)) }
     ensures grows { Grows (R.told reader.old) (R.told reader.new) }
 {
-    let homes = Homes::of(alloc, reader, nodes.as_slice())?;
+    let homes = NodeElements::of(alloc, reader, nodes.as_slice())?;
     scopes_in(alloc, &homes, nodes)
 }
 
 // The scopes of nodes of which the elements are known.
-fn scopes_in(alloc: Global, homes: &Homes, nodes: List<PlanNode>) -> Result<ScopesMade, NoMemory>
+fn scopes_in(
+    alloc: Global,
+    homes: &NodeElements,
+    nodes: List<PlanNode>,
+) -> Result<ScopesMade, NoMemory>
     ensures { (world : World) → homes.now ≡ map (cascade_spec.whole_at world) nodes
         → preorder_spec.IsTree nodes
         → IfOk result (λ made. made_spec.AreScopes world nodes made) }
@@ -137,7 +146,7 @@ fn scopes_in(alloc: Global, homes: &Homes, nodes: List<PlanNode>) -> Result<Scop
 fn table_of(
     alloc: Global,
     scopes: List<Scope>,
-    written: Vec<Written<'_>>,
+    written: Vec<WrittenKey<'_>>,
     count: usize,
 ) -> Result<ScopeTable, NoMemory>
     ensures { IfOk result (λ table. defined_spec.IsTableBy count scopes

@@ -11,10 +11,10 @@ ghost use Rattle.plan_nodes.specs.Home as home_spec;
 ghost use Rattle.plan_nodes.specs.Preorder as preorder_spec;
 ghost use Rattle.reader_spec.specs.World.{World};
 
-use crate::definitions::Written;
+use crate::definitions::WrittenKey;
 use crate::names::Names;
 use dita_doc::{Fault, FaultCode, List, NoMemory, PlanKind, PlanNode, Scope, Text};
-use plan_nodes::{Homes, fault_of, in_tables, place_of};
+use plan_nodes::{NodeElements, fault_of, in_tables, place_of};
 use std::alloc::{AllocError, Global};
 
 /// The scopes, the scope of each node, the keys that are defined, and the faults of names.
@@ -22,7 +22,7 @@ use std::alloc::{AllocError, Global};
 pub(crate) struct Numbering<'a> {
     pub scopes: List<Scope>,
     pub places: Vec<u32>,
-    pub written: Vec<Written<'a>>,
+    pub written: Vec<WrittenKey<'a>>,
     pub faults: List<Fault>,
 }
 
@@ -30,7 +30,7 @@ impl<'a> Numbering<'a> {
     /// Those of nodes in preorder.
     pub(crate) fn of(
         alloc: Global,
-        homes: &'a Homes,
+        homes: &'a NodeElements,
         nodes: &[PlanNode],
     ) -> Result<Numbering<'a>, NoMemory>
         ensures { (world : World) → homes.now ≡ map (cascade_spec.whole_at world) nodes.now
@@ -69,7 +69,7 @@ impl<'a> Numbering<'a> {
     fn put_node(
         &mut self,
         alloc: Global,
-        homes: &'a Homes,
+        homes: &'a NodeElements,
         at: usize,
         node: &PlanNode,
         in_table: bool,
@@ -138,7 +138,7 @@ impl<'a> Numbering<'a> {
     fn define(
         &mut self,
         alloc: Global,
-        homes: &'a Homes,
+        homes: &'a NodeElements,
         at: usize,
         node: &PlanNode,
         scope: u32,
@@ -200,7 +200,7 @@ fn put_faults(
 }
 
 fn put_keys<'a>(
-    written: &mut Vec<Written<'a>>,
+    written: &mut Vec<WrittenKey<'a>>,
     names: &[&'a str],
     scope: u32,
     level: u32,

@@ -4,7 +4,7 @@ ghost use Rattle.std.specs.Prelude.{◌≡◌, [], IfOk, OnOk};
 ghost use Rattle.key_scopes.specs.Numbered as numbered_spec;
 ghost use Rattle.key_scopes.specs.OwnKeys as spec;
 
-use crate::definitions::Written;
+use crate::definitions::WrittenKey;
 use dita_doc::{NoMemory, Text};
 use indexmap::IndexMap;
 use std::alloc::{AllocError, Global};
@@ -16,7 +16,7 @@ pub(crate) type KeyMap = IndexMap<Text, u32>;
 /// count: a key at such a level is passed over.
 pub(crate) fn own_keys(
     alloc: Global,
-    written: &[Written<'_>],
+    written: &[WrittenKey<'_>],
     count: usize,
     scopes: usize,
 ) -> Result<Vec<KeyMap>, NoMemory>
@@ -48,7 +48,7 @@ fn put_entry(
     alloc: Global,
     maps: &mut Vec<KeyMap>,
     count: usize,
-    entry: Written<'_>,
+    entry: WrittenKey<'_>,
 ) -> Result<(), NoMemory>
     ensures { OnOk result (spec.rows_of maps.new.items
         ≡ spec.with_entry count (spec.rows_of maps.old.items)

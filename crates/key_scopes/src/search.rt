@@ -19,13 +19,13 @@ use crate::table::ScopeTable;
 // The way into a scope by one of its names, with which a key begins: the scope, where the name
 // stands among those of the scope, and what is left of the key behind the name and its dot.
 #[derive(Clone, Copy)]
-struct Step<'k> {
+struct SearchStep<'k> {
     child: u32,
     rank: usize,
     rest: &'k [u8],
 }
 
-impl Step<'_> {
+impl SearchStep<'_> {
     // Whether it counts before the way by another name.
     fn is_before(&self, name: &ChildName) -> bool
         ensures order { result ≡ true → spec.step_order self.now < spec.name_order name.now }
@@ -40,7 +40,7 @@ impl Step<'_> {
 /// is not in the table counts as the root scope. It takes no memory.
 pub fn find(table: &ScopeTable, scope: u32, key: &[u8]) -> Option<u32>
     ensures { (world : World) (nodes : List PlanNode) → made_spec.IsTableOf world nodes table.now
-        → result ≡ scopes_spec.found world nodes scope key.now }
+        → result ≡ scopes_spec.definition_found world nodes scope key.now }
 {
     let scope = scope_within(table, scope);
     let own = table.definitions.outermost(&table.spans, scope, key);
@@ -149,15 +149,15 @@ fn next_step<'k>(
     table: &ScopeTable,
     scope: u32,
     key: &'k [u8],
-    after: Option<Step<'_>>,
-) -> Option<Step<'k>>
+    after: Option<SearchStep<'_>>,
+) -> Option<SearchStep<'k>>
     ensures rest { IfSome result (λ step. length step.rest.now < length key.now) }
     ensures behind { IfSome result (λ step. spec.last_order after.entry < spec.step_order step) }
     ensures value { children_spec.AreChildNames table.now.scopes table.now.names table.now.longest
         → option_map ways_spec.way_of result ≡ ways_spec.next_way table.now.scopes scope key.now
         (option_map ways_spec.way_of after.entry) }
 {
-    let mut first: Option<Step<'k>> = None;
+    let mut first: Option<SearchStep<'k>> = None;
     for (dot, byte) in key.iter().enumerate() {
         if dot > table.children.longest {
             break;
@@ -167,7 +167,7 @@ fn next_step<'k>(
         }
         if let Some(name) = name_behind(table.children.named(scope, &key[..dot]), after) {
             if is_earlier(name, first) {
-                first = Some(Step {
+                first = Some(SearchStep {
                     child: name.child,
                     rank: name.rank,
                     rest: &key[dot + 1..],
@@ -179,7 +179,7 @@ fn next_step<'k>(
 }
 
 // Whether no way stands before that by a name.
-fn is_earlier(name: &ChildName, first: Option<Step<'_>>) -> bool
+fn is_earlier(name: &ChildName, first: Option<SearchStep<'_>>) -> bool
     ensures { result
         ≡ ways_spec.is_earlier (option_map ways_spec.way_of first.entry) name.now }
 {
@@ -190,7 +190,7 @@ fn is_earlier(name: &ChildName, first: Option<Step<'_>>) -> bool
 }
 
 // The first of some names in order that stands behind a way.
-fn name_behind<'a>(names: &'a [ChildName], after: Option<Step<'_>>) -> Option<&'a ChildName>
+fn name_behind<'a>(names: &'a [ChildName], after: Option<SearchStep<'_>>) -> Option<&'a ChildName>
     ensures behind { IfSome result (λ name.
         spec.last_order after.entry < spec.name_order name.now) }
     ensures value { ways_spec.AreInTurn names.now → option_copied result ≡ find

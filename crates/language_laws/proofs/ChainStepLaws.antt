@@ -12,7 +12,8 @@ use Rattle.dita_doc.specs.declared.plan.PlanNode.{PlanNode}
 use Rattle.reader_spec.specs.World.{World}
 use Rattle.map_spec.specs.Cascade.{attribute_at}
 use Rattle.map_spec.specs.Keys.{Chain, attribute_of, chain_at, chain_from, key_of, met_again}
-use Rattle.map_spec.specs.Scopes.{found, scope_at}
+use Rattle.map_spec.specs.Scopes.{definition_found, scope_at}
+use Rattle.map_lemmas.proofs.KeyLaws.{AreMet, none_met}
 use Rattle.language_laws.specs.Steps.{ChainIsWhole}
 use Rattle.language_laws.proofs.ChoiceLaws.{both_same, map_or_same}
 
@@ -32,16 +33,6 @@ different_behind at [] distinct new = (tt, tt)
 different_behind at (first ∷ met) distinct new =
     let parts = or_parts (first == at) (list_any (λ other. other == at) met) new in
     (each_differs at met first distinct.0 parts.0, different_behind at met distinct.1 parts.1)
-
--- the definitions that were met: different numbers below a limit
-record AreMet (limit : ℕ) (met : List ℕ) : Type 0 where
-  distinct : IsDistinct eqb met
-  below : (q : ℕ) → list_any (eqb q) met ≡ true → q < limit
-
--- at the start none is met
-none_met : (limit : ℕ) → AreMet limit []
-unfolding IsDistinct
-none_met limit = record { distinct = tt; below = λ q e. absurd (cc) }
 
 -- a number that was met, or the next one, is below the limit
 one_more : (limit at q : ℕ) (met : List ℕ) → AreMet limit met → at < limit
@@ -93,7 +84,8 @@ chain_same zero m world nodes met scope key are first second =
 chain_same (suc n) zero world nodes met scope key are first second =
     absurd (omega (arith, length-le_from_distinct_below met (length nodes) are.distinct are.below))
 chain_same (suc n) (suc m) world nodes met scope key are first second =
-    step_same (chain_from n world nodes) (chain_from m world nodes) world nodes met key (found world nodes scope key)
+    step_same (chain_from n world nodes) (chain_from m world nodes) world nodes met key
+    (definition_found world nodes scope key)
     are (λ more next_scope next are_more long.
     chain_same n m world nodes more next_scope next are_more (omega arith) (omega arith))
 

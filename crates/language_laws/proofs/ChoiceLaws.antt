@@ -1,6 +1,6 @@
 -- Choices between equal things are equal.
 use Rattle.std.specs.Prelude.{◌≡◌, Bool, true, false, Option, Some, None, if◌then◌else◌}
-use Rattle.std.specs.Option.{option_and_then, option_map_or}
+use Rattle.std.specs.Option.{option_map_or}
 use Rattle.std.proofs.Common.{refl}
 
 -- two choices by one test are equal if what they choose is
@@ -14,9 +14,3 @@ pub map_or_same : {X Y : Type 0} (found : Option X) (f g : X → Y) (other : Y) 
     → option_map_or f found other ≡ option_map_or g found other
 map_or_same None f g other same = refl
 map_or_same (Some x) f g other same = same x refl
-
--- the same where the functions may find nothing in turn
-pub and_then_same : {X Y : Type 0} (found : Option X) (f g : X → Option Y) → ((x : X) → found ≡ Some x → f x ≡ g x)
-    → option_and_then f found ≡ option_and_then g found
-and_then_same None f g same = refl
-and_then_same (Some x) f g same = same x refl

@@ -1,11 +1,12 @@
 -- Nodes that no rules exclude: those that filtering keeps, and the copies of branches.
-use Rattle.std.specs.Prelude.{◌≡◌, ◌||◌, ℕ, Bool, true, false, List, [], ◌∷◌, Option, Some, None, codes, if◌then◌else◌}
+use Rattle.std.specs.Prelude.{◌≡◌, ◌||◌, ℕ, Bool, true, false, List, [], Option, Some, None, codes, if◌then◌else◌}
 use Rattle.std.specs.List.{list_any}
 use Rattle.std.specs.Option.{option_map_or, option_to_list}
 use Rattle.std.proofs.Common.{refl, ◌∙◌, ap}
 use Rattle.std.proofs.lemmas.List.Folds.{list_any-append}
 use Rattle.dita_doc.specs.declared.content.Rule.{Rule}
 use Rattle.dita_doc.specs.declared.plan.PlanKind.TheVariants as kinds
+use Rattle.dita_doc.proofs.Lists.{any_never}
 use Rattle.ditaval_rules.specs.declared.rules.RulesRead.{RulesRead}
 use Rattle.reader_spec.specs.World.{World}
 use Rattle.map_spec.specs.Branches.{Branch, Filter, all_marked, copy_below, copy_for, ditaval_in, filter_by, filter_named, filter_of, filter_read, group_for, marked, names_in_copy}
@@ -99,17 +100,12 @@ rules_of_filter world element = rules_by world element (attribute (codes "href")
 
 -- Copies
 
--- where nothing passes, none does
-any_fails : {X : Type 0} (test : X → Bool) → ((x : X) → test x ≡ false) → (xs : List X) → list_any test xs ≡ false
-any_fails test fails [] = refl
-any_fails test fails (x ∷ xs) = ap (λ b. b || list_any test xs) (fails x) ∙ any_fails test fails xs
-
 -- what no rules exclude, no filter excludes
 kept_by_all : (world : World) (rules : List Rule) (head : Head)
     → ((own : List Rule) → is_excluded world own head ≡ false) → IsKept world rules head
 kept_by_all world rules head left = record {
   by_rules = left rules;
-  by_filters = any_fails (is_excluded_in world head) (λ name. by_read (ditaval_in world name)) head.filters;
+  by_filters = any_never (is_excluded_in world head) (λ name. by_read (ditaval_in world name)) head.filters;
 }
   where
     by_read : (found : Option RulesRead)

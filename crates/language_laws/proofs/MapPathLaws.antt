@@ -14,7 +14,7 @@ use Rattle.dita_doc.specs.declared.plan.PlanStop.TheVariants as stops
 use Rattle.reader_spec.specs.World.{World}
 use Rattle.map_spec.specs.Branches.{is_map_node}
 use Rattle.map_spec.specs.Elements.{attribute, is_a, is_transparent}
-use Rattle.map_spec.specs.Included.{Around, if_map, included, included_from, includes_map, is_map, kind_of, limited, map_in, map_included, new_head, nodes_among, nodes_by, nodes_of_element, root_in, root_place, submap_found, submap_named, submap_of}
+use Rattle.map_spec.specs.Included.{MapAround, if_map, included, included_from, includes_map, is_map, kind_of, limited, map_in, map_included, new_head, nodes_among, nodes_by, nodes_of_element, root_in, root_place, submap_found, submap_named, submap_of}
 use Rattle.map_spec.specs.MapTree.{Grown, Head, MapTree, NoNodes, MapNode, count, trees_beside}
 use Rattle.map_spec.specs.Target.{Named, Document, Elsewhere, Unreadable, named_of}
 use Rattle.map_spec.specs.Written.{Element, Whole, Written, End, Chars, Node, first_sibling, size, written_in}
@@ -90,8 +90,8 @@ kind_no_map element =
 module _ (submap : Element → Grown) (names : List (List ℕ))
     (fits : (element : Element) → HasNoCycle names (submap element).tree) where
   -- the node that an element makes
-  kind_fits : (kind : Option PlanKind) (around : Around) (place : ℕ) (element : Element) (below : Around → Grown)
-      → IfSome kind (λ made. is_map_node made ≡ false) → ((inner : Around) → HasNoCycle names (below inner).tree)
+  kind_fits : (kind : Option PlanKind) (around : MapAround) (place : ℕ) (element : Element) (below : MapAround → Grown)
+      → IfSome kind (λ made. is_map_node made ≡ false) → ((inner : MapAround) → HasNoCycle names (below inner).tree)
       → HasNoCycle names (nodes_by submap kind around place element below).tree
   kind_fits None around place element below no_map below_fits = tt
   kind_fits (Some kind) around place element below no_map below_fits =
@@ -101,8 +101,8 @@ module _ (submap : Element → Grown) (names : List (List ℕ))
       (λ e. other_node names (new_head kind element around.level place) _ no_map (below_fits _))
 
   -- what stands for an element, be it transparent, passed over or a node
-  element_fits : (around : Around) (place : ℕ) (element : Element) (below : Around → Grown)
-      → ((inner : Around) → HasNoCycle names (below inner).tree)
+  element_fits : (around : MapAround) (place : ℕ) (element : Element) (below : MapAround → Grown)
+      → ((inner : MapAround) → HasNoCycle names (below inner).tree)
       → HasNoCycle names (nodes_of_element submap around place element below).tree
   element_fits around place element below below_fits =
       cond_both (is_transparent element) _ _ (λ (grown : Grown). HasNoCycle names grown.tree)
@@ -110,12 +110,12 @@ module _ (submap : Element → Grown) (names : List (List ℕ))
       (λ e. kind_fits (kind_of element) around place element below (kind_no_map element) below_fits)
 
   -- what stands for all of a map's content
-  among_fits : (around : Around) (place : ℕ) (nodes : Written)
+  among_fits : (around : MapAround) (place : ℕ) (nodes : Written)
       → HasNoCycle names (nodes_among submap around place nodes).tree
   among_fits around place End = tt
   among_fits around place (Chars text doc rest) = among_fits around (place + 1) rest
   among_fits around place (Node element inside rest) =
-      let below : Around → Grown = λ inner. nodes_among submap inner (place + 1) inside in
+      let below : MapAround → Grown = λ inner. nodes_among submap inner (place + 1) inside in
       beside_fits names _ _ (element_fits around place element below (λ inner. among_fits inner (place + 1) inside))
       (among_fits around (place + 1 + size inside) rest)
 

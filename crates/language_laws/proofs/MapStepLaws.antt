@@ -8,7 +8,7 @@ use Rattle.dita_doc.specs.declared.plan.PlanKind.{PlanKind}
 use Rattle.dita_doc.specs.declared.plan.PlanKind.TheVariants as kinds
 use Rattle.reader_spec.specs.World.{World}
 use Rattle.map_spec.specs.Elements.{attribute, class_faults, is_transparent}
-use Rattle.map_spec.specs.Included.{Around, around_below, fault_alone, ignored_references, includes_map, kind_of, limited, map_in, map_included, new_head, nodes_among, nodes_by, nodes_of_element, root_place, submap_found, submap_named, submap_of}
+use Rattle.map_spec.specs.Included.{MapAround, around_below, fault_alone, ignored_references, includes_map, kind_of, limited, map_in, map_included, new_head, nodes_among, nodes_by, nodes_of_element, root_place, submap_found, submap_named, submap_of}
 use Rattle.map_spec.specs.MapTree.{Grown, MapTree, NoNodes, MapNode, beneath, beside, count, trees_beside, with_faults}
 use Rattle.map_spec.specs.Target.{Named, Document, Elsewhere, Unreadable, named_of}
 use Rattle.map_spec.specs.Written.{Element, Whole, Written, End, Chars, Node, size}
@@ -31,9 +31,9 @@ choice_same limit false x y z w few first second = second few
 module _ (limit : ℕ) (submap other : Element → Grown)
     (same : (element : Element) → count (submap element).tree < limit → submap element ≡ other element) where
   -- the node that an element makes
-  kind_same : (kind : Option PlanKind) (around : Around) (place : ℕ) (element : Element)
-      (below below_too : Around → Grown)
-      → ((inner : Around) → count (below inner).tree < limit → below inner ≡ below_too inner)
+  kind_same : (kind : Option PlanKind) (around : MapAround) (place : ℕ) (element : Element)
+      (below below_too : MapAround → Grown)
+      → ((inner : MapAround) → count (below inner).tree < limit → below inner ≡ below_too inner)
       → count (nodes_by submap kind around place element below).tree < limit
       → nodes_by submap kind around place element below ≡ nodes_by other kind around place element below_too
   kind_same None around place element below below_too below_same few = refl
@@ -50,8 +50,8 @@ module _ (limit : ℕ) (submap other : Element → Grown)
       (λ less. ap (beneath own) (below_same inner (omega arith))))
 
   -- what stands for an element, be it transparent, passed over or a node
-  element_same : (around : Around) (place : ℕ) (element : Element) (below below_too : Around → Grown)
-      → ((inner : Around) → count (below inner).tree < limit → below inner ≡ below_too inner)
+  element_same : (around : MapAround) (place : ℕ) (element : Element) (below below_too : MapAround → Grown)
+      → ((inner : MapAround) → count (below inner).tree < limit → below inner ≡ below_too inner)
       → count (nodes_of_element submap around place element below).tree < limit
       → nodes_of_element submap around place element below ≡ nodes_of_element other around place element below_too
   element_same around place element below below_too below_same few =
@@ -61,13 +61,13 @@ module _ (limit : ℕ) (submap other : Element → Grown)
       (kind_same (kind_of element) around place element below below_too below_same)
 
   -- what stands for all of a map's content
-  among_same : (around : Around) (place : ℕ) (nodes : Written)
+  among_same : (around : MapAround) (place : ℕ) (nodes : Written)
       → count (nodes_among submap around place nodes).tree < limit
       → nodes_among submap around place nodes ≡ nodes_among other around place nodes
   among_same around place End few = refl
   among_same around place (Chars text doc rest) few = among_same around (place + 1) rest few
   among_same around place (Node element inside rest) few =
-      let below : Around → Grown = λ inner. nodes_among submap inner (place + 1) inside in
+      let below : MapAround → Grown = λ inner. nodes_among submap inner (place + 1) inside in
       let first = nodes_of_element submap around place element below in
       let more = nodes_among submap around (place + 1 + size inside) rest in
       let both = count_beside first.tree more.tree in

@@ -1,30 +1,22 @@
 -- Following references keeps paths: what an element takes, and each range behind it, stand within a longer path.
-use Rattle.std.specs.Prelude.{◌≡◌, ◌<◌, ◌&&◌, ◌||◌, ◌==◌, ℕ, zero, suc, Bool, true, false, List, [], ◌∷◌, ◌++◌, Option, Some, None, All, length, nat_le, nat_lt, not, is_some, unwrap_or, codes, bytes_eq, if◌then◌else◌}
+use Rattle.std.specs.Prelude.{◌≡◌, ◌<◌, ◌||◌, ℕ, zero, suc, Bool, true, false, List, [], ◌∷◌, ◌++◌, Option, Some, None, All, length, nat_le, nat_lt, not, is_some, unwrap_or, codes, if◌then◌else◌, ◌&&◌}
 use Rattle.std.specs.List.{list_any}
-use Rattle.std.proofs.Common.{refl, sym, ap, ap₂, ◌∙◌, append_assoc, arith, length-append}
+use Rattle.std.proofs.Common.{refl, ap, ap₂, ◌∙◌, append_assoc, arith, length-append}
 use Rattle.std.proofs.lemmas.Bool.{cond_both, leb-false, or_from, or_parts}
-use Rattle.std.proofs.lemmas.Bool.Decides.{Decides-eqb, Decides-like, same_from_decides}
 use Rattle.std.proofs.lemmas.List.{length_push}
 use Rattle.std.proofs.lemmas.List.Elements.{All-append, All-cons, All-nil, All-weaker}
 use Rattle.std.proofs.lemmas.List.Folds.{list_any-append}
-use Rattle.std.proofs.lemmas.Slice.Eq.{bytes_eq-Decides}
 use Rattle.dita_doc.specs.declared.fault.Fault.{Fault}
 use Rattle.dita_doc.specs.declared.fault.FaultCode.TheVariants as faults
+use Rattle.dita_doc.proofs.Tests.{number_swaps, text_swaps}
 use Rattle.map_spec.specs.Elements.{attribute, fault_at, is_special}
 use Rattle.map_spec.specs.Written.{Element, Written, End, Chars, Node}
-use Rattle.conref_spec.specs.Content.{Followed, Found, Place, Setting, Sought, followed_from, followed_to, found_by, has_reference, is_place, depth_limit, path_limit, range_behind, range_by, refused_by, sought_by, taken, taken_or, unchanged, value_used, key_faults}
+use Rattle.conref_spec.specs.Content.{Followed, Found, Place, ResolveInput, Sought, followed_from, followed_to, found_by, has_reference, is_place, resolve_depth_limit, path_limit, range_behind, range_by, refused_by, sought_by, taken, taken_or, unchanged, value_used, conkeyref_faults}
 use Rattle.language_laws.specs.Paths.{AreDistinct, GoesOn, GoesOnIf, HasPaths, IsPath, IsRangeFrom}
 
 -- Places
 
--- a test of two texts, of two numbers or of two places has no order
-text_swaps : (text other : List ℕ) → bytes_eq text other ≡ bytes_eq other text
-text_swaps text other =
-    same_from_decides _ _ (bytes_eq-Decides text other) (Decides-like _ sym sym (bytes_eq-Decides other text))
-
-number_swaps : (n m : ℕ) → (n == m) ≡ (m == n)
-number_swaps n m = same_from_decides _ _ (Decides-eqb n m) (Decides-like _ sym sym (Decides-eqb m n))
-
+-- a test of two places has no order
 place_swaps : (place other : Place) → is_place place other ≡ is_place other place
 place_swaps place other = ap₂ ◌&&◌ (text_swaps place.doc other.doc) (number_swaps place.at other.at)
 
@@ -64,10 +56,10 @@ not_refused value depth path element target passed =
     let no_range = not (is_some (range_by target.standing (attribute (codes "conrefend") element))) in
     let end = unwrap_or (attribute (codes "conrefend") element) [] in
     let tests = tests_passed other_type no_range (list_any (is_place (place_of target)) path)
-    (nat_le path_limit (length path) || nat_lt depth_limit depth) (fault_at element faults.ConrefType value)
+    (nat_le path_limit (length path) || nat_lt resolve_depth_limit depth) (fault_at element faults.ConrefType value)
     (fault_at element faults.RangeEnd end) (fault_at element faults.ConrefCycle value)
     (fault_at element faults.ConrefDepth value) passed in
-    (tests.0, leb-false _ _ (or_parts _ (nat_lt depth_limit depth) tests.1).0)
+    (tests.0, leb-false _ _ (or_parts _ (nat_lt resolve_depth_limit depth) tests.1).0)
 
 -- Going on
 
@@ -142,16 +134,18 @@ or_refused follow value depth path element inside before target None follows is 
     (follows longer target.standing.whole.0 target.standing.whole.1 goes_on)
 
 -- a reference, whether its target was found or not
-to_target : (follow : List Place → Element → Written → Followed) (setting : Setting) (depth : ℕ) (path : List Place)
+to_target : (follow : List Place → Element → Written → Followed) (setting : ResolveInput) (depth : ℕ)
+    (path : List Place)
     (element : Element) (inside : Written) (sought : Sought) (found : Option Found) → Follows follow → IsPath path
     → HasPaths path (followed_to follow setting depth path element inside sought found)
 to_target follow setting depth path element inside sought None follows is = left_unchanged path element inside _ is
 to_target follow setting depth path element inside sought (Some target) follows is =
-    or_refused follow (value_used setting sought) depth path element inside (key_faults setting sought.conkeyref) target
+    or_refused follow (value_used setting sought) depth path element inside
+    (conkeyref_faults setting sought.conkeyref) target
     _ follows is refl
 
 -- all that following gives stands within paths, with any number of steps
-pub follows_from : (steps : ℕ) (setting : Setting) (topic : List ℕ) (depth : ℕ)
+pub follows_from : (steps : ℕ) (setting : ResolveInput) (topic : List ℕ) (depth : ℕ)
     → Follows (followed_from steps setting topic depth)
 unfolding followed_from
 follows_from zero setting topic depth path element inside is = left_unchanged path element inside [] is

@@ -20,6 +20,7 @@ use Rattle.language_laws.specs.PlanTree.{IsPlanTree}
 use Rattle.language_laws.proofs.AlikeLaws.{tree_alike, finished_alike}
 use Rattle.language_laws.proofs.CopyLaws.{IsMapTree, copied_map, filtered_map}
 use Rattle.build_plan.proofs.IncludedLaws.{HasNoFilters, included_new}
+use Rattle.build_plan.proofs.PlanPagesLaws.{if_done}
 use Rattle.language_laws.proofs.KeptLaws.{IsKept}
 use Rattle.language_laws.proofs.TreeLaws.{root_tree}
 
@@ -36,12 +37,6 @@ then_done : {X Y : Type 0} (step : Result X PlanStop) (next : X → Result Y Pla
     → then_plan step next ≡ Ok y → IsDone step next y
 then_done (Ok x) next y e = record { value = x; done = refl; after = e }
 then_done (Err stop) next y e = absurd cc
-
--- a test that is passed
-if_done : {X : Type 0} (b : Bool) (step : Result X PlanStop) (stop : PlanStop) (x : X)
-    → (if b then step else Err stop) ≡ Ok x → step ≡ Ok x
-if_done true step stop x e = e
-if_done false step stop x e = absurd cc
 
 -- the value that passes a test
 value_done : {X : Type 0} (b : Bool) (x y : X) (stop : PlanStop) → (if b then Ok x else Err stop) ≡ Ok y → x ≡ y

@@ -6,7 +6,7 @@ use Rattle.std.proofs.lemmas.List.Elements.{All-head, All-tail}
 use Rattle.dita_doc.specs.declared.fault.Fault.{Fault}
 use Rattle.map_spec.specs.Judged.{group_faults}
 use Rattle.map_spec.specs.Written.{Element, Written, End, Chars, Node}
-use Rattle.conref_spec.specs.Content.{Around, Followed, Found, Made, Place, Range, Resolve, Setting, Sought, around_for, declared_there, element_made, element_resolved, followed, followed_from, followed_to, found_by, goes, has_reference, key_faults, made_beside, made_of, made_with, nothing_made, path_limit, ranges_made, refused_by, resolved_among, resolved_from, sought_by, taken, taken_or, text_made, around_within, unchanged, value_used}
+use Rattle.conref_spec.specs.Content.{ContentAround, Followed, Found, Made, Place, Range, Resolve, ResolveInput, Sought, around_for, declared_there, element_made, element_resolved, followed, followed_from, followed_to, found_by, goes, has_reference, conkeyref_faults, made_beside, made_of, made_with, nothing_made, path_limit, ranges_made, refused_by, resolved_among, resolved_from, sought_by, taken, taken_or, text_made, around_within, unchanged, value_used}
 use Rattle.language_laws.specs.Paths.{GoesOnIf, HasPaths, IsPath, IsRangeFrom}
 use Rattle.language_laws.specs.Steps.{FollowedIsWhole, ResolvedIsWhole}
 use Rattle.language_laws.proofs.ChoiceLaws.{both_same}
@@ -36,17 +36,17 @@ or_refused_same follow other value depth path element inside before target None 
     (same longer target.standing.whole.0 target.standing.whole.1 (omega (arith, passed.1)) more)
 
 -- a reference gives the same by two functions that follow alike
-to_target_same : (follow other : List Place → Element → Written → Followed) (setting : Setting) (depth : ℕ)
+to_target_same : (follow other : List Place → Element → Written → Followed) (setting : ResolveInput) (depth : ℕ)
     (path : List Place) (element : Element) (inside : Written) (sought : Sought) (found : Option Found)
     → FollowAlike path follow other → followed_to follow setting depth path element inside sought found
     ≡ followed_to other setting depth path element inside sought found
 to_target_same follow other setting depth path element inside sought None same = refl
 to_target_same follow other setting depth path element inside sought (Some target) same =
     or_refused_same follow other (value_used setting sought) depth path element inside
-    (key_faults setting sought.conkeyref) target _ same refl
+    (conkeyref_faults setting sought.conkeyref) target _ same refl
 
 -- two ways of following are one if each has a step, and more steps than targets are left to the limit
-followed_same : (n m : ℕ) (setting : Setting) (topic : List ℕ) (depth : ℕ) (path : List Place) (element : Element)
+followed_same : (n m : ℕ) (setting : ResolveInput) (topic : List ℕ) (depth : ℕ) (path : List Place) (element : Element)
     (inside : Written) → 0 < n → 0 < m → path_limit < n + length path → path_limit < m + length path
     → followed_from n setting topic depth path element inside ≡ followed_from m setting topic depth path element inside
 unfolding followed_from
@@ -69,7 +69,7 @@ followed_is_whole setting topic depth more path element inside =
 
 -- two functions resolve nodes alike within longer paths
 abbrev ResolveAlike : List Place → Resolve → Resolve → Type 0
-ResolveAlike path resolve other = (is_range : Bool) (around : Around) (depth : ℕ) (longer : List Place) (nodes : Written)
+ResolveAlike path resolve other = (is_range : Bool) (around : ContentAround) (depth : ℕ) (longer : List Place) (nodes : Written)
     → IsPath longer → length path < length longer
     → resolve is_range around depth longer nodes ≡ other is_range around depth longer nodes
 
@@ -80,7 +80,7 @@ taken_longer true path found on has = on_longer path found on
 taken_longer false path found on has = absurd (cc)
 
 -- ranges within longer paths are made alike by two functions that resolve alike
-ranges_same : (resolve other : Resolve) (around : Around) (depth : ℕ) (path : List Place) (ranges : List Range)
+ranges_same : (resolve other : Resolve) (around : ContentAround) (depth : ℕ) (path : List Place) (ranges : List Range)
     → ResolveAlike path resolve other → All (IsRangeFrom path) ranges
     → ranges_made resolve around depth ranges ≡ ranges_made other around depth ranges
 ranges_same resolve other around depth path [] same from = refl
@@ -90,9 +90,9 @@ ranges_same resolve other around depth path (range ∷ ranges) same from =
     (ranges_same resolve other around depth path ranges same (All-tail (IsRangeFrom path) range ranges from))
 
 -- so is what an element takes, or its own content where it takes nothing
-made_same : (resolve other : Resolve) (setting : Setting) (is_range : Bool) (around : Around) (depth : ℕ)
-    (path : List Place) (own own_too : Around → Made) (found : Followed) → ResolveAlike path resolve other
-    → HasPaths path found → ((here : Around) → own here ≡ own_too here)
+made_same : (resolve other : Resolve) (setting : ResolveInput) (is_range : Bool) (around : ContentAround) (depth : ℕ)
+    (path : List Place) (own own_too : ContentAround → Made) (found : Followed) → ResolveAlike path resolve other
+    → HasPaths path found → ((here : ContentAround) → own here ≡ own_too here)
     → made_of resolve setting is_range around depth own found ≡ made_of other setting is_range around depth own_too found
 made_same resolve other setting is_range around depth path own own_too found same follows own_same =
     both_same found.has_taken _ _ _ _
@@ -105,9 +105,9 @@ made_same resolve other setting is_range around depth path own own_too found sam
     (own_same (around_within is_range found.element around)))
 
 -- so is a whole element
-element_same : (resolve other : Resolve) (setting : Setting) (is_range : Bool) (around : Around) (depth : ℕ)
-    (path : List Place) (element : Element) (inside : Written) (own own_too : Around → Made)
-    → ResolveAlike path resolve other → IsPath path → ((here : Around) → own here ≡ own_too here)
+element_same : (resolve other : Resolve) (setting : ResolveInput) (is_range : Bool) (around : ContentAround) (depth : ℕ)
+    (path : List Place) (element : Element) (inside : Written) (own own_too : ContentAround → Made)
+    → ResolveAlike path resolve other → IsPath path → ((here : ContentAround) → own here ≡ own_too here)
     → element_resolved resolve setting is_range around depth path element inside own
     ≡ element_resolved other setting is_range around depth path element inside own_too
 element_same resolve other setting is_range around depth path element inside own own_too same is own_same =
@@ -120,7 +120,7 @@ element_same resolve other setting is_range around depth path element inside own
     (ranges_same resolve other around depth path found.ranges same follows.ranges))
 
 -- so are nodes
-among_same : (resolve other : Resolve) (setting : Setting) (is_range : Bool) (around : Around) (depth : ℕ)
+among_same : (resolve other : Resolve) (setting : ResolveInput) (is_range : Bool) (around : ContentAround) (depth : ℕ)
     (path : List Place) (nodes : Written) → ResolveAlike path resolve other → IsPath path
     → resolved_among resolve setting is_range around depth path nodes
     ≡ resolved_among other setting is_range around depth path nodes
@@ -133,7 +133,8 @@ among_same resolve other setting is_range around depth path (Node element inside
     (among_same resolve other setting is_range around depth path rest same is)
 
 -- two ways of resolving are one if each has more steps than targets are left to the limit
-resolved_same : (n m : ℕ) (setting : Setting) (is_range : Bool) (around : Around) (depth : ℕ) (path : List Place)
+resolved_same : (n m : ℕ) (setting : ResolveInput) (is_range : Bool) (around : ContentAround) (depth : ℕ)
+    (path : List Place)
     (nodes : Written) → IsPath path → path_limit < n + length path → path_limit < m + length path
     → resolved_from n setting is_range around depth path nodes ≡ resolved_from m setting is_range around depth path nodes
 unfolding resolved_from

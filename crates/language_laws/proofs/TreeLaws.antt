@@ -1,19 +1,11 @@
 -- The nodes of a tree as a list: where their parents stand, and where they end.
 use Rattle.std.specs.Prelude.{◌≡◌, ◌+◌, ◌-◌, ◌<◌, ◌≤◌, ℕ, zero, suc, List, [], ◌++◌, Some, IfSome, length, slice_get}
-use Rattle.std.proofs.Common.{refl, sym, ◌∙◌, subst, arith, append-nil, length-append}
+use Rattle.std.proofs.Common.{refl, sym, ◌∙◌, subst, arith, append-nil}
 use Rattle.dita_doc.specs.declared.plan.PlanNode.{PlanNode}
 use Rattle.map_spec.specs.MapTree.{Head, MapTree, NoNodes, MapNode, count, node_of, nodes_below, plan_nodes}
+use Rattle.map_lemmas.proofs.TreeLaws.{length_below}
 use Rattle.language_laws.specs.PlanTree.{IsPlanTree, StandsBelow}
 use Rattle.language_laws.proofs.ListLaws.{AllFrom, Stands, at_place, of_both, of_front, of_back, weaker, stands_itself, where_it_stands}
-
--- as many as the tree has
-pub length_nodes : (parent place : ℕ) (tree : MapTree) → length (nodes_below parent place tree) ≡ count tree
-length_nodes parent place NoNodes = refl
-length_nodes parent place (MapNode head below more) =
-    let end = place + 1 + count below in
-    let within = length_nodes place (place + 1) below in
-    let behind = length_nodes parent end more in
-    omega (arith, length-append (nodes_below place (place + 1) below) (nodes_below parent end more))
 
 -- of the nodes below one, and of those behind it
 pub node_with : (P : ℕ → PlanNode → Type 0) (parent place : ℕ) (below more : MapTree)
@@ -24,7 +16,7 @@ pub node_with : (P : ℕ → PlanNode → Type 0) (parent place : ℕ) (below mo
 node_with P parent place below more inside behind =
     let others = nodes_below parent (place + 1 + count below) more in
     of_both P (place + 1) (nodes_below place (place + 1) below) others inside
-    (subst (λ n. AllFrom P (place + 1 + n) others) (sym (length_nodes place (place + 1) below)) behind)
+    (subst (λ n. AllFrom P (place + 1 + n) others) (sym (length_below place (place + 1) below)) behind)
 
 -- of the nodes behind one, from all
 node_behind : (P : ℕ → PlanNode → Type 0) (parent place : ℕ) (below more : MapTree)
@@ -33,7 +25,7 @@ node_behind : (P : ℕ → PlanNode → Type 0) (parent place : ℕ) (below more
     → AllFrom P (place + 1 + count below) (nodes_below parent (place + 1 + count below) more)
 node_behind P parent place below more all =
     let others = nodes_below parent (place + 1 + count below) more in
-    subst (λ n. AllFrom P (place + 1 + n) others) (length_nodes place (place + 1) below)
+    subst (λ n. AllFrom P (place + 1 + n) others) (length_below place (place + 1) below)
     (of_back P (place + 1) (nodes_below place (place + 1) below) others all)
 
 -- a node's parent stands before it, and not before `parent`; its end is behind it, and not behind `last`
@@ -104,7 +96,7 @@ hold_inside all place below stand other inside after before is =
     let last = place + 1 + count below in
     let k = other - (place + 1) in
     let there : other ≡ place + 1 + k = omega arith in
-    let few : k < length nodes = omega (arith, length_nodes place (place + 1) below) in
+    let few : k < length nodes = omega (arith, length_below place (place + 1) below) in
     (where_it_stands (Spans place last) all (place + 1) nodes stand
     (span_nodes place (place + 1) last below (omega arith) (omega arith)) k inside few
     (subst (λ at. slice_get all at ≡ Some inside) there is)).from
@@ -128,7 +120,7 @@ hold_nodes all parent place (MapNode head below more) stand =
 module _ (head : Head) (below : MapTree) where
   -- the root ends at the end
   root_length : length (plan_nodes (MapNode head below NoNodes)) ≡ 0 + 1 + count below
-  root_length = length_nodes 0 0 (MapNode head below NoNodes) ∙ omega arith
+  root_length = length_below 0 0 (MapNode head below NoNodes) ∙ omega arith
 
   -- where each other node stands
   stands_below : (at : ℕ) (node : PlanNode) → 0 < at

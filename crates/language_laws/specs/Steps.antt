@@ -7,9 +7,9 @@ use Rattle.map_spec.specs.Cascade.{places_up, steps_up}
 use Rattle.map_spec.specs.Included.{limited, map_included}
 use Rattle.map_spec.specs.Keys.{chain, chain_from}
 use Rattle.map_spec.specs.Pages.{free_from}
-use Rattle.map_spec.specs.Scopes.{found, found_from, qualified}
+use Rattle.map_spec.specs.Scopes.{definition_found, found_from, qualified}
 use Rattle.map_spec.specs.Written.{Element, Whole, Written}
-use Rattle.conref_spec.specs.Content.{Around, Place, Setting, followed_from, path_limit, resolved_from}
+use Rattle.conref_spec.specs.Content.{ContentAround, Place, ResolveInput, followed_from, path_limit, resolved_from}
 use Rattle.html_spec.specs.Contents.{items, items_from}
 
 -- a map with its submaps within a limit, or that it has too many nodes
@@ -33,7 +33,7 @@ QualifiedIsWhole = (world : World) (nodes : List PlanNode) (scope more : ℕ) (k
 -- the search of a scope and of those around it
 abbrev pub FoundIsWhole : Type 0
 FoundIsWhole = (world : World) (nodes : List PlanNode) (scope more : ℕ) (key : List ℕ) → HasParentsBefore nodes
-    → found_from (scope + more) world nodes scope key ≡ found world nodes scope key
+    → found_from (scope + more) world nodes scope key ≡ definition_found world nodes scope key
 
 -- the first free name of a page
 abbrev pub FreeIsWhole : Type 0
@@ -50,12 +50,12 @@ ChainIsWhole = (world : World) (nodes : List PlanNode) (scope more : ℕ) (key :
     → chain_from (length nodes + 1 + more) world nodes [] scope key ≡ chain world nodes scope key
 
 abbrev pub FollowedIsWhole : Type 0
-FollowedIsWhole = (setting : Setting) (topic : List ℕ) (depth more : ℕ) (path : List Place) (element : Element)
+FollowedIsWhole = (setting : ResolveInput) (topic : List ℕ) (depth more : ℕ) (path : List Place) (element : Element)
     (inside : Written)
     → followed_from (path_limit + 1 + more) setting topic depth path element inside
     ≡ followed_from (path_limit + 1) setting topic depth path element inside
 
 abbrev pub ResolvedIsWhole : Type 0
-ResolvedIsWhole = (setting : Setting) (around : Around) (depth more : ℕ) (nodes : Written)
+ResolvedIsWhole = (setting : ResolveInput) (around : ContentAround) (depth more : ℕ) (nodes : Written)
     → resolved_from (path_limit + 1 + more) setting false around depth [] nodes
     ≡ resolved_from (path_limit + 1) setting false around depth [] nodes

@@ -56,7 +56,7 @@ pub fn paths_have_no_cycle()
     ensures maps { (limit : ℕ) (world : World) (map : List ℕ) (grown : Grown) →
         included_spec.included limit world map ≡ Ok grown →
         paths_spec.HasNoCycle [] grown.tree }
-    ensures targets { (setting : content_spec.Setting) (topic : List ℕ) (depth : ℕ)
+    ensures targets { (setting : content_spec.ResolveInput) (topic : List ℕ) (depth : ℕ)
         (path : List content_spec.Place) (element : Element) (inside : Written) →
         paths_spec.IsPath path → paths_spec.HasPaths path
         (content_spec.followed setting topic depth path element inside) }

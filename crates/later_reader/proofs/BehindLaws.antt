@@ -1,12 +1,13 @@
 -- What a call tells with what was told before behind it: what is claimed of the call stays so.
-use Rattle.std.proofs.Common.{◌≡◌, ◌||◌, ℕ, List, [], ◌∷◌, ◌++◌, IsTrue, Result, Ok, Err, IfOk, refl, sym, ap, subst, ◌∙◌, bytes_eq, append_assoc}
-use Rattle.std.proofs.Math.Bool.{or_assoc}
+use Rattle.std.proofs.Common.{◌≡◌, ◌||◌, ℕ, List, [], ◌∷◌, ◌++◌, IsTrue, Result, Ok, Err, IfOk, refl, sym, ap, subst, ◌∙◌, append_assoc}
 use Rattle.std.proofs.Math.Logic.{∥∥₁_elim}
 use Rattle.dita_doc.specs.declared.stop.NoMemory.{NoMemory}
 use Rattle.reader_spec.specs.World.{World}
 use Rattle.readers.specs.Documents.{AskedBy, AsksOnly, Follows, MayAsk, may_ask}
 use Rattle.readers.specs.Founded.{AreAllowed, Grows, IsFounded, StaysFounded, is_allowed, is_among, names_given}
 use Rattle.readers.specs.Told.{Told, Agrees}
+use Rattle.readers.proofs.DocumentLaws.{reach}
+use Rattle.readers.proofs.FoundedLaws.{among_append}
 
 -- a world that agrees with the whole agrees with both
 pub agrees_apart : (world : World) (ts before : List Told) → Agrees world (ts ++ before)
@@ -27,16 +28,6 @@ grows_behind old new before grows = record {
       ∣ (p.0, ap (λ ts. ts ++ before) p.1 ∙ append_assoc p.0 old before) ∣₁);
 }
 
--- the roots, and all that follows from what was told
-abbrev reach : Follows → List (List ℕ) → List Told → List (List ℕ)
-reach follows roots [] = roots
-reach follows roots (t ∷ ts) = follows t ++ reach follows roots ts
-
-among_either : (xs ys : List (List ℕ)) (m : List ℕ) → is_among (xs ++ ys) m ≡ is_among xs m || is_among ys m
-among_either [] ys m = refl
-among_either (x ∷ xs) ys m = ap (λ b. bytes_eq x m || b) (among_either xs ys m)
-    ∙ sym (or_assoc (bytes_eq x m) (is_among xs m) (is_among ys m))
-
 -- Of names that may be asked about: those that were allowed before are the roots of what is told later
 
 module _ (roots : List (List ℕ)) where
@@ -45,7 +36,7 @@ module _ (roots : List (List ℕ)) where
 
   reach_allowed : (before : List Told) (m : List ℕ) → is_among (given before) m ≡ is_allowed roots before m
   reach_allowed [] m = refl
-  reach_allowed (t ∷ before) m = among_either (names_given t) (given before) m
+  reach_allowed (t ∷ before) m = among_append (names_given t) (given before) m
       ∙ ap (λ b. is_among (names_given t) m || b) (reach_allowed before m)
 
   allowed_same : (ts before : List Told) (m : List ℕ)
@@ -88,7 +79,7 @@ stays_behind names old new before stays = record {
 module _ (rule : Follows) (roots : List (List ℕ)) where
   reach_may : (before : List Told) (m : List ℕ) → is_among (reach rule roots before) m ≡ may_ask rule roots before m
   reach_may [] m = refl
-  reach_may (t ∷ before) m = among_either (rule t) (reach rule roots before) m
+  reach_may (t ∷ before) m = among_append (rule t) (reach rule roots before) m
       ∙ ap (λ b. is_among (rule t) m || b) (reach_may before m)
 
   may_same : (ts before : List Told) (m : List ℕ)

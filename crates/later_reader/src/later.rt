@@ -4,7 +4,7 @@ ghost use Rattle.readers.specs.Props.{Agrees-prop};
 ghost use Rattle.readers.specs.Told.{Agrees};
 
 use dita_doc::{Doc, DocKind, Name, NoMemory, Text};
-use readers::{Reader, Since, Titles};
+use readers::{LogStart, Reader, Titles};
 use std::alloc::Global;
 use std::marker::PhantomData;
 use std::sync::Arc;
@@ -13,14 +13,14 @@ use std::sync::Arc;
 ///
 /// `agreed` says that the world of the reader below gives each answer that was told before.
 #[derive(Drop)]
-pub struct LaterReader<'r, T: Titles, S: Since> {
+pub struct LaterReader<'r, T: Titles, S: LogStart> {
     pub lower: &'r mut T,
     pub since: PhantomData<S>,
     pub ghost agreed: { Agrees (T.stand lower.now).world S.told } by { Agrees-prop
         (T.stand lower.now).world S.told },
 }
 
-impl<'r, T: Titles, S: Since> Reader for LaterReader<'r, T, S> {
+impl<'r, T: Titles, S: LogStart> Reader for LaterReader<'r, T, S> {
     ghost use Rattle.std.specs.Prelude.{◌∷◌, ◌++◌};
     ghost use Rattle.later_reader.specs.Behind.{agrees_both};
 
@@ -38,7 +38,7 @@ impl<'r, T: Titles, S: Since> Reader for LaterReader<'r, T, S> {
     }
 }
 
-impl<'r, T: Titles, S: Since> Titles for LaterReader<'r, T, S> {
+impl<'r, T: Titles, S: LogStart> Titles for LaterReader<'r, T, S> {
     fn kind(&mut self, alloc: Global, name: &Name) -> Result<DocKind, NoMemory> {
         self.lower.kind(alloc, name)
     }

@@ -14,6 +14,9 @@ use Rattle.dita_doc.specs.declared.content.LinkKind.{LinkKind}
 use Rattle.dita_doc.specs.declared.content.PageLink.{PageLink}
 use Rattle.dita_doc.specs.declared.plan.PagePlan.{PagePlan}
 use Rattle.dita_doc.specs.declared.plan.Plan.{Plan}
+use Rattle.dita_doc.proofs.Lists.{any_push}
+use Rattle.dita_doc.proofs.Orders.{at_number}
+use Rattle.dita_doc.proofs.Tests.{number_swaps}
 use Rattle.link_spec.specs.Links.{LinkTo, page_link, page_links, to_each_once}
 use Rattle.reader_spec.specs.World.{World}
 use Rattle.readers.specs.Founded.{is_among}
@@ -23,7 +26,7 @@ use Rattle.link_groups.specs.LinkNodes.{names_of_pages}
 use Rattle.link_groups.specs.declared.link_list.LinkList.{LinkList}
 use Rattle.link_groups.specs.declared.link_list.LinkTo as declared
 use Rattle.link_groups.specs.declared.link_nodes.LinkNode.{LinkNode}
-use Rattle.link_groups.proofs.NumberLaws.{any_number_put, any_push, at_number, turned}
+use Rattle.link_groups.proofs.NumberLaws.{any_number_put}
 use Rattle.link_groups.proofs.OnceLaws.{holds_same, once_again, once_new}
 
 abbrev link_of : LinkKind → ℕ → LinkTo
@@ -93,7 +96,7 @@ held_new own all kind page old new apart absent same put set holds =
       seen = λ other.
           ap (list_any (is_at (nat_cmp other))) set
           ∙ any_number_put (is_at (nat_cmp other)) page old.seen.keys
-          ∙ (λ i. (at_number other page ∙ turned other page) i || holds.seen other i)
+          ∙ (λ i. (at_number other page ∙ number_swaps other page) i || holds.seen other i)
           ∙ sym (any_push (leads_to other) all (link_of kind page));
     })
 

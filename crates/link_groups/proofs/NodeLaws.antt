@@ -1,31 +1,31 @@
 -- The nodes that links go from and to, and those that were found before.
-use Rattle.std.specs.Prelude.{◌≡◌, ℕ, zero, suc, Bool, true, false, List, [], ◌∷◌, ◌++◌, Option, Some, None, IsTrue, cond, codes, option_map, slice_get, unwrap_or}
+use Rattle.std.specs.Prelude.{◌≡◌, ℕ, Bool, true, false, List, [], ◌++◌, Option, Some, IsTrue, cond, codes, option_map, slice_get, unwrap_or}
 use Rattle.std.specs.BTreeMap.{is_at}
 use Rattle.std.specs.List.{filter_map}
 use Rattle.std.specs.Map.{lookup}
 use Rattle.std.specs.Option.{option_and_then}
 use Rattle.std.specs.Ordering.{nat_cmp}
 use Rattle.std.proofs.Common.{refl, sym, ap, subst, ◌∙◌}
+use Rattle.std.proofs.lemmas.Bool.{eqb-true}
 use Rattle.std.proofs.lemmas.Option.{same_Some}
 use Rattle.dita_doc.specs.ClassValue.{value_of}
 use Rattle.dita_doc.specs.declared.plan.PagePlan.{PagePlan}
 use Rattle.dita_doc.specs.declared.plan.Plan.{Plan}
 use Rattle.dita_doc.specs.declared.plan.PlanNode.{PlanNode}
-use Rattle.dita_doc.specs.declared.plan.Target.{Target}
 use Rattle.dita_doc.specs.declared.plan.Target.TheVariants as targets
+use Rattle.dita_doc.proofs.Orders.{at_number}
 use Rattle.map_spec.specs.Cascade.{cascaded_on, cascaded_value, walk}
 use Rattle.map_spec.specs.Pages.{local_name, page_for}
-use Rattle.link_spec.specs.Links.{context_of, page_of_node, target_of}
+use Rattle.link_spec.specs.Links.{context_of, page_of_node, plan_target}
 use Rattle.plan_nodes.specs.Carried.{CarryValues}
 use Rattle.reader_spec.specs.World.{World}
 use Rattle.readers.specs.Founded.{StaysFounded, homes, is_among}
 use Rattle.readers.specs.Told.{Told}
-use Rattle.readers.proofs.AmongLaws.{among_back, among_front}
-use Rattle.readers.proofs.FoundedLaws.{among_behind, among_first, stays_among}
+use Rattle.readers.proofs.AmongLaws.{among_back, among_front, among_targets}
+use Rattle.readers.proofs.FoundedLaws.{stays_among}
 use Rattle.link_groups.specs.LinkNodes.{AreLinkNodes, IsLinkNode, link_node_at, link_node_of, linking_of, names_of_pages, plan_names, with_linking}
 use Rattle.link_groups.specs.declared.link_nodes.LinkNode.{LinkNode}
 use Rattle.link_groups.specs.declared.link_nodes.LinkNodes.{LinkNodes}
-use Rattle.link_groups.proofs.NumberLaws.{at_number, same_number}
 
 linking_carried : (world : World) (around : List PlanNode)
     → value_of (codes "linking") (cascaded_on world around) ≡ Some (cascaded_value world (codes "linking") around)
@@ -38,7 +38,7 @@ carried_is world around node carried =
     ap (λ found. unwrap_or found (codes "normal"))
     (ap (value_of (codes "linking")) carried ∙ linking_carried world around)
 
-page_is : (plan : Plan) (at : ℕ) (name : List ℕ) (node : PlanNode) → local_name (target_of plan at) ≡ Some name
+page_is : (plan : Plan) (at : ℕ) (name : List ℕ) (node : PlanNode) → local_name (plan_target plan at) ≡ Some name
     → slice_get plan.nodes at ≡ Some node → page_of_node plan at ≡ page_for plan.pages name (context_of node name)
 page_is plan at name node named there =
     ap (option_and_then (λ n. option_and_then (λ (found : PlanNode). page_for plan.pages n (context_of found n))
@@ -48,7 +48,7 @@ page_is plan at name node named there =
 -- a node that was asked for is the one of the definition
 pub asked_is : (world : World) (plan : Plan) (pages : List PagePlan) (at : ℕ) (name : List ℕ) (node : PlanNode)
     (found : Option LinkNode) → CarryValues world plan.nodes → pages ≡ plan.pages
-    → local_name (target_of plan at) ≡ Some name → slice_get plan.nodes at ≡ Some node
+    → local_name (plan_target plan at) ≡ Some name → slice_get plan.nodes at ≡ Some node
     → found ≡ link_node_of (page_for pages name (context_of node name)) at node → found ≡ link_node_at world plan at
 asked_is world plan pages at name node found carry same named there is =
     is ∙ ap (λ ps. link_node_of (page_for ps name (context_of node name)) at node) same
@@ -61,7 +61,7 @@ put_each : (world : World) (plan : Plan) (key q : ℕ) (made found : Option Link
     → is_at (nat_cmp key) q ≡ test → cond test (Some made) rest ≡ Some found → found ≡ link_node_at world plan q
 put_each world plan key q made found rest is before true e there =
     sym (same_Some made found there) ∙ is
-    ∙ ap (link_node_at world plan) (same_number key q (sym (at_number key q) ∙ e))
+    ∙ ap (link_node_at world plan) (eqb-true key q (sym (at_number key q) ∙ e))
 put_each world plan key q made found rest is before false e there = before there
 
 -- a node that was put into the table
@@ -81,7 +81,7 @@ found_put world plan at place found old new are same is put = record {
 -- a node that was asked for, and put into the table
 pub found_asked : (world : World) (plan : Plan) (pages : List PagePlan) (at place : ℕ) (name : List ℕ) (node : PlanNode)
     (found : Option LinkNode) (old new : LinkNodes) → CarryValues world plan.nodes → pages ≡ plan.pages
-    → Some name ≡ local_name (target_of plan at) → Some node ≡ slice_get plan.nodes at → place ≡ at
+    → Some name ≡ local_name (plan_target plan at) → Some node ≡ slice_get plan.nodes at → place ≡ at
     → found ≡ link_node_of (page_for pages name (context_of node name)) place node → AreLinkNodes world plan old
     → ((q : ℕ) → lookup (is_at (nat_cmp q)) new.known.entries
     ≡ cond (is_at (nat_cmp place) q) (Some found) (lookup (is_at (nat_cmp q)) old.known.entries))
@@ -89,26 +89,11 @@ pub found_asked : (world : World) (plan : Plan) (pages : List PagePlan) (at plac
 found_asked world plan pages at place name node found old new carry pages_are named there same is are put =
     found_put world plan at place found old new are same
     (asked_is world plan pages place name node found carry pages_are
-    (ap (λ k. local_name (target_of plan k)) same ∙ sym named) (ap (slice_get plan.nodes) same ∙ sym there) is) put
+    (ap (λ k. local_name (plan_target plan k)) same ∙ sym named) (ap (slice_get plan.nodes) same ∙ sym there) is) put
 
 -- The documents that links are about
 
--- the documents to which nodes lead
-among_targets : (all : List Target) (at : ℕ) (name : List ℕ)
-    → local_name (unwrap_or (slice_get all at) targets.Nothing) ≡ Some name
-    → IsTrue (is_among (filter_map local_name all) name)
-among_targets [] zero name named = cc
-among_targets [] (suc at) name named = cc
-among_targets (target ∷ more) zero name named = rw named (among_first name (filter_map local_name more))
-among_targets (target ∷ more) (suc at) name named =
-    by_name (among_targets more at name named) (local_name target) refl
-  where
-    by_name : IsTrue (is_among (filter_map local_name more) name) → (other : Option (List ℕ)) → local_name target ≡ other
-        → IsTrue (is_among (filter_map local_name (target ∷ more)) name)
-    by_name behind None e = rw e behind
-    by_name behind (Some other) e = rw e (among_behind other (filter_map local_name more) name behind)
-
-pub named_among : (plan : Plan) (at : ℕ) (name : List ℕ) → local_name (target_of plan at) ≡ Some name
+pub named_among : (plan : Plan) (at : ℕ) (name : List ℕ) → local_name (plan_target plan at) ≡ Some name
     → IsTrue (is_among (plan_names plan) name)
 named_among plan at name named =
     among_back (homes plan.nodes) (filter_map local_name plan.targets ++ names_of_pages plan.pages) name

@@ -2,11 +2,14 @@
 use Rattle.std.specs.Prelude.{◌≡◌, ◌==◌, ◌&&◌, ◌||◌, ℕ, Bool, true, false, not, List, [], ◌∷◌, ◌++◌, filter}
 use Rattle.std.specs.List.{list_any}
 use Rattle.std.proofs.Common.{refl, sym, ap, ◌∙◌, append-nil}
+use Rattle.std.proofs.lemmas.Bool.{eqb-true}
+use Rattle.std.proofs.lemmas.List.Elements.{filter_agree}
 use Rattle.std.proofs.lemmas.Map.Views.{any-filter_same}
+use Rattle.dita_doc.proofs.Lists.{filter_every}
+use Rattle.dita_doc.proofs.Tests.{number_itself, number_swaps}
 use Rattle.link_spec.specs.Links.{LinkTo, to_each_once}
 use Rattle.link_groups.specs.LinkLists.{HoldsLinks, leads_to}
 use Rattle.link_groups.specs.declared.link_list.LinkList.{LinkList}
-use Rattle.link_groups.proofs.NumberLaws.{number_itself, same_number, turned}
 
 -- Filters
 
@@ -18,10 +21,6 @@ filter_both {X} p (x ∷ xs) ys = by_test (filter_both p xs ys) (p x) refl
         → filter p (x ∷ (xs ++ ys)) ≡ filter p (x ∷ xs) ++ filter p ys
     by_test behind true e = rw e (ap (λ l. x ∷ l) behind)
     by_test behind false e = rw e behind
-
-pub filter_every : {X : Type 0} (p : X → Bool) → ((x : X) → p x ≡ true) → (xs : List X) → filter p xs ≡ xs
-filter_every p each [] = refl
-filter_every p each (x ∷ xs) = rw (each x) (ap (λ l. x ∷ l) (filter_every p each xs))
 
 pub filter_twice : {X : Type 0} (p q r : X → Bool) → ((x : X) → r x ≡ (p x && q x)) → (xs : List X)
     → filter p (filter q xs) ≡ filter r xs
@@ -39,14 +38,6 @@ filter_twice {X} p q r each (x ∷ xs) = by_tests (filter_twice p q r each xs) (
     by_tests behind false false e f =
         let g : r x ≡ false = each x ∙ (λ i. e i && f i) in rw (f, g) behind
 
-pub filter_like : {X : Type 0} (p q : X → Bool) → ((x : X) → p x ≡ q x) → (xs : List X) → filter p xs ≡ filter q xs
-filter_like p q each [] = refl
-filter_like {X} p q each (x ∷ xs) = by_test (filter_like p q each xs) (q x) refl
-  where
-    by_test : filter p xs ≡ filter q xs → (b : Bool) → q x ≡ b → filter p (x ∷ xs) ≡ filter q (x ∷ xs)
-    by_test behind true e = let f : p x ≡ true = each x ∙ e in rw (e, f) (ap (λ l. x ∷ l) behind)
-    by_test behind false e = let f : p x ≡ false = each x ∙ e in rw (e, f) behind
-
 -- Pages that are led to
 
 abbrev pub beside : LinkTo → LinkTo → Bool
@@ -63,12 +54,12 @@ or_and true b c other = refl
 or_and false b c other = ap (λ d. d && c) (other refl)
 
 not_same : (n k : ℕ) (b : Bool) → (k == n) ≡ b → not (n == k) ≡ not b
-not_same n k b e = ap not (turned n k ∙ e)
+not_same n k b e = ap not (number_swaps n k ∙ e)
 
 has_filtered : (page : ℕ) (link : LinkTo) (links : List LinkTo) → (link.page == page) ≡ false
     → has (filter (beside link) links) page ≡ has links page
 has_filtered page link links other = any-filter_same (leads_to page) (beside link) true (λ found is.
-    ap not (ap (λ n. n == link.page) (same_number found.page page is) ∙ turned page link.page ∙ other)) links
+    ap not (ap (λ n. n == link.page) (eqb-true found.page page is) ∙ number_swaps page link.page ∙ other)) links
 
 -- each page that links lead to is kept
 pub once_has : (page : ℕ) (links : List LinkTo) → has (to_each_once links) page ≡ has links page
@@ -85,7 +76,7 @@ once_has page (link ∷ links) = by_test (once_has page links) (link.page == pag
 new_behind : (link other : LinkTo) (links : List LinkTo)
     → is_new (link ∷ links) other ≡ (beside link other && is_new links other)
 new_behind link other links =
-    by_tests (link.page == other.page) (other.page == link.page) (has links other.page) (turned link.page other.page)
+    by_tests (link.page == other.page) (other.page == link.page) (has links other.page) (number_swaps link.page other.page)
   where
     by_tests : (a b c : Bool) → a ≡ b → not (a || c) ≡ (not b && not c)
     by_tests true true c e = refl
@@ -109,7 +100,7 @@ pub once_same : (links others more rest : List LinkTo) → to_each_once links �
 once_same links others more rest first second =
     once_both links more
     ∙ (λ i. first i ++ filter (is_new links) (second i))
-    ∙ ap (λ l. to_each_once others ++ l) (filter_like (is_new links) (is_new others) (λ link. ap not (
+    ∙ ap (λ l. to_each_once others ++ l) (filter_agree (is_new links) (is_new others) (λ link. ap not (
     sym (once_has link.page links) ∙ ap (λ l. has l link.page) first ∙ once_has link.page others)) (to_each_once rest))
     ∙ sym (once_both others rest)
 

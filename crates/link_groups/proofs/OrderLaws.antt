@@ -3,17 +3,18 @@ use Rattle.std.specs.Prelude.{◌≡◌, ◌+◌, ◌<◌, ◌≤◌, ◌==◌, 
 use Rattle.std.specs.List.{filter_map, flat_map, list_any}
 use Rattle.std.specs.Option.{option_and_then, option_to_list}
 use Rattle.std.proofs.Common.{refl, sym, ap, subst, ◌∙◌, arith}
+use Rattle.std.proofs.lemmas.Bool.{eqb-true}
 use Rattle.std.proofs.lemmas.Bool.Decides.{nat_tests}
 use Rattle.std.proofs.lemmas.Map.Views.{any-filter_same}
 use Rattle.dita_doc.specs.declared.content.LinkKind.{LinkKind}
 use Rattle.dita_doc.specs.declared.plan.Plan.{Plan}
 use Rattle.dita_doc.specs.declared.plan.PlanNode.{PlanNode}
+use Rattle.dita_doc.proofs.Tests.{from_zero}
 use Rattle.map_spec.specs.Scopes.{places, places_from}
 use Rattle.link_spec.specs.Links.{LinkTo, is_page_at, link_to, links_as, links_of_kind, may_link, page_of_node, to_each_once}
 use Rattle.reader_spec.specs.World.{World}
 use Rattle.link_groups.specs.LinkLists.{link_beside}
 use Rattle.link_groups.proofs.OnceLaws.{once_first_again, once_same}
-use Rattle.link_groups.proofs.NumberLaws.{same_number}
 
 -- A link from some of several places is one link
 
@@ -101,7 +102,7 @@ others_from from (at ∷ ats) are = by_test (at == from) refl (others_from from 
   where
     by_test : (b : Bool) → (at == from) ≡ b → (AreFrom from ats → AreFrom (from + 1) (others from ats))
         → AreFrom (from + 1) (others from (at ∷ ats))
-    by_test true e behind = rw e (behind (subst (λ n. AreFrom n ats) (same_number at from e) are.1))
+    by_test true e behind = rw e (behind (subst (λ n. AreFrom n ats) (eqb-true at from e) are.1))
     by_test false e behind =
         let less : from < at = grind (arith, nat_tests) in
         rw e (omega (arith, less), subst (AreFrom at) (sym (none_later from at ats less are.1).1) are.1)
@@ -116,7 +117,7 @@ others_below from end (at ∷ ats) are = by_test (others_below from end ats are.
 
 among_others : (from at : ℕ) (ats : List ℕ) → from < at → among (others from ats) at ≡ among ats at
 among_others from at ats less = any-filter_same (λ other. other == at) (λ other. not (other == from)) true
-    (λ k is. ap not (ap (λ n. n == from) (same_number k at is) ∙ differs from at less)) ats
+    (λ k is. ap not (ap (λ n. n == from) (eqb-true k at is) ∙ differs from at less)) ats
 
 module _ (f : ℕ → Option LinkTo) where
   abbrev if_there : Bool → ℕ → List LinkTo
@@ -155,7 +156,7 @@ module _ (f : ℕ → Option LinkTo) where
           → to_each_once (filter_map f (at ∷ ats))
           ≡ to_each_once (if_there (among (at ∷ ats) from) from ++ filter_map f (others from (at ∷ ats)))
       by_test true e behind =
-          let same = same_number at from e in
+          let same = eqb-true at from e in
           ap to_each_once (sym (front_link f at ats) ∙ ap (λ n. option_to_list (f n) ++ filter_map f ats) same)
           ∙ by_there (among ats from) refl (behind (subst (λ n. AreFrom n ats) same are.1))
           ∙ rw e refl
@@ -224,9 +225,6 @@ kept_links p f h each (at ∷ ats) = by_test (kept_links p f h each ats) (p at) 
 
 -- The links of one kind
 
-from_none : (n : ℕ) → n ≡ 0 + n
-from_none n = omega arith
-
 module _ (world : World) (plan : Plan) (page : ℕ) (kind : LinkKind) where
   abbrev pub links_from : ℕ → ℕ → Bool
   links_from to from = is_page_at plan page from && links_as world plan kind from to && may_link world plan from to
@@ -248,7 +246,7 @@ module _ (world : World) (plan : Plan) (page : ℕ) (kind : LinkKind) where
       → ((to : ℕ) (link : LinkTo) → link_at to ≡ Some link → among ats to ≡ is_linked to)
       → to_each_once (filter_map link_at ats) ≡ to_each_once (links_of_kind world plan page kind)
   kind_in_order ats are below each =
-      in_order link_at 0 plan.nodes ats are (subst (λ n. AreBelow n ats) (from_none (length plan.nodes)) below)
+      in_order link_at 0 plan.nodes ats are (subst (λ n. AreBelow n ats) (from_zero (length plan.nodes)) below)
       ∙ ap to_each_once (kept_links (among ats) link_at (λ to. if is_linked to then link_at to else None)
       (λ to. by_link to (link_at to) refl) (places plan.nodes))
       ∙ sym (flat_same (λ to. filter_map (link_to world plan page kind to) (places plan.nodes))

@@ -13,7 +13,7 @@ use Rattle.dita_doc.specs.declared.plan.PlanNode.{PlanNode}
 use Rattle.link_groups.specs.declared.link_nodes.LinkNode.{LinkNode}
 use Rattle.link_groups.specs.declared.link_nodes.LinkNodes.{LinkNodes}
 use Rattle.map_spec.specs.Pages.{local_name}
-use Rattle.link_spec.specs.Links.{cascaded_at, context_of, is_one_of, page_of_node, target_of}
+use Rattle.link_spec.specs.Links.{cascaded_at, context_of, is_one_of, page_of_node, plan_target}
 use Rattle.reader_spec.specs.World.{World}
 use Rattle.readers.specs.Founded.{homes}
 use Rattle.readers.specs.Told.{Told, page_of}
@@ -70,7 +70,7 @@ pub record AsksOf (plan : Plan) (at : ℕ) (pages : List PagePlan) (old new : Li
   pub node : PlanNode
   pub name : List ℕ
   pub there : Some node ≡ slice_get plan.nodes at
-  pub leads : Some name ≡ local_name (target_of plan at)
+  pub leads : Some name ≡ local_name (plan_target plan at)
   pub asked : AsksPage pages name (context_of node name) old new
 
 -- none was put, or this one

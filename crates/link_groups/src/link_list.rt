@@ -104,7 +104,7 @@ impl LinkList {
     }
 
     // What `written` says, but of the reader's own world.
-    #[tactic(auto, using(crate::proofs::Walking::walking))]
+    #[tactic(auto, using(readers::proofs::Rules::walking))]
     fn shown<A: Asker>(
         &self,
         alloc: Global,
@@ -150,7 +150,7 @@ impl LinkList {
 }
 
 // Links of this page as they are written.
-#[tactic(auto, using(crate::proofs::Walking::walking))]
+#[tactic(auto, using(readers::proofs::Rules::walking))]
 fn all_written<A: Asker>(
     alloc: Global,
     asker: &mut A,
@@ -175,7 +175,7 @@ fn all_written<A: Asker>(
 }
 
 // Writes a link of this page behind the others.
-#[tactic(auto, using(crate::proofs::Walking::walking))]
+#[tactic(auto, using(readers::proofs::Rules::walking))]
 fn put_link<A: Asker>(
     alloc: Global,
     asker: &mut A,
@@ -208,7 +208,7 @@ fn page_at(pages: &[PagePlan], place: u32) -> Option<&PagePlan>
 }
 
 // The link from a page to another.
-#[tactic(auto, using(crate::proofs::Walking::walking))]
+#[tactic(auto, using(readers::proofs::Rules::walking))]
 fn link_to<A: Asker>(
     alloc: Global,
     asker: &mut A,

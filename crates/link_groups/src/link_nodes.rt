@@ -89,7 +89,7 @@ impl LinkNodes {
     }
 
     // What `find` says, but of the reader's own world.
-    #[tactic(auto, using(crate::proofs::Walking::walking))]
+    #[tactic(auto, using(readers::proofs::Rules::walking))]
     fn found<A: Asker>(
         &mut self,
         alloc: Global,
@@ -128,7 +128,7 @@ impl LinkNodes {
 
 /// The document to which the node at this place leads, if it is local.
 pub fn name_at(plan: &Plan, at: usize) -> Option<&Name>
-    ensures { option_copied result ≡ local_name (links_spec.target_of plan.now at) }
+    ensures { option_copied result ≡ local_name (links_spec.plan_target plan.now at) }
 {
     match plan.targets.as_slice().get(at) {
         Some(Target::Local(name, _)) => Some(name),
@@ -144,7 +144,7 @@ pub fn node_at(plan: &Plan, at: usize) -> Option<&PlanNode>
 }
 
 // Asks for the page of a node that leads to this document.
-#[tactic(auto, using(crate::proofs::Walking::walking))]
+#[tactic(auto, using(readers::proofs::Rules::walking))]
 fn link_node_of<A: Asker>(
     alloc: Global,
     asker: &mut A,

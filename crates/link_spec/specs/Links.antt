@@ -31,14 +31,14 @@ abbrev pub context_of : PlanNode → List ℕ → PageId
 context_of node name =
     record { doc = name; scope = node.scope; filters = node.filters; affixes = node.affixes }
 
-abbrev pub target_of : Plan → ℕ → Target
-target_of plan at = unwrap_or (slice_get plan.targets at) targets.Nothing
+abbrev pub plan_target : Plan → ℕ → Target
+plan_target plan at = unwrap_or (slice_get plan.targets at) targets.Nothing
 
 -- the page of a reference to a DITA document
 abbrev pub page_of_node : Plan → ℕ → Option ℕ
 page_of_node plan at = option_and_then (λ name. option_and_then
     (λ (node : PlanNode). page_for plan.pages name (context_of node name)) (slice_get plan.nodes at))
-    (local_name (target_of plan at))
+    (local_name (plan_target plan at))
 
 abbrev pub has_page : Plan → ℕ → Bool
 has_page plan at = is_some (page_of_node plan at)
@@ -185,7 +185,7 @@ row_links world plan page = page_links world plan page (links_of_kind world plan
 abbrev pub lost_in : Plan → ℕ → ℕ → List Fault
 lost_in plan row at = if is_some (cell_of plan row at) && not (has_page plan at)
     then option_to_list (option_and_then (λ name. option_map
-    (λ node. node_fault node faults.LinkNoPage name) (slice_get plan.nodes at)) (local_name (target_of plan at))) else []
+    (λ node. node_fault node faults.LinkNoPage name) (slice_get plan.nodes at)) (local_name (plan_target plan at))) else []
 
 abbrev pub row_faults : Plan → List Fault
 row_faults plan = flat_map (λ row. flat_map (lost_in plan row) (places plan.nodes)) (rows plan)

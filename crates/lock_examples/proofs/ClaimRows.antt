@@ -15,7 +15,7 @@ use Rattle.desk_core.specs.Book.{BookData, SnapshotData}
 use Rattle.desk_lock.specs.Calls.{Begins, Draws, Meets, Publishes}
 use Rattle.desk_lock.specs.Knows.{all_parts, arrived, both, drew, first_view, has_met, let_go, made, parted, printed, settled, spent_view}
 use Rattle.desk_lock.specs.Past.{IsCounted, Past}
-use Rattle.desk_lock.specs.Rule.{Counts, Fits, IsOpen, Kept, Stocked}
+use Rattle.desk_lock.specs.Rule.{Counts, IsOfPast, IsOpen, RuleKept, Stocked}
 use Rattle.desk_lock.specs.declared.view.View.{View}
 use Rattle.lock_examples.proofs.Short.{of_two, open_desk, small}
 
@@ -124,7 +124,7 @@ module _ (fact : Fact) (is_plan : fact.planned ≡ 0) where
     over = λ some_gone. absurd (omega arith);
   }
 
-  pass_fits : Fits past pass
+  pass_fits : IsOfPast past pass
   pass_fits = record {
     seen = ([], refl);
     also = (log, refl);
@@ -139,7 +139,7 @@ module _ (fact : Fact) (is_plan : fact.planned ≡ 0) where
     own = λ weight. omega arith;
   }
 
-  other_fits : Fits past other
+  other_fits : IsOfPast past other
   other_fits = record {
     seen = ([], refl);
     also = (log, refl);

@@ -20,7 +20,7 @@ use Rattle.desk_lock.specs.Knows.{all_parts, arrived, both, first_view, made, pa
 use Rattle.desk_lock.specs.Learns.{AreLeft, KnowsAll}
 use Rattle.desk_lock.specs.Meaning.{Meaning}
 use Rattle.desk_lock.specs.Past.{IsCounted, Past}
-use Rattle.desk_lock.specs.Rule.{Counts, Fits, IsOpen, Kept, Stocked}
+use Rattle.desk_lock.specs.Rule.{Counts, IsOfPast, IsOpen, RuleKept, Stocked}
 use Rattle.desk_lock.specs.declared.view.View.{View}
 use Rattle.lock_examples.proofs.Short.{of_two, open_desk, small}
 
@@ -146,7 +146,7 @@ counts = record {
   parts = refl;
 }
 
-joined_fits : Fits past joined
+joined_fits : IsOfPast past joined
 joined_fits = record {
   seen = ([], refl);
   also = (log, refl);
@@ -161,7 +161,7 @@ joined_fits = record {
   own = λ weight. omega arith;
 }
 
-spent_fits : Fits past spent_view
+spent_fits : IsOfPast past spent_view
 spent_fits = record {
   seen = (log, refl);
   also = (log, refl);
@@ -188,7 +188,7 @@ is_open = record {
   free = of_two (λ v. v.held ≡ None) joined spent_view refl refl;
 }
 
-kept : Kept (λ b. b) after_join
+kept : RuleKept (λ b. b) after_join
 kept = record {
   past = past;
   book = book;
@@ -197,7 +197,7 @@ kept = record {
   counted = counted;
   stock = stocked;
   counts = counts;
-  fits = of_two (Fits past) joined spent_view joined_fits spent_fits;
+  fits = of_two (IsOfPast past) joined spent_view joined_fits spent_fits;
   longest = (0, joined, refl, refl);
   spent = of_two (λ v. v.parts ≡ 0 → v ≡ spent_view) joined spent_view (λ none. absurd (omega arith)) (λ none. refl);
 }

@@ -9,9 +9,9 @@ use Rattle.dita_doc.specs.declared.plan.PlanStop.TheVariants as stops
 use Rattle.facts.specs.Rows.{RowData}
 use Rattle.facts.specs.declared.fact.Fact.{Fact}
 use Rattle.desk_lock.specs.Knows.{arrived, both, drew, first_view, has_met, parted, printed, settled}
-use Rattle.desk_lock.specs.Meaning.{IsRight, Meaning}
+use Rattle.desk_lock.specs.Meaning.{IsRightRow, Meaning}
 use Rattle.desk_lock.specs.declared.view.View.{View}
-use Rattle.desk_work.specs.Build.{Ends, EndsBuilt, Order, Stood, Whole}
+use Rattle.desk_work.specs.Build.{Ends, EndsBuilt, BuildOrder, Stood, Whole}
 use Rattle.desk_work.specs.Language.{Language, key_of}
 use Rattle.desk_work.specs.Work.{Cites, Basis, IsMadeFor, Job, Progress, Worked}
 use Rattle.desk_work.specs.declared.built.Built.{Built}
@@ -25,7 +25,7 @@ nothing_weighs [] one none = absurd (omega arith)
 nothing_weighs (row ∷ []) one none = absurd (omega arith)
 nothing_weighs (row ∷ other ∷ rows) one none = absurd (omega arith)
 
-abbrev order : Order
+abbrev order : BuildOrder
 order = record { number = 1; root = codes "m"; val = None }
 
 abbrev plan_key : FactKey
@@ -57,7 +57,7 @@ module _ (means : Meaning) (fact : Fact) (is_key : fact.key ≡ plan_key) (agree
   abbrev then : View
   then = settled (both (parted claims.caller 1) has_row)
 
-  right : IsRight means row plan_key []
+  right : IsRightRow means row plan_key []
   right = record { key = is_key; agrees = agrees; sound = sound }
 
   worked : Worked basis claims.caller then (row ∷ [])

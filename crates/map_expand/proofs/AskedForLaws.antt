@@ -9,7 +9,7 @@ use Rattle.dita_doc.specs.declared.plan.PlanNode.{PlanNode}
 use Rattle.plan_nodes.specs.Preorder.{without_end}
 use Rattle.readers.specs.Documents.{AskedBy, AsksOnly, Covers, Follows, MayAsk, documents_asked, may_ask}
 use Rattle.readers.specs.Founded.{AreAllowed, Grows, IsFounded, StaysFounded, homes, is_allowed, is_among, names_asked, names_given}
-use Rattle.readers.specs.Told.{Told, document, kind, title, first, key, pushes, page_of, tried, sought}
+use Rattle.readers.specs.Told.{Told, document, kind, title, first, key, pushes, page_of, pending, pending_document}
 use Rattle.readers.proofs.FoundedLaws.{among_one}
 use Rattle.map_expand.specs.AskedFor.{AreAsked, asked_for}
 use Rattle.readers.proofs.AmongLaws.{among_back, among_either}
@@ -69,8 +69,8 @@ is_about (first name id) m among = absurd (false≢true among)
 is_about (key nodes scope text answer) m among = absurd (false≢true among)
 is_about (pushes documents name answer) m among = absurd (false≢true among)
 is_about (page_of pages name context answer) m among = absurd (false≢true among)
-is_about (tried names) m among = absurd (false≢true among)
-is_about (sought name) m among = among
+is_about (pending names) m among = absurd (false≢true among)
+is_about (pending_document name) m among = among
 
 name_allowed : (roots : List (List ℕ)) (told : List Told) (m : List ℕ) → IsFounded roots told
     → IsTrue (is_among (asked_for told) m) → IsTrue (is_allowed roots told m)

@@ -1,6 +1,7 @@
 -- What an element asks for is what it includes.
-use Rattle.std.specs.Prelude.{◌≡◌, ◌&&◌, ◌||◌, ◌^◌, ◌<◌, ◌≤◌, ℕ, Bool, true, false, not, List, [], ◌∷◌, ◌++◌, Option, Some, None, Result, Ok, Err, OnOk, codes, is_some, length, unwrap_or, if◌then◌else◌}
+use Rattle.std.specs.Prelude.{◌≡◌, ◌&&◌, ◌||◌, ◌^◌, ◌<◌, ◌≤◌, ℕ, Bool, true, false, not, List, [], ◌∷◌, ◌++◌, Option, Some, None, codes, is_some, length, unwrap_or, if◌then◌else◌}
 use Rattle.std.proofs.Common.{refl, sym, ap, ◌∙◌, arith, subst, length-append}
+use Rattle.std.proofs.lemmas.Option.{same_Some}
 use Rattle.dita_doc.specs.declared.doc.Node as doc
 use Rattle.dita_doc.specs.declared.fault.Fault.{Fault}
 use Rattle.dita_doc.specs.declared.plan.PlanKind.{PlanKind}
@@ -8,7 +9,7 @@ use Rattle.dita_doc.specs.declared.plan.PlanKind.TheVariants as kinds
 use Rattle.dita_doc.specs.declared.plan.PlanNode.{PlanNode}
 use Rattle.doc_elements.specs.Walk.{element_of}
 use Rattle.map_spec.specs.Elements.{attribute, has_value}
-use Rattle.map_spec.specs.Included.{Around, ignored_references, includes_map, is_reference, is_table, new_head, submap_named}
+use Rattle.map_spec.specs.Included.{MapAround, ignored_references, includes_map, is_reference, is_table, new_head, submap_named}
 use Rattle.map_spec.specs.MapTree.{Grown, beneath, beside, count, node_of, with_faults}
 use Rattle.map_spec.specs.Target.{Named, Document, Elsewhere, Unreadable, named_of}
 use Rattle.map_spec.specs.Written.{Element}
@@ -24,7 +25,7 @@ use Rattle.map_expand.specs.Making.{after, around_of, grown_of, made_of, node_gr
 use Rattle.readers.specs.Told.{Told}
 use Rattle.map_expand.specs.Telling.{IsTold, MayFind}
 use Rattle.map_expand.proofs.TellingLaws.{has_kind, may_name}
-use Rattle.map_expand.specs.declared.node.Asked.{Asked}
+use Rattle.map_expand.specs.declared.node.Inclusion.{Inclusion}
 use Rattle.map_expand.specs.declared.work.Walk.{Walk}
 use Rattle.map_expand.specs.declared.work.Work.{Work}
 use Rattle.map_expand.specs.declared.work.Work.TheVariants as works
@@ -32,18 +33,10 @@ use Rattle.map_expand.proofs.LeftLaws.{steps_left_push}
 use Rattle.map_expand.proofs.MakingLaws.{path_both, put_beside}
 use Rattle.map_expand.proofs.MakeLaws.{made_alone, made_including, node_put, walk_left}
 
-pub on_ok_more : {A E P Q : Type 0} (result : Result A E) → (P → Q) → OnOk result P → OnOk result Q
-on_ok_more (Ok a) gives is = gives is
-on_ok_more (Err e) gives is = tt
-
--- the element at the begin of a walk
-some_node : (one other : doc.Node) → Some one ≡ Some other → one ≡ other
-some_node one other same = cc
-
 pub same_element : (home : Home) (walk : Walk) (name : List ℕ) (first node : doc.Node) → IsFirst home walk name first
     → IsNodeOf home walk node → element_of name first ≡ element_of home.name node
 same_element home walk name first node is here =
-    ap (λ n. element_of n first) is.named ∙ ap (element_of home.name) (some_node first node (sym is.here ∙ here))
+    ap (λ n. element_of n first) is.named ∙ ap (element_of home.name) (same_Some first node (sym is.here ∙ here))
 
 -- By tests
 
@@ -68,12 +61,12 @@ no_table kinds.Reference is = refl
 no_table kinds.RelTable is = sym is
 no_table _ is = refl
 
-module _ (kind : PlanKind) (around : Around) (element : Element) where
+module _ (kind : PlanKind) (around : MapAround) (element : Element) where
   pub asks_nothing : IsAsked kind around.in_table element None → includes_map kind around element ≡ false
   asks_nothing is = no_href (is_reference kind) (not around.in_table) (has_value (codes "format") (codes "ditamap") element)
       (attribute (codes "href") element) is
 
-  pub asks_one : (asked : Asked) → IsAsked kind around.in_table element (Some asked)
+  pub asks_one : (asked : Inclusion) → IsAsked kind around.in_table element (Some asked)
       → (is_reference kind ≡ true) × (attribute (codes "href") element ≡ Some asked.href)
       × (includes_map kind around element ≡ true)
       × (has_value (codes "format") (codes "ditamap") element ≡ true)
@@ -132,7 +125,7 @@ module _ (world : World) (homes : List Home) (left now : List Work) (walk : Walk
       (asks_nothing kind (around_of walk) element asked))
 
   -- it includes a map, which comes before what it holds
-  pub made_with : (kind : PlanKind) (asked : Asked)
+  pub made_with : (kind : PlanKind) (asked : Inclusion)
       → new ≡ nodes ++ node_of (new_head kinds.Included element walk.level walk.place) walk.parent 0 ∷ []
       → now ≡ left ++ works.Walk (below walk end place kinds.Included) ∷ [] → IsAsked kind walk.in_table element (Some asked)
       → after world homes [] now
@@ -165,7 +158,7 @@ module _ (world : World) (homes : List Home) (left now : List Work) (walk : Walk
 
 -- what it asks for may be asked about
 pub may_find : (told : List Told) (home : Home) (walk : Walk) (end : ℕ) (kind : PlanKind) (name : List ℕ) (first : doc.Node)
-    (asked : Asked) → IsTold told home → AreSiblings home walk.place end → walk.place < end → IsFirst home walk name first
+    (asked : Inclusion) → IsTold told home → AreSiblings home walk.place end → walk.place < end → IsFirst home walk name first
     → IsAsked kind walk.in_table (element_of name first) (Some asked) → MayFind told (named_shown asked.named)
 may_find told home walk end kind name first asked is fits some begins asks = by_named (named_shown asked.named) refl
   where

@@ -9,18 +9,18 @@ use Rattle.dita_doc.specs.declared.fault.FaultCode.TheVariants as faults
 use Rattle.dita_doc.specs.declared.plan.PlanNode.{PlanNode}
 use Rattle.doc_elements.specs.Walk.{element_of}
 use Rattle.map_spec.specs.Elements.{fault_at}
-use Rattle.map_spec.specs.Included.{fault_alone, map_included, node_limit}
+use Rattle.map_spec.specs.Included.{fault_alone, map_included, map_node_limit}
 use Rattle.map_spec.specs.MapTree.{Grown, no_growth}
 use Rattle.map_spec.specs.Written.{Element, Whole}
 use Rattle.reader_spec.specs.World.{World}
 use Rattle.map_expand.specs.Homes.{Extends, Home, home_at, name_at}
 use Rattle.map_expand.specs.Including.{submap_under}
-use Rattle.map_expand.specs.Making.{AllFit, Made, after, path_of, made_of, put, put_faults, whole_map}
+use Rattle.map_expand.specs.Making.{AllFit, MadeNodes, after, path_of, made_of, put, put_faults, whole_map}
 use Rattle.map_expand.specs.declared.work.Work.{Work}
 use Rattle.map_expand.proofs.MakingLaws.{after_still, home_still, made_same, path_after_still, put_nothing, put_with_faults}
 
 -- a fault alone is put
-pub fault_put : (parent : ℕ) (element : Element) (code : FaultCode) (detail : List ℕ) (made : Made)
+pub fault_put : (parent : ℕ) (element : Element) (code : FaultCode) (detail : List ℕ) (made : MadeNodes)
     → put parent (fault_alone element code detail) made ≡ put_faults (fault_at element code detail ∷ []) made
 fault_put parent element code detail made =
     put_with_faults parent (fault_at element code detail ∷ []) no_growth made
@@ -48,9 +48,9 @@ module _ (world : World) (path : List (List ℕ)) (level : ℕ) (element : Eleme
       → whole_map world (path ++ other ∷ []) (level + 1) root
       ≡ submap_under world path level element name (Some root)
   submap_entered root other around same =
-      let fuel : node_limit + 1 - (level + 1) ≡ node_limit - level = omega arith in
+      let fuel : map_node_limit + 1 - (level + 1) ≡ map_node_limit - level = omega arith in
       ap (λ n. map_included n world (path ++ other ∷ []) (level + 1) root) fuel
-      ∙ ap (λ n. map_included (node_limit - level) world (path ++ n ∷ []) (level + 1) root) same
+      ∙ ap (λ n. map_included (map_node_limit - level) world (path ++ n ∷ []) (level + 1) root) same
       ∙ sym (rw around refl)
 
 -- More maps are known
@@ -60,7 +60,7 @@ home_found homes new at extends within =
     ap (λ l. home_at l at) extends.is ∙ home_still homes extends.more at within
 
 pub rest_found : (world : World) (homes new : List Home) (n : ℕ) (left : List Work) (at parent level : ℕ) (node : doc.Node)
-    (name : List ℕ) (root other : Option Whole) (made : Made) → Extends homes new → AllFit homes n left → at < length homes
+    (name : List ℕ) (root other : Option Whole) (made : MadeNodes) → Extends homes new → AllFit homes n left → at < length homes
     → root ≡ other
     → after world new [] left
     (put parent (submap_under world (path_of new left) level (element_of (name_at new at) node) name root) made)

@@ -1,12 +1,12 @@
 -- A whole map is begun and ended.
-use Rattle.std.specs.Prelude.{◌≡◌, ◌+◌, ◌-◌, ◌<◌, ◌≤◌, ℕ, suc, Bool, true, false, List, [], ◌∷◌, ◌++◌, Option, Some, None, Result, Ok, Err, length, nat_le, if◌then◌else◌}
+use Rattle.std.specs.Prelude.{◌≡◌, ◌+◌, ◌-◌, ◌<◌, ◌≤◌, ℕ, suc, Bool, true, false, List, [], ◌∷◌, ◌++◌, Option, Some, None, Result, Ok, Err, length, if◌then◌else◌}
 use Rattle.std.specs.BTreeMap.{get}
 use Rattle.std.specs.Cmp.Lexicographic.{slice_cmp}
 use Rattle.std.specs.Option.{option_and_then}
 use Rattle.std.specs.Ordering.{nat_cmp}
 use Rattle.std.specs.Result.{result_map_both}
 use Rattle.std.proofs.Common.{refl, sym, ap, ◌∙◌, arith, subst}
-use Rattle.std.proofs.lemmas.Bool.Decides.{nat_tests}
+use Rattle.std.proofs.lemmas.Bool.{le-leb, lt-leb}
 use Rattle.dita_doc.specs.Gives.{Gives}
 use Rattle.dita_doc.specs.declared.fault.Fault.{Fault}
 use Rattle.dita_doc.specs.declared.plan.Expanded.{Expanded}
@@ -15,22 +15,23 @@ use Rattle.dita_doc.specs.declared.plan.PlanStop.{PlanStop}
 use Rattle.dita_doc.specs.declared.plan.PlanStop.TheVariants as stops
 use Rattle.dita_doc.specs.declared.stop.Stop.{Stop}
 use Rattle.dita_doc.specs.declared.stop.Stop.TheVariants as stop
-use Rattle.map_spec.specs.Included.{expanded, if_map, included, included_from, is_map, limited, map_in, map_included, node_limit, root_in}
+use Rattle.map_spec.specs.Included.{expanded, if_map, included, included_from, is_map, limited, map_in, map_included, map_node_limit, root_in}
 use Rattle.map_spec.specs.MapTree.{Grown, count, plan_nodes}
 use Rattle.map_spec.specs.Written.{Whole}
 use Rattle.plan_nodes.specs.Preorder.{HasOneRoot}
 use Rattle.reader_spec.specs.World.{World}
+use Rattle.map_lemmas.proofs.TreeLaws.{length_below}
 use Rattle.readers.specs.Told.{Told}
 use Rattle.map_expand.specs.Ending.{why_none}
 use Rattle.map_expand.specs.Going.{AreApart, IsOver, Ready, homes_of}
 use Rattle.map_expand.specs.Homes.{Home, flag_at, homes}
 use Rattle.map_expand.specs.Known.{MapsFit}
-use Rattle.map_expand.specs.Making.{AllFit, Made, after, made_of, path_of, put, whole_map, without_ends}
+use Rattle.map_expand.specs.Making.{AllFit, MadeNodes, after, made_of, path_of, put, whole_map, without_ends}
 use Rattle.map_expand.specs.declared.expansion.Expansion.{Expansion}
 use Rattle.map_expand.specs.declared.maps.Maps.{Maps}
 use Rattle.map_expand.specs.declared.work.Work.{Work}
 use Rattle.map_expand.proofs.AskedForLaws.{none_asked}
-use Rattle.map_expand.proofs.MakingLaws.{length_below, length_without}
+use Rattle.map_expand.proofs.MakingLaws.{length_without}
 
 -- Begins
 
@@ -76,18 +77,12 @@ begun world homes left nodes faults name root none empty clean =
 
 -- Ends
 
-pub one_root : (world : World) (path : List (List ℕ)) (level : ℕ) (root : Whole) → level ≤ node_limit
+pub one_root : (world : World) (path : List (List ℕ)) (level : ℕ) (root : Whole) → level ≤ map_node_limit
     → HasOneRoot (whole_map world path level root).tree
 unfolding map_included
 one_root world path level root fits =
-    let fuel : node_limit + 1 - level ≡ suc (node_limit - level) = omega arith in
+    let fuel : map_node_limit + 1 - level ≡ suc (map_node_limit - level) = omega arith in
     subst (λ n. HasOneRoot (map_included n world path level root).tree) (sym fuel) refl
-
-test_within : (a b : ℕ) → a ≤ b → nat_le a b ≡ true
-test_within a b less = grind (arith, nat_tests)
-
-test_over : (a b : ℕ) → b < a → nat_le a b ≡ false
-test_over a b more = grind (arith, nat_tests)
 
 abbrev pub given : Result Grown PlanStop → Result Expanded PlanStop
 given grown = result_map_both expanded (λ stop. stop) grown
@@ -97,34 +92,35 @@ pub all_of : (grown : Grown) (nodes : List PlanNode) (faults : List Fault)
     → (without_ends nodes ≡ without_ends (plan_nodes grown.tree)) × (faults ≡ grown.faults)
     × (length nodes ≡ count grown.tree)
 all_of grown nodes faults is =
-    let same : without_ends nodes ≡ without_ends (plan_nodes grown.tree) = ap (λ (m : Made). m.nodes) is in (
+    let same : without_ends nodes ≡ without_ends (plan_nodes grown.tree) = ap (λ (m : MadeNodes). m.nodes) is in (
       same,
-      ap (λ (m : Made). m.faults) is,
+      ap (λ (m : MadeNodes). m.faults) is,
       sym (length_without nodes) ∙ ap (λ l. length l) same ∙ length_without (plan_nodes grown.tree)
           ∙ length_below 0 0 grown.tree,
     )
 
 pub finished : (grown : Grown) (made : Expanded) → made.nodes ≡ plan_nodes grown.tree → made.faults ≡ grown.faults
-    → count grown.tree ≤ node_limit → given (limited node_limit grown) ≡ Ok made
+    → count grown.tree ≤ map_node_limit → given (limited map_node_limit grown) ≡ Ok made
 finished grown made nodes faults fits =
-    ap (λ (t : Bool). given (if t then Ok grown else Err stops.TooManyNodes)) (test_within (count grown.tree) node_limit fits)
+    ap (λ (t : Bool). given (if t then Ok grown else Err stops.TooManyNodes)) (le-leb (count grown.tree) map_node_limit fits)
     ∙ ap Ok (same_expanded (plan_nodes grown.tree) made.nodes grown.faults made.faults (sym nodes) (sym faults))
   where
     same_expanded : (a b : List PlanNode) (f h : List Fault) → a ≡ b → f ≡ h
         → (let one : Expanded = record { nodes = a; faults = f } in one) ≡ record { nodes = b; faults = h }
     same_expanded a b f h e g = rw (e, g) refl
 
-pub stopped : (end : Stop PlanStop) (grown : Grown) (all : Made) → all ≡ put 0 grown (made_of [] []) → IsOver end all
-    → Gives {A = Expanded} (Err end) (given (limited node_limit grown))
+pub stopped : (end : Stop PlanStop) (grown : Grown) (all : MadeNodes) → all ≡ put 0 grown (made_of [] [])
+    → IsOver end all
+    → Gives {A = Expanded} (Err end) (given (limited map_node_limit grown))
 stopped (stop.Fault fault) grown all is over =
     let many : length all.nodes ≡ count grown.tree =
-    ap (λ (m : Made). length m.nodes) is ∙ length_without (plan_nodes grown.tree) ∙ length_below 0 0 grown.tree in
+    ap (λ (m : MadeNodes). length m.nodes) is ∙ length_without (plan_nodes grown.tree) ∙ length_below 0 0 grown.tree in
     ap (λ (t : Bool). given (if t then Ok grown else Err stops.TooManyNodes))
-    (test_over (count grown.tree) node_limit (omega (arith, many, over.1)))
+    (lt-leb (count grown.tree) map_node_limit (omega (arith, many, over.1)))
     ∙ ap Err (sym over.0)
 stopped stop.NoMemory grown all is over = tt
 
-pub none_left : (world : World) (homes : List Home) (left : List Work) (made all : Made) → left ≡ []
+pub none_left : (world : World) (homes : List Home) (left : List Work) (made all : MadeNodes) → left ≡ []
     → after world homes [] left made ≡ all → made ≡ all
 none_left world homes left made all none is = sym (ap (λ l. after world homes [] l made) none) ∙ is
 
@@ -156,12 +152,12 @@ no_map_root limit world name (Some one) is = by_test (is_map one) is
 
 -- which is what the definition gives for the name
 pub given_map : (world : World) (name other : List ℕ) (root : Whole) → other ≡ name → map_in world name ≡ Some root
-    → given (limited node_limit (whole_map world (other ∷ []) 0 root)) ≡ given (included node_limit world name)
+    → given (limited map_node_limit (whole_map world (other ∷ []) 0 root)) ≡ given (included map_node_limit world name)
 given_map world name other root same is =
-    ap (λ n. given (limited node_limit (whole_map world (n ∷ []) 0 root))) same
-    ∙ ap given (sym (is_map_root node_limit world name (root_in world name) root is))
+    ap (λ n. given (limited map_node_limit (whole_map world (n ∷ []) 0 root))) same
+    ∙ ap given (sym (is_map_root map_node_limit world name (root_in world name) root is))
 
 pub given_none : (world : World) (name : List ℕ) (end : PlanStop) → map_in world name ≡ None
-    → end ≡ why_none (root_in world name) → given (included node_limit world name) ≡ Err end
+    → end ≡ why_none (root_in world name) → given (included map_node_limit world name) ≡ Err end
 given_none world name end none is =
-    ap given (no_map_root node_limit world name (root_in world name) none) ∙ ap Err (sym is)
+    ap given (no_map_root map_node_limit world name (root_in world name) none) ∙ ap Err (sym is)

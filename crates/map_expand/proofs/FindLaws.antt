@@ -1,20 +1,21 @@
 -- A name is asked for, and what was found is known from then on.
-use Rattle.std.specs.Prelude.{◌≡◌, ◌+◌, ◌<◌, ◌≤◌, ℕ, Bool, true, false, List, [], ◌∷◌, ◌++◌, Option, Some, None, Result, Ok, Err, IfOk, IfSome, length, option_map}
+use Rattle.std.specs.Prelude.{◌≡◌, ◌+◌, ◌<◌, ◌≤◌, ℕ, Bool, true, false, List, [], ◌∷◌, ◌++◌, Option, Some, None, IfSome, length, option_map}
 use Rattle.std.specs.BTreeMap.{get}
 use Rattle.std.specs.Cmp.Lexicographic.{slice_cmp}
 use Rattle.std.specs.Option.{option_and_then}
 use Rattle.std.specs.Ordering.{is_eq, nat_cmp}
-use Rattle.std.proofs.Common.{Ordering, Less, Equal, Greater, refl, sym, ap, ◌∙◌, arith, subst, length-append}
+use Rattle.std.proofs.Common.{refl, sym, ap, ◌∙◌, arith, subst, length-append}
 use Rattle.std.proofs.Math.Logic.{⊎_elim}
 use Rattle.std.proofs.lemmas.Bool.{cases_lt}
 use Rattle.reader_spec.specs.World.{World}
 use Rattle.readers.specs.Founded.{Grows}
 use Rattle.readers.specs.Told.{Told, Agrees, document}
 use Rattle.dita_doc.proofs.NameOrder.{same_from_equal}
+use Rattle.dita_doc.proofs.Orders.{equal_test}
 use Rattle.dita_doc.specs.Tree.{tree_of}
 use Rattle.dita_doc.specs.declared.doc.Node.{Node}
 use Rattle.doc_elements.specs.Walk.{element_of}
-use Rattle.map_spec.specs.Included.{if_map, map_in, place_in}
+use Rattle.map_spec.specs.Included.{if_map, map_in, root_place_in}
 use Rattle.map_spec.specs.Written.{Whole, first_sibling, written_in}
 use Rattle.map_expand.specs.Homes.{Extends, Home, HomeFits, IsPlaced, content_between, home_at, name_at, root_in, whole_by}
 use Rattle.map_expand.specs.Known.{IsAdded, IsFound, IsKnown, IsNamed, IsPut, MapsFit, map_wanted}
@@ -48,11 +49,6 @@ module _ (homes more : List Home) where
   known_still world name (Some found) is = found_still world name found is
 
 -- The map of a document
-
-pub ok_more : {A E : Type 0} (result : Result A E) (P Q : A → Type 0) → ((a : A) → P a → Q a) → IfOk result P
-    → IfOk result Q
-ok_more (Ok a) P Q gives is = gives a is
-ok_more (Err e) P Q gives is = tt
 
 pub home_last : (old : List Home) (home : Home) → home_at (old ++ home ∷ []) (length old) ≡ home
 home_last [] home = refl
@@ -90,15 +86,10 @@ found_put world name nodes old new (Some at) holds put =
       is = map_told world name nodes holds ∙ sym root.here ∙ there;
       here = ap root_in here ∙ there;
       placed = subst (IsPlaced world) (sym here)
-          (ap (λ t. place_in (option_map (written_in name) t)) holds ∙ root.behind);
+          (ap (λ t. root_place_in (option_map (written_in name) t)) holds ∙ root.behind);
     }
 
 -- What was found is put
-
-equal_test : (o : Ordering) → is_eq o ≡ true → o ≡ Equal
-equal_test Equal same = refl
-equal_test Less same = cc
-equal_test Greater same = cc
 
 abbrev at_name : List ℕ → List ℕ → Bool
 at_name name q = is_eq (slice_cmp nat_cmp name q)

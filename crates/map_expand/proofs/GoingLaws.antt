@@ -8,25 +8,26 @@ use Rattle.dita_doc.specs.declared.plan.PlanNode.{PlanNode}
 use Rattle.dita_doc.specs.declared.plan.PlanStop.{PlanStop}
 use Rattle.dita_doc.specs.declared.stop.Stop.{Stop}
 use Rattle.dita_doc.specs.declared.stop.Stop.TheVariants as stop
-use Rattle.map_spec.specs.Included.{ignored_references, map_included, new_head, node_limit, nodes_among, root_place}
+use Rattle.map_spec.specs.Included.{ignored_references, map_included, new_head, map_node_limit, nodes_among, root_place}
 use Rattle.map_spec.specs.MapTree.{Grown, beneath, count, node_of, nodes_below}
 use Rattle.doc_elements.specs.Walk.{element_of}
 use Rattle.map_spec.specs.Written.{Whole}
 use Rattle.reader_spec.specs.World.{World}
-use Rattle.map_expand.specs.Going.{IsFull, IsOver}
+use Rattle.map_lemmas.proofs.TreeLaws.{length_below}
+use Rattle.map_expand.specs.Going.{HasNoRoom, IsOver}
 use Rattle.map_expand.specs.Homes.{Home, IsFirst, IsPlaced, content_between, home_at, root_in, name_at}
-use Rattle.map_expand.specs.Making.{IsRootWalk, Made, after, content, done_by, grown_of, made_of, path_in, path_of, put, put_faults, submap_at, whole_map, without_ends}
+use Rattle.map_expand.specs.Making.{IsRootWalk, MadeNodes, after, content, done_by, grown_of, made_of, path_in, path_of, put, put_faults, submap_at, whole_map, without_ends}
 use Rattle.map_expand.specs.declared.work.Walk.{Walk}
 use Rattle.map_expand.specs.declared.work.Work.{Work}
 use Rattle.map_expand.specs.declared.work.Work.TheVariants as works
 use Rattle.map_expand.specs.Left as measure
 use Rattle.map_expand.specs.Left.{steps_left}
 use Rattle.map_expand.proofs.LeftLaws.{steps_left_push}
-use Rattle.map_expand.proofs.MakingLaws.{after_both, length_below, length_without, made_same, path_both, put_beneath, put_node, put_with_faults, without_both}
+use Rattle.map_expand.proofs.MakingLaws.{after_both, length_without, made_same, path_both, put_beneath, put_node, put_with_faults, without_both}
 
 -- No room
 
-pub length_put : (parent : ℕ) (grown : Grown) (made : Made)
+pub length_put : (parent : ℕ) (grown : Grown) (made : MadeNodes)
     → length (put parent grown made).nodes ≡ length made.nodes + count grown.tree
 length_put parent grown made = omega (
   arith,
@@ -36,13 +37,13 @@ length_put parent grown made = omega (
 )
 
 module _ (world : World) (homes : List Home) where
-  done_longer : (path : List (List ℕ)) (work : Work) (made : Made)
+  done_longer : (path : List (List ℕ)) (work : Work) (made : MadeNodes)
       → length made.nodes ≤ length (done_by world homes path work made).nodes
   done_longer path (works.Walk walk) made =
       omega (arith, length_put walk.parent (grown_of world path (home_at homes walk.map) walk) made)
   done_longer path (works.Leave at) made = omega arith
 
-  pub after_longer : (path : List (List ℕ)) (all : List Work) (made : Made)
+  pub after_longer : (path : List (List ℕ)) (all : List Work) (made : MadeNodes)
       → length made.nodes ≤ length (after world homes path all made).nodes
   after_longer path [] made = omega arith
   after_longer path (work ∷ all) made = omega (
@@ -53,7 +54,7 @@ module _ (world : World) (homes : List Home) where
 
 -- a node is to be made, and there is no room
 pub full_over : (world : World) (homes : List Home) (left : List Work) (end : Stop PlanStop) (parent : ℕ) (grown : Grown)
-    (nodes : List PlanNode) (faults : List Fault) → IsFull end (length nodes) → 0 < count grown.tree
+    (nodes : List PlanNode) (faults : List Fault) → HasNoRoom end (length nodes) → 0 < count grown.tree
     → IsOver end (after world homes [] left (put parent grown (made_of nodes faults)))
 full_over world homes left (stop.Fault fault) parent grown nodes faults full some = (
   full.0,
@@ -68,17 +69,17 @@ full_over world homes left (stop.Fault fault) parent grown nodes faults full som
 full_over world homes left stop.NoMemory parent grown nodes faults full some = tt
 
 -- a stop of what comes first is one of all
-pub over_more : (end : Stop PlanStop) (made all : Made) → length made.nodes ≤ length all.nodes → IsOver end made → IsOver end all
+pub over_more : (end : Stop PlanStop) (made all : MadeNodes) → length made.nodes ≤ length all.nodes → IsOver end made → IsOver end all
 over_more (stop.Fault fault) made all longer over = (over.0, omega (arith, over.1))
 over_more stop.NoMemory made all longer over = tt
 
 -- A map is entered
 
-pub some_map : (world : World) (path : List (List ℕ)) (level : ℕ) (root : Whole) → level ≤ node_limit
+pub some_map : (world : World) (path : List (List ℕ)) (level : ℕ) (root : Whole) → level ≤ map_node_limit
     → 0 < count (whole_map world path level root).tree
 unfolding map_included
 some_map world path level root fits =
-    let fuel : node_limit + 1 - level ≡ suc (node_limit - level) = omega arith in
+    let fuel : map_node_limit + 1 - level ≡ suc (map_node_limit - level) = omega arith in
     subst (λ n. 0 < count (map_included n world path level root).tree) (sym fuel) (omega arith)
 
 pub path_entered : (homes : List Home) (left now : List Work) (at : ℕ) (walk : Walk)
@@ -89,8 +90,9 @@ path_entered homes left now at walk is =
     ∙ path_both homes [] left (works.Leave at ∷ [])
 
 -- the root of a map was put, and what it holds is left
-map_begun : (world : World) (path : List (List ℕ)) (home : Home) (walk : Walk) (parent : ℕ) (root : Whole) (made : Made)
-    → walk.level ≤ node_limit → walk.place ≡ root_place world root.0.doc + 1 → walk.in_table ≡ false
+map_begun : (world : World) (path : List (List ℕ)) (home : Home) (walk : Walk) (parent : ℕ) (root : Whole)
+    (made : MadeNodes)
+    → walk.level ≤ map_node_limit → walk.place ≡ root_place world root.0.doc + 1 → walk.in_table ≡ false
     → walk.parent ≡ length made.nodes → root.1 ≡ content_between home (root_place world root.0.doc + 1) walk.end
     → put walk.parent (grown_of world path home walk)
     (put_node (new_head kinds.Map root.0 walk.level (root_place world root.0.doc)) parent
@@ -98,7 +100,7 @@ map_begun : (world : World) (path : List (List ℕ)) (home : Home) (walk : Walk)
     ≡ put parent (whole_map world path walk.level root) made
 unfolding map_included
 map_begun world path home walk parent root made fits place table below holds =
-    let fuel : node_limit + 1 - walk.level ≡ suc (node_limit - walk.level) = omega arith in
+    let fuel : map_node_limit + 1 - walk.level ≡ suc (map_node_limit - walk.level) = omega arith in
     let at = root_place world root.0.doc in
     let inner : Grown =
     nodes_among (submap_at world path walk.level) (record { level = walk.level; in_table = false }) (at + 1) root.1 in
@@ -111,7 +113,7 @@ pub map_entered : (world : World) (homes : List Home) (left now : List Work) (at
     → now ≡ (left ++ works.Leave at ∷ []) ++ works.Walk walk ∷ []
     → more ≡ nodes ++ node_of (new_head kinds.Map root.0 walk.level (root_place world root.0.doc)) parent 0 ∷ []
     → others ≡ faults ++ ignored_references root.0
-    → walk.level ≤ node_limit → walk.map ≡ at → walk.place ≡ root_place world root.0.doc + 1 → walk.in_table ≡ false
+    → walk.level ≤ map_node_limit → walk.map ≡ at → walk.place ≡ root_place world root.0.doc + 1 → walk.in_table ≡ false
     → walk.parent ≡ length nodes
     → root.1 ≡ content_between (home_at homes at) (root_place world root.0.doc + 1) walk.end
     → after world homes [] now (made_of more others)
@@ -153,7 +155,7 @@ pub enter_all : (world : World) (homes : List Home) (left now : List Work) (at p
     → IsPlaced world (home_at homes at)
     → now ≡ (left ++ works.Leave at ∷ []) ++ works.Walk walk ∷ []
     → more ≡ nodes ++ node_of (new_head kinds.Map (element_of name node) first.level first.place) first.parent 0 ∷ []
-    → others ≡ faults ++ ignored_references (element_of name node) → level ≤ node_limit
+    → others ≡ faults ++ ignored_references (element_of name node) → level ≤ map_node_limit
     → after world homes [] now (made_of more others)
     ≡ after world homes [] left
     (put parent (whole_map world (path_of homes left ++ name_at homes at ∷ []) level root) (made_of nodes faults))

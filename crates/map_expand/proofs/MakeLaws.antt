@@ -6,7 +6,7 @@ use Rattle.dita_doc.specs.declared.fault.Fault.{Fault}
 use Rattle.dita_doc.specs.declared.plan.PlanKind.{PlanKind}
 use Rattle.dita_doc.specs.declared.plan.PlanKind.TheVariants as kinds
 use Rattle.dita_doc.specs.declared.plan.PlanNode.{PlanNode}
-use Rattle.map_spec.specs.Included.{Around, ignored_references, includes_map, new_head, node_made}
+use Rattle.map_spec.specs.Included.{MapAround, ignored_references, includes_map, new_head, map_node_made}
 use Rattle.map_spec.specs.MapTree.{Grown, Head, beneath, beside, node_of, with_faults}
 use Rattle.map_spec.specs.Written.{Element}
 use Rattle.reader_spec.specs.World.{World}
@@ -15,7 +15,7 @@ use Rattle.readers.specs.Told.{Told}
 use Rattle.map_expand.specs.AskedFor.{AreAsked}
 use Rattle.map_expand.specs.Going.{AreApart, Ready, homes_of}
 use Rattle.map_expand.specs.Homes.{Home, home_at, name_at}
-use Rattle.map_expand.specs.Making.{AllFit, Made, WalkFits, after, grown_of, made_of, path_of, put, put_faults, without_ends}
+use Rattle.map_expand.specs.Making.{AllFit, MadeNodes, WalkFits, after, grown_of, made_of, path_of, put, put_faults, without_ends}
 use Rattle.map_expand.specs.declared.expansion.Expansion.{Expansion}
 use Rattle.map_expand.specs.declared.maps.Maps.{Maps}
 use Rattle.map_expand.specs.declared.work.Walk.{Walk}
@@ -44,7 +44,7 @@ ready_pushed told maps x y walk ready more left fits asked =
     }
 
 -- a walk is left on top of other work
-pub walk_left : (world : World) (homes : List Home) (left now : List Work) (walk : Walk) (made : Made)
+pub walk_left : (world : World) (homes : List Home) (left now : List Work) (walk : Walk) (made : MadeNodes)
     → now ≡ left ++ works.Walk walk ∷ []
     → after world homes [] now made
     ≡ after world homes [] left (put walk.parent (grown_of world (path_of homes left) (home_at homes walk.map) walk) made)
@@ -65,14 +65,14 @@ node_put parent place head faults more others inner nodes new is made added =
     ∙ put_beneath parent head inner (put_faults more (made_of nodes faults)))
 
 -- which node is made
-module _ (submap : Element → Grown) (kind : PlanKind) (around : Around) (place : ℕ) (element : Element) (below : Grown) where
+module _ (submap : Element → Grown) (kind : PlanKind) (around : MapAround) (place : ℕ) (element : Element) (below : Grown) where
   pub made_alone : includes_map kind around element ≡ false
       → with_faults (ignored_references element) (beneath (new_head kind element around.level place) below)
-      ≡ node_made submap kind around place element below
+      ≡ map_node_made submap kind around place element below
   made_alone test = sym (rw test refl)
 
   pub made_including : includes_map kind around element ≡ true
       → with_faults (ignored_references element)
       (beneath (new_head kinds.Included element around.level place) (beside (submap element) below))
-      ≡ node_made submap kind around place element below
+      ≡ map_node_made submap kind around place element below
   made_including test = sym (rw test refl)

@@ -5,6 +5,7 @@ use Rattle.std.proofs.Common.{refl, sym, ap, ◌∙◌, arith}
 use Rattle.std.proofs.lemmas.Bool.{true≢false}
 use Rattle.std.proofs.lemmas.Bool.Decides.{nat_tests}
 use Rattle.dita_doc.specs.declared.plan.PlanKind.{PlanKind}
+use Rattle.dita_doc.proofs.Tests.{or_assoc}
 use Rattle.map_spec.specs.Elements.{is_dita, tokens_of}
 use Rattle.map_spec.specs.Written.{Element}
 use Rattle.map_expand.specs.Makes.{kind_by, made, makes_kind, types_among}
@@ -13,15 +14,11 @@ use Rattle.map_expand.specs.declared.element.Makes.{Makes}
 use Rattle.map_expand.specs.declared.element.Makes.TheVariants as makes
 
 -- one word more
-or_step : (has first others : Bool) → ((has || first) || others) ≡ (has || (first || others))
-or_step true first others = refl
-or_step false first others = refl
-
 pub type_step : (test : List ℕ → Bool) (has new all : Bool) (word : List ℕ) (words more : List (List ℕ))
     → (has || list_any test words) ≡ all → words ≡ word ∷ more → new ≡ (has || test word)
     → (new || list_any test more) ≡ all
 type_step test has new all word words more before is made =
-    ap (λ b. b || list_any test more) made ∙ or_step has (test word) (list_any test more)
+    ap (λ b. b || list_any test more) made ∙ or_assoc has (test word) (list_any test more)
     ∙ sym (ap (λ ws. has || list_any test ws) is) ∙ before
 
 any_of : (has : Bool) (word : List ℕ) (more : List (List ℕ)) → (has || not (length (word ∷ more) == 0)) ≡ true

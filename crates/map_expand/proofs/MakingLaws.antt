@@ -3,39 +3,16 @@ use Rattle.std.specs.Prelude.{◌≡◌, ◌+◌, ◌<◌, ◌≤◌, ℕ, zero,
 use Rattle.std.proofs.Common.{refl, sym, ap, ◌∙◌, arith, append_assoc, append-nil, length-append}
 use Rattle.dita_doc.specs.declared.fault.Fault.{Fault}
 use Rattle.dita_doc.specs.declared.plan.PlanNode.{PlanNode}
-use Rattle.map_spec.specs.MapTree.{Grown, Head, MapTree, NoNodes, MapNode, beneath, beside, count, no_growth, node_of, nodes_below, trees_beside, with_faults}
+use Rattle.map_spec.specs.MapTree.{Grown, Head, beneath, beside, count, no_growth, node_of, nodes_below, with_faults}
 use Rattle.plan_nodes.specs.Preorder.{without_end}
 use Rattle.reader_spec.specs.World.{World}
+use Rattle.map_lemmas.proofs.TreeLaws.{below_beside, length_below}
 use Rattle.map_expand.specs.Homes.{Home, home_at}
-use Rattle.map_expand.specs.Making.{AllFit, Made, WorkFits, after, done_by, path_after, path_in, put, put_faults, without_ends}
+use Rattle.map_expand.specs.Making.{AllFit, MadeNodes, WorkFits, after, done_by, path_after, path_in, put, put_faults, without_ends}
 use Rattle.map_expand.specs.declared.work.Work.{Work}
 use Rattle.map_expand.specs.declared.work.Work.TheVariants as works
 
 -- Trees
-
-pub length_below : (parent place : ℕ) (tree : MapTree) → length (nodes_below parent place tree) ≡ count tree
-length_below parent place NoNodes = refl
-length_below parent place (MapNode head below more) =
-    let end = place + 1 + count below in
-    let within = length_below place (place + 1) below in
-    let behind = length_below parent end more in
-    omega (arith, length-append (nodes_below place (place + 1) below) (nodes_below parent end more))
-
--- trees side by side, one behind the other
-below_beside : (parent place : ℕ) (first second : MapTree)
-    → nodes_below parent place (trees_beside first second)
-    ≡ nodes_below parent place first ++ nodes_below parent (place + count first) second
-below_beside parent place NoNodes second =
-    let same : place ≡ place + 0 = omega arith in ap (λ n. nodes_below parent n second) same
-below_beside parent place (MapNode head below more) second =
-    let end = place + 1 + count below in
-    let node = node_of head parent end in
-    let inner = nodes_below place (place + 1) below in
-    let behind : end + count more ≡ place + (1 + (count below + count more)) = omega arith in
-    ap (λ others. node ∷ (inner ++ others)) (below_beside parent end more second)
-    ∙ ap (λ n. node ∷ (inner ++ (nodes_below parent end more ++ nodes_below parent n second))) behind
-    ∙ ap (λ others. node ∷ others)
-    (sym (append_assoc inner (nodes_below parent end more) (nodes_below parent (place + (1 + (count below + count more))) second)))
 
 pub length_without : (nodes : List PlanNode) → length (without_ends nodes) ≡ length nodes
 length_without [] = refl
@@ -46,10 +23,11 @@ without_both [] more = refl
 without_both (node ∷ nodes) more = ap (λ others. without_end node ∷ others) (without_both nodes more)
 
 pub made_same : (nodes other : List PlanNode) (faults more : List Fault) → nodes ≡ other → faults ≡ more
-    → (let made : Made = record { nodes = nodes; faults = faults } in made) ≡ record { nodes = other; faults = more }
+    → (let made : MadeNodes = record { nodes = nodes; faults = faults } in made)
+    ≡ record { nodes = other; faults = more }
 made_same nodes other faults more same alike = rw (same, alike) refl
 
-pub put_beside : (parent : ℕ) (first second : Grown) (made : Made)
+pub put_beside : (parent : ℕ) (first second : Grown) (made : MadeNodes)
     → put parent (beside first second) made ≡ put parent second (put parent first made)
 put_beside parent first second made =
     let place = length made.nodes in
@@ -67,22 +45,22 @@ put_beside parent first second made =
     ∙ ap (λ n. (made.nodes ++ without_ends front) ++ without_ends (nodes_below parent n second.tree)) (sym there))
     (sym (append_assoc made.faults first.faults second.faults))
 
-pub put_with_faults : (parent : ℕ) (faults : List Fault) (grown : Grown) (made : Made)
+pub put_with_faults : (parent : ℕ) (faults : List Fault) (grown : Grown) (made : MadeNodes)
     → put parent (with_faults faults grown) made ≡ put parent grown (put_faults faults made)
 put_with_faults parent faults grown made =
     made_same _ _ _ _ refl (sym (append_assoc made.faults faults grown.faults))
 
-pub put_nothing : (parent : ℕ) (made : Made) → put parent no_growth made ≡ made
+pub put_nothing : (parent : ℕ) (made : MadeNodes) → put parent no_growth made ≡ made
 put_nothing parent made = made_same _ _ _ _ (append-nil made.nodes) (append-nil made.faults)
 
 -- a node, and those below it behind it
-abbrev pub put_node : Head → ℕ → Made → Made
+abbrev pub put_node : Head → ℕ → MadeNodes → MadeNodes
 put_node head parent made = record {
   nodes = made.nodes ++ without_end (node_of head parent 0) ∷ [];
   faults = made.faults;
 }
 
-pub put_beneath : (parent : ℕ) (head : Head) (below : Grown) (made : Made)
+pub put_beneath : (parent : ℕ) (head : Head) (below : Grown) (made : MadeNodes)
     → put parent (beneath head below) made ≡ put (length made.nodes) below (put_node head parent made)
 put_beneath parent head below made =
     let place = length made.nodes in
@@ -97,7 +75,7 @@ put_beneath parent head below made =
 -- Work
 
 module _ (world : World) (homes : List Home) where
-  pub after_both : (path : List (List ℕ)) (front back : List Work) (made : Made)
+  pub after_both : (path : List (List ℕ)) (front back : List Work) (made : MadeNodes)
       → after world homes path (front ++ back) made
       ≡ after world homes path front (after world homes (path_after homes path front) back made)
   after_both path [] back made = refl
@@ -123,12 +101,12 @@ module _ (world : World) (homes more : List Home) (n : ℕ) where
   path_still path (works.Walk walk) fits = refl
   path_still path (works.Leave at) fits = ap (λ (home : Home). path ++ home.name ∷ []) (home_still homes more at fits)
 
-  done_still : (path : List (List ℕ)) (work : Work) (made : Made) → WorkFits homes n work
+  done_still : (path : List (List ℕ)) (work : Work) (made : MadeNodes) → WorkFits homes n work
       → done_by world (homes ++ more) path work made ≡ done_by world homes path work made
   done_still path (works.Walk walk) made fits = rw (home_still homes more walk.map fits.on.map) refl
   done_still path (works.Leave at) made fits = refl
 
-  pub after_still : (path : List (List ℕ)) (all : List Work) (made : Made) → AllFit homes n all
+  pub after_still : (path : List (List ℕ)) (all : List Work) (made : MadeNodes) → AllFit homes n all
       → after world (homes ++ more) path all made ≡ after world homes path all made
   after_still path [] made fits = refl
   after_still path (work ∷ all) made fits =

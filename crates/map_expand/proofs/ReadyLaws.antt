@@ -9,6 +9,7 @@ use Rattle.std.proofs.Math.Logic.{⊎_elim}
 use Rattle.std.proofs.lemmas.Bool.{cases_lt, false≢true}
 use Rattle.std.proofs.lemmas.List.Folds.{list_any-append}
 use Rattle.std.proofs.lemmas.Slice.Eq.{bytes_eq-Decides}
+use Rattle.dita_doc.proofs.Tests.{same_text}
 use Rattle.readers.specs.Founded as founded
 use Rattle.readers.specs.Founded.{Grows}
 use Rattle.readers.specs.Told.{Told}
@@ -101,9 +102,6 @@ pub length_flags : (maps : List MapDoc) → length (flags maps) ≡ length (home
 length_flags [] = refl
 length_flags (map ∷ maps) = ap suc (length_flags maps)
 
-pub same_name : (a b : List ℕ) → bytes_eq a b ≡ true → a ≡ b
-same_name a b e = (bytes_eq-Decides a b).0 e
-
 -- the names that are marked, with one name more
 module _ (told : List Told) (maps : Maps) (fits : MapsFit told maps) (path : List (List ℕ)) (at : ℕ)
     (there : at < length (homes_of maps))
@@ -114,7 +112,7 @@ module _ (told : List Told) (maps : Maps) (fits : MapsFit told maps) (path : Lis
       → get_or (set (flags maps.maps.items) at true) k false
       ≡ (list_any (bytes_eq (name_at (homes_of maps) k)) path || (is || false))
   marked_at k within true same =
-      let one : k ≡ at = one_of_name told maps k at fits within there (same_name _ _ same) in
+      let one : k ≡ at = one_of_name told maps k at fits within there (same_text _ _ same) in
       ap (λ n. get_or (set (flags maps.maps.items) at true) n false) one
       ∙ flag_put (flags maps.maps.items) at true (omega (arith, length_flags maps.maps.items))
       ∙ sym (either (list_any (bytes_eq (name_at (homes_of maps) k)) path))
@@ -226,5 +224,5 @@ ready_found told later maps new x ready grows fits extends flagged =
         let many : length (homes_of new) ≡ length (homes_of maps) + length extends.more = ap (λ l. length l) is ∙ length-append (homes_of maps) extends.more in
         let old : name_at (homes_of new) at ≡ name_at (homes_of maps) at =
         ap (λ (h : Home). h.name) (ap (λ l. home_at l at) is ∙ home_still (homes_of maps) extends.more at inside) in
-        let one : k ≡ at = one_of_name later new k at fits within (omega arith) (same_name _ _ e ∙ sym old) in
+        let one : k ≡ at = one_of_name later new k at fits within (omega arith) (same_text _ _ e ∙ sym old) in
         absurd (omega (arith, one, past, inside))

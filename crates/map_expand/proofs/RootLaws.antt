@@ -1,5 +1,5 @@
 -- The root of a document.
-use Rattle.std.specs.Prelude.{◌≡◌, ◌+◌, ◌<◌, ℕ, zero, suc, Bool, true, false, List, [], ◌∷◌, Some, None, length, get_or, slice_get, if◌then◌else◌}
+use Rattle.std.specs.Prelude.{◌≡◌, ◌+◌, ◌<◌, ℕ, Bool, true, false, List, [], Some, None, length, slice_get, if◌then◌else◌}
 use Rattle.std.specs.Option.{option_and_then}
 use Rattle.std.proofs.Common.{sym, ap, ◌∙◌, arith}
 use Rattle.dita_doc.specs.Tree.{tree_of}
@@ -11,11 +11,6 @@ use Rattle.map_spec.specs.Written.{Whole, first_place, first_sibling, written_in
 use Rattle.map_expand.specs.Homes.{AreSiblings, Home, content_between, whole_by}
 use Rattle.map_expand.specs.Known.{IsRoot, map_wanted, root_wanted}
 use Rattle.map_expand.proofs.SiblingLaws.{after_chars, after_element}
-
-pub read_at : {X : Type 0} (xs : List X) (at : ℕ) (x : X) → at < length xs → x ≡ get_or xs at x → slice_get xs at ≡ Some x
-read_at [] at x inside is = absurd (omega arith)
-read_at (first ∷ xs) zero x inside is = ap (λ y. Some y) (sym is)
-read_at (first ∷ xs) (suc at) x inside is = read_at xs at x (omega arith) is
 
 -- a document whose root stands at this place
 abbrev rooted : List ℕ → List Node → ℕ → Home

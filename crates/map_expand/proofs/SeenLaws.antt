@@ -1,6 +1,7 @@
 -- What the first of the nodes of a walk makes.
 use Rattle.std.specs.Prelude.{◌≡◌, ◌+◌, ◌-◌, ◌<◌, ◌≤◌, ℕ, Bool, true, false, List, Option, Some, None, length, take, drop, slice_get, if◌then◌else◌}
 use Rattle.std.proofs.Common.{refl, sym, ap, ◌∙◌, arith, subst}
+use Rattle.std.proofs.lemmas.Option.{same_Some}
 use Rattle.dita_doc.specs.Tree.{ArePreorder}
 use Rattle.dita_doc.specs.declared.doc.Node.{Node}
 use Rattle.dita_doc.specs.declared.doc.NodeKind.TheVariants as kinds
@@ -27,9 +28,6 @@ none_inside home place end order within =
       within = omega arith;
       tree = subst (λ n. ArePreorder (take n (drop place home.nodes)) place) none refl;
     }
-
-some_node : (some other : Node) → Some some ≡ Some other → some ≡ other
-some_node some other same = cc
 
 made_grown : (world : World) (path : List (List ℕ)) (home : Home) (walk : Walk) (end : ℕ) (element : Element)
     (transparent : Bool) (kind : Option PlanKind)
@@ -84,7 +82,7 @@ module _ (home : Home) (walk : Walk) (node : Node) (end : ℕ) (what : makes.the
     inside = subst (λ n. AreSiblings home (walk.place + 1) n) (sym is) after.inside;
     behind = subst (λ n. AreSiblings home n walk.end) (sym is) after.behind;
     made = λ other there world path.
-        let same : node ≡ other = some_node node other (sym here ∙ there) in
+        let same : node ≡ other = same_Some node other (sym here ∙ there) in
         subst (λ (n : Node). Makes world path home walk end (element_of home.name n) what) same
         (subst (Makes world path home walk end (element_of home.name node)) (sym (makes_it home.name))
         (subst (λ n. Makes world path home walk n (element_of home.name node) (made (element_of home.name node))) (sym is)

@@ -3,13 +3,14 @@ use Rattle.std.specs.Prelude.{◌≡◌, ◌+◌, ◌-◌, ◌<◌, ◌≤◌, �
 use Rattle.std.proofs.Common.{refl, sym, ap, ◌∙◌, arith, subst}
 use Rattle.std.proofs.lemmas.List.{drop-drop, drop-take, length-drop, length-take, take-take}
 use Rattle.dita_doc.specs.Tree as tree
-use Rattle.dita_doc.specs.Tree.{ArePreorder, Content, content_of, content_within, nodes_of, size_of}
+use Rattle.dita_doc.specs.Tree.{ArePreorder, content_of, content_within, nodes_of}
 use Rattle.dita_doc.specs.declared.doc.Node.{Node}
 use Rattle.dita_doc.specs.declared.doc.NodeKind.TheVariants as kinds
 use Rattle.dita_doc.proofs.TreeLaws.{BeginsElement, begins_element, length_nodes}
 use Rattle.doc_elements.specs.Walk.{element_of}
 use Rattle.map_spec.specs.Written as written
 use Rattle.map_spec.specs.Written.{Written, size, written_in}
+use Rattle.map_lemmas.proofs.TreeLaws.{size_written}
 use Rattle.map_expand.specs.Homes.{AreSiblings, Home, content_between, nodes_between}
 
 drop_first : (n : ℕ) (nodes : List Node) (node : Node) → slice_get nodes n ≡ Some node
@@ -17,12 +18,6 @@ drop_first : (n : ℕ) (nodes : List Node) (node : Node) → slice_get nodes n �
 drop_first n [] node is = cc
 drop_first zero (first ∷ nodes) node is = let same : first ≡ node = cc in ap (λ x. x ∷ nodes) same
 drop_first (suc n) (first ∷ nodes) node is = drop_first n nodes node is
-
-pub size_written : (name : List ℕ) (content : Content) → size (written_in name content) ≡ size_of content
-size_written name tree.End = refl
-size_written name (tree.Chars text origin line rest) = ap (λ n. 1 + n) (size_written name rest)
-size_written name (tree.Element element attributes origin line inside rest) =
-    let a = size_written name inside in let b = size_written name rest in omega arith
 
 -- as many nodes as there are places
 pub size_between : (home : Home) (place end : ℕ) → AreSiblings home place end

@@ -9,6 +9,7 @@ use Rattle.dita_doc.specs.declared.doc.Node as doc
 use Rattle.dita_doc.specs.declared.fault.Fault.{Fault}
 use Rattle.dita_doc.specs.declared.plan.PlanKind.{PlanKind}
 use Rattle.dita_doc.specs.declared.plan.PlanNode.{PlanNode}
+use Rattle.dita_doc.proofs.Tests.{or_first, or_second, same_text}
 use Rattle.map_spec.specs.MapTree.{Grown, beside, with_faults}
 use Rattle.map_spec.specs.Written.{Element}
 use Rattle.reader_spec.specs.World.{World}
@@ -17,7 +18,7 @@ use Rattle.readers.specs.Told.{Told}
 use Rattle.map_expand.specs.AskedFor.{AreAsked}
 use Rattle.map_expand.specs.Going.{AreApart, Ready, homes_of, path_at, rest, so_far}
 use Rattle.map_expand.specs.Homes.{AreSiblings, Home, IsNodeOf, flags, home_at, name_at}
-use Rattle.map_expand.specs.Making.{AllFit, Made, WalkFits, after, behind, content, grown_of, made_of, node_grown, path_of, put, put_faults}
+use Rattle.map_expand.specs.Making.{AllFit, MadeNodes, WalkFits, after, behind, content, grown_of, made_of, node_grown, path_of, put, put_faults}
 use Rattle.map_expand.specs.declared.expansion.Expansion.{Expansion}
 use Rattle.map_expand.specs.declared.maps.Maps.{Maps}
 use Rattle.map_expand.specs.declared.work.Walk.{Walk}
@@ -26,7 +27,7 @@ use Rattle.map_expand.specs.declared.work.Work.TheVariants as works
 use Rattle.map_expand.proofs.LeftLaws.{steps_left_push}
 use Rattle.map_expand.proofs.MakingLaws.{after_both, fits_front, fits_last, path_both, put_beside, put_with_faults}
 use Rattle.map_expand.proofs.MakeLaws.{walk_left}
-use Rattle.map_expand.proofs.ReadyLaws.{flag_else, flag_put, length_flags, maps_same, one_of_name, same_name}
+use Rattle.map_expand.proofs.ReadyLaws.{flag_else, flag_put, length_flags, maps_same, one_of_name}
 use Rattle.map_expand.proofs.TellingLaws.{telling}
 
 some_at : (nodes : List doc.Node) (at : ℕ) → at < length nodes → (node : doc.Node) × (slice_get nodes at ≡ Some node)
@@ -48,7 +49,7 @@ module _ (world : World) (homes : List Home) (left now : List Work) (walk : Walk
   path_same : path_of homes now ≡ path_of homes left
   path_same = ap (path_of homes) is ∙ path_both homes [] left (works.Walk (behind walk end) ∷ [])
 
-  pub stepped_nothing : (made : Made)
+  pub stepped_nothing : (made : MadeNodes)
       → grown_of world (path_of homes left) (home_at homes walk.map) walk
       ≡ grown_of world (path_of homes left) (home_at homes walk.map) (behind walk end)
       → after world homes [] now made
@@ -57,7 +58,7 @@ module _ (world : World) (homes : List Home) (left now : List Work) (walk : Walk
       walk_left world homes left now (behind walk end) made is
       ∙ ap (λ g. after world homes [] left (put walk.parent g made)) (sym same)
 
-  pub stepped_node : (kind : PlanKind) (element : Element) (made : Made)
+  pub stepped_node : (kind : PlanKind) (element : Element) (made : MadeNodes)
       → grown_of world (path_of homes left) (home_at homes walk.map) walk
       ≡ beside (node_grown world (path_of homes left) (home_at homes walk.map) walk kind element end)
       (grown_of world (path_of homes left) (home_at homes walk.map) (behind walk end))
@@ -120,14 +121,6 @@ walk_taken told maps x y walk ready nodes is =
 
 -- A map is left
 
-or_first : (a b : Bool) → (a || b) ≡ false → a ≡ false
-or_first true b e = e
-or_first false b e = refl
-
-or_second : (a b : Bool) → (a || b) ≡ false → b ≡ false
-or_second true b e = cc
-or_second false b e = e
-
 other_way : (a b : List ℕ) → bytes_eq a b ≡ false → bytes_eq b a ≡ false
 other_way a b e = by_test (bytes_eq b a) refl
   where
@@ -188,7 +181,7 @@ map_left told maps new x y at ready nodes is known same flagged =
         → get_or (set (flags maps.maps.items) at false) k false
         ≡ list_any (bytes_eq (name_at (homes_of maps) k)) (path_of (homes_of maps) y.left.items)
     by_name k inside there path_is none true e =
-        let named = same_name _ _ e in
+        let named = same_text _ _ e in
         let one : k ≡ at = one_of_name told maps k at ready.maps_fit inside there named in
         ap (λ n. get_or (set (flags maps.maps.items) at false) n false) one
         ∙ flag_put (flags maps.maps.items) at false (omega (arith, length_flags maps.maps.items))
@@ -202,7 +195,7 @@ map_left told maps new x y at ready nodes is known same flagged =
         ∙ ap (λ b. list_any (bytes_eq (name_at (homes_of maps) k)) (path_of (homes_of maps) y.left.items) || (b || false)) e
         ∙ neither (list_any (bytes_eq (name_at (homes_of maps) k)) (path_of (homes_of maps) y.left.items))
 
-pub left_after : (world : World) (homes : List Home) (left now : List Work) (at : ℕ) (made : Made)
+pub left_after : (world : World) (homes : List Home) (left now : List Work) (at : ℕ) (made : MadeNodes)
     → now ≡ left ++ works.Leave at ∷ [] → after world homes [] now made ≡ after world homes [] left made
 left_after world homes left now at made is =
     ap (λ l. after world homes [] l made) is ∙ after_both world homes [] left (works.Leave at ∷ []) made

@@ -1,5 +1,5 @@
 -- What a map names may be asked about.
-use Rattle.std.specs.Prelude.{◌≡◌, ◌+◌, ◌-◌, ◌<◌, ◌≤◌, ◌||◌, ℕ, zero, suc, Bool, true, false, List, [], ◌∷◌, ◌++◌, Option, Some, None, IfSome, IsTrue, codes, length, take, drop, slice_get, unwrap_or, if◌then◌else◌}
+use Rattle.std.specs.Prelude.{◌≡◌, ◌+◌, ◌-◌, ◌<◌, ◌≤◌, ℕ, zero, suc, Bool, true, false, List, [], ◌∷◌, ◌++◌, Option, Some, None, IfSome, IsTrue, codes, length, take, drop, slice_get, unwrap_or}
 use Rattle.std.specs.Option.{option_and_then, option_to_list}
 use Rattle.std.proofs.Common.{refl, sym, ap, ◌∙◌, arith, subst}
 use Rattle.std.proofs.Math.Logic.{⊎_elim}
@@ -10,10 +10,11 @@ use Rattle.dita_doc.specs.Tree.{ArePreorder, chars_node, content_of, content_wit
 use Rattle.dita_doc.specs.declared.doc.Node as doc
 use Rattle.dita_doc.specs.declared.doc.NodeKind.{NodeKind}
 use Rattle.dita_doc.specs.declared.doc.NodeKind.TheVariants as kinds
+use Rattle.dita_doc.proofs.TreeLaws.{slice_get-drop, slice_get-take}
 use Rattle.doc_elements.specs.Walk.{element_of}
 use Rattle.href_text.specs.Reference.{is_external}
 use Rattle.map_spec.specs.Elements.{attribute, has_value}
-use Rattle.map_spec.specs.Target.{Document, Elsewhere, default_scope, is_far, named_by, named_of}
+use Rattle.map_spec.specs.Target.{Document, default_scope, is_far, named_of}
 use Rattle.map_spec.specs.Written as written
 use Rattle.map_spec.specs.Written.{Element, Written, written_in}
 use Rattle.readers.specs.Documents.{AsksOnly, nothing}
@@ -27,6 +28,7 @@ use Rattle.readers.proofs.GrowthLaws.{allowed_before}
 use Rattle.map_expand.specs.AskedFor.{asked_for}
 use Rattle.map_expand.specs.Homes.{AreSiblings, Home, IsFirst, nodes_between}
 use Rattle.readers.proofs.AmongLaws.{among_back, among_front}
+use Rattle.plan_nodes.proofs.GivenLaws.{name_by}
 use Rattle.map_expand.proofs.AskedForLaws.{asked_before}
 use Rattle.map_expand.proofs.SiblingLaws.{begin}
 use Rattle.map_expand.specs.declared.work.Walk.{Walk}
@@ -59,18 +61,6 @@ if_some None P is x same = cc
 if_some (Some y) P is x same = let one : y ≡ x = cc in subst P one is
 
 -- An element of a document
-
-get_take : (n : ℕ) (nodes : List doc.Node) (k : ℕ) → k < n → slice_get (take n nodes) k ≡ slice_get nodes k
-get_take zero nodes k inside = absurd (omega arith)
-get_take (suc n) [] k inside = refl
-get_take (suc n) (node ∷ nodes) zero inside = refl
-get_take (suc n) (node ∷ nodes) (suc k) inside = get_take n nodes k (omega arith)
-
-get_drop : (n : ℕ) (nodes : List doc.Node) (k at : ℕ) → at ≡ n + k → slice_get (drop n nodes) k ≡ slice_get nodes at
-get_drop zero nodes k at is = let same : k ≡ at = omega arith in ap (slice_get nodes) same
-get_drop (suc n) nodes k zero is = absurd (omega arith)
-get_drop (suc n) [] k (suc at) is = refl
-get_drop (suc n) (node ∷ nodes) k (suc at) is = get_drop n nodes k at (omega arith)
 
 -- what its elements give is what each of them gives
 module _ (F : Written → List (List ℕ)) (f : Element → List (List ℕ)) (name : List ℕ)
@@ -114,9 +104,9 @@ module _ (F : Written → List (List ℕ)) (f : Element → List (List ℕ)) (na
           (again nodes (place + 1) k (omega arith) is))
       by_kind again true e = let many = first.end - (place + 1) in rw e (⊎_elim
           (λ before. by_inside _ _ _ (again (take many nodes) (place + 1) k (omega (arith, length-take many nodes))
-          (get_take many nodes k before ∙ is)))
+          (slice_get-take many nodes k before ∙ is)))
           (λ past. by_rest _ _ _ (again (drop many nodes) first.end (k - many) (omega (arith, length-drop many nodes))
-          (get_drop many nodes (k - many) k (omega arith) ∙ is)))
+          (slice_get-drop many nodes (k - many) k (omega arith) ∙ is)))
           (cases_lt k many))
 
 module _ (home : Home) (at : ℕ) (node : doc.Node) (here : slice_get home.nodes at ≡ Some node)
@@ -133,21 +123,12 @@ module _ (home : Home) (at : ℕ) (node : doc.Node) (here : slice_get home.nodes
 
 -- A document that an href names
 
-by_tests : (far external empty : Bool) (read : Option (List ℕ)) (name : List ℕ)
-    → (if far || external then Elsewhere else named_by (if empty then None else read)) ≡ Document name
-    → (if external then None else read) ≡ Some name
-by_tests true external empty read name is = cc
-by_tests false true empty read name is = cc
-by_tests false false true read name is = cc
-by_tests false false false None name is = cc
-by_tests false false false (Some other) name is = let same : other ≡ name = cc in ap (λ n. Some n) same
-
 module _ (element : Element) (href name : List ℕ) (is : attribute (codes "href") element ≡ Some href)
     (named : named_of element href ≡ Document name) where
   gives_name : IsTrue (is_among (names_of_element element) name)
   gives_name =
       let read : name_joined element.doc href ≡ Some name =
-      by_tests (is_far (unwrap_or (attribute (codes "scope") element) default_scope)) (is_external href) _ _ name named in
+      name_by (is_far (unwrap_or (attribute (codes "scope") element) default_scope)) (is_external href) _ _ name named in
       let found : option_and_then (name_joined element.doc) (attribute (codes "href") element) ≡ Some name =
       ap (option_and_then (name_joined element.doc)) is ∙ read in
       first_among (codes "href") element.doc element.attributes name refl

@@ -5,14 +5,14 @@ use Rattle.dita_doc.specs.declared.plan.PlanStop.{PlanStop}
 use Rattle.dita_doc.specs.declared.plan.PlanStop.TheVariants as stops
 use Rattle.dita_doc.specs.declared.stop.Stop.{Stop}
 use Rattle.dita_doc.specs.declared.stop.Stop.TheVariants.{Fault, NoMemory}
-use Rattle.map_spec.specs.Included.{node_limit}
+use Rattle.map_spec.specs.Included.{map_node_limit}
 use Rattle.reader_spec.specs.World.{World}
 use Rattle.readers.specs.Founded as founded
 use Rattle.readers.specs.Told.{Told}
 use Rattle.map_expand.specs.AskedFor.{AreAsked}
 use Rattle.map_expand.specs.Homes.{Home, flag_at, homes, name_at}
 use Rattle.map_expand.specs.Known.{MapsFit}
-use Rattle.map_expand.specs.Making.{AllFit, Made, after, made_of, path_of}
+use Rattle.map_expand.specs.Making.{AllFit, MadeNodes, after, made_of, path_of}
 use Rattle.map_expand.specs.declared.expansion.Expansion.{Expansion}
 use Rattle.map_expand.specs.declared.maps.Maps.{Maps}
 
@@ -38,24 +38,24 @@ abbrev pub path_at : Maps → Expansion → List (List ℕ)
 path_at maps x = path_of (homes_of maps) x.left.items
 
 -- what was made so far
-abbrev pub so_far : Expansion → Made
+abbrev pub so_far : Expansion → MadeNodes
 so_far x = made_of x.nodes x.faults
 
 -- what there is in the end, if this is made next
-abbrev pub rest : World → Maps → Expansion → Made → Made
+abbrev pub rest : World → Maps → Expansion → MadeNodes → MadeNodes
 rest world maps x made = after world (homes_of maps) [] x.left.items made
 
 -- a stop that is told only where there is too much
-abbrev pub IsOver : Stop PlanStop → Made → Type 0
-IsOver (Fault stop) all = (stop ≡ stops.TooManyNodes) × (node_limit < length all.nodes)
+abbrev pub IsOver : Stop PlanStop → MadeNodes → Type 0
+IsOver (Fault stop) all = (stop ≡ stops.TooManyNodes) × (map_node_limit < length all.nodes)
 IsOver NoMemory all = Unit {0}
 
 -- what there is in the end is this, or is too much
-abbrev pub Goes : {A : Type 0} → World → Result A (Stop PlanStop) → Maps → Expansion → Made → Type 0
+abbrev pub Goes : {A : Type 0} → World → Result A (Stop PlanStop) → Maps → Expansion → MadeNodes → Type 0
 Goes world (Ok value) maps x all = rest world maps x (so_far x) ≡ all
 Goes world (Err stop) maps x all = IsOver stop all
 
 -- there is no room for a node
-abbrev pub IsFull : Stop PlanStop → ℕ → Type 0
-IsFull (Fault stop) count = (stop ≡ stops.TooManyNodes) × (node_limit ≤ count)
-IsFull NoMemory count = Unit {0}
+abbrev pub HasNoRoom : Stop PlanStop → ℕ → Type 0
+HasNoRoom (Fault stop) count = (stop ≡ stops.TooManyNodes) × (map_node_limit ≤ count)
+HasNoRoom NoMemory count = Unit {0}

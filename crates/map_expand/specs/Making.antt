@@ -6,7 +6,7 @@ use Rattle.dita_doc.specs.declared.plan.PlanKind.{PlanKind}
 use Rattle.dita_doc.specs.declared.plan.PlanNode.{PlanNode}
 use Rattle.doc_elements.specs.Walk.{element_of}
 use Rattle.map_spec.specs.Elements.{class_faults}
-use Rattle.map_spec.specs.Included.{Around, around_below, map_included, node_limit, node_made, nodes_among, nodes_of_element, submap_of}
+use Rattle.map_spec.specs.Included.{MapAround, around_below, map_included, map_node_limit, map_node_made, nodes_among, nodes_of_element, submap_of}
 use Rattle.map_spec.specs.MapTree.{Grown, beside, nodes_below, with_faults}
 use Rattle.map_spec.specs.Written.{Element, Whole, Written}
 use Rattle.plan_nodes.specs.Preorder.{without_end}
@@ -19,41 +19,41 @@ use Rattle.map_expand.specs.declared.work.Work.TheVariants as works
 
 -- What was made: nodes, whose ends are not known yet, and faults
 
-pub record Made : Type 0 where
+pub record MadeNodes : Type 0 where
   pub nodes : List PlanNode
   pub faults : List Fault
 
 abbrev pub without_ends : List PlanNode → List PlanNode
 without_ends nodes = map without_end nodes
 
-abbrev pub made_of : List PlanNode → List Fault → Made
+abbrev pub made_of : List PlanNode → List Fault → MadeNodes
 made_of nodes faults = record { nodes = without_ends nodes; faults = faults }
 
 -- a tree behind what was made, below the node at this place
-abbrev pub put : ℕ → Grown → Made → Made
+abbrev pub put : ℕ → Grown → MadeNodes → MadeNodes
 put parent grown made = record {
   nodes = made.nodes ++ without_ends (nodes_below parent (length made.nodes) grown.tree);
   faults = made.faults ++ grown.faults;
 }
 
-abbrev pub put_faults : List Fault → Made → Made
+abbrev pub put_faults : List Fault → MadeNodes → MadeNodes
 put_faults faults made = record { nodes = made.nodes; faults = made.faults ++ faults }
 
 -- What a walk makes
 
 -- a map at this level, with all maps that it includes
 abbrev pub whole_map : World → List (List ℕ) → ℕ → Whole → Grown
-whole_map world path level root = map_included (node_limit + 1 - level) world path level root
+whole_map world path level root = map_included (map_node_limit + 1 - level) world path level root
 
 -- the submap of an element at this level
 abbrev pub submap_at : World → List (List ℕ) → ℕ → Element → Grown
 submap_at world path level element =
-    submap_of (λ name. map_included (node_limit - level) world (path ++ name ∷ []) (level + 1)) world path element
+    submap_of (λ name. map_included (map_node_limit - level) world (path ++ name ∷ []) (level + 1)) world path element
 
-abbrev pub around_of : Walk → Around
+abbrev pub around_of : Walk → MapAround
 around_of walk = record { level = walk.level; in_table = walk.in_table }
 
-abbrev pub among : World → List (List ℕ) → Walk → Around → ℕ → Written → Grown
+abbrev pub among : World → List (List ℕ) → Walk → MapAround → ℕ → Written → Grown
 among world path walk around place nodes = nodes_among (submap_at world path walk.level) around place nodes
 
 abbrev pub grown_of : World → List (List ℕ) → Home → Walk → Grown
@@ -69,12 +69,12 @@ element_grown world path home walk element end =
 -- the node of that element
 abbrev pub node_grown : World → List (List ℕ) → Home → Walk → PlanKind → Element → ℕ → Grown
 node_grown world path home walk kind element end =
-    node_made (submap_at world path walk.level) kind (around_of walk) walk.place element
+    map_node_made (submap_at world path walk.level) kind (around_of walk) walk.place element
     (among world path walk (around_below kind (around_of walk)) (walk.place + 1) (content_between home (walk.place + 1) end))
 
 -- What work makes
 
-abbrev pub done_by : World → List Home → List (List ℕ) → Work → Made → Made
+abbrev pub done_by : World → List Home → List (List ℕ) → Work → MadeNodes → MadeNodes
 done_by world homes path (works.Walk walk) made =
     put walk.parent (grown_of world path (home_at homes walk.map) walk) made
 done_by world homes path (works.Leave at) made = made
@@ -85,7 +85,7 @@ path_in homes path (works.Walk walk) = path
 path_in homes path (works.Leave at) = path ++ name_at homes at ∷ []
 
 -- the last work is done first
-abbrev pub after : World → List Home → List (List ℕ) → List Work → Made → Made
+abbrev pub after : World → List Home → List (List ℕ) → List Work → MadeNodes → MadeNodes
 after world homes path [] made = made
 after world homes path (work ∷ more) made =
     done_by world homes path work (after world homes (path_in homes path work) more made)

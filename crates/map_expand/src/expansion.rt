@@ -28,7 +28,7 @@ ghost use Rattle.map_expand.specs.Left as left_spec;
 use crate::element::Makes;
 use crate::faults::{append_class_fault, append_fault, append_ignored};
 use crate::maps::Maps;
-use crate::node::{Asked, asked_by, kind_with, made_node};
+use crate::node::{Inclusion, asked_by, kind_with, made_node};
 use crate::work::{Walk, Work};
 use dita_doc::{
     Expanded, Fault, FaultCode, List, Name, NoMemory, Node, PlanKind, PlanNode, PlanStop, Stop,
@@ -75,7 +75,7 @@ impl Expansion {
     ) -> Result<(), Stop<PlanStop>>
         requires within { map < length (spec.homes_of maps.old) }
         requires fits { homes_spec.HomeFits (homes_spec.home_at (spec.homes_of maps.old) map) }
-        ensures few { OnOk result (length self.new.nodes ≤ included_spec.node_limit) }
+        ensures few { OnOk result (length self.new.nodes ≤ included_spec.map_node_limit) }
         ensures less { OnOk result (left_spec.left self.new.nodes self.new.left.items
             ≤ left_spec.left self.old.nodes self.old.left.items) }
         ensures known { maps.new.known ≡ maps.old.known }
@@ -92,7 +92,7 @@ impl Expansion {
         ensures made { (world : World) (root : Whole) →
             homes_spec.root_in (homes_spec.home_at (spec.homes_of maps.old) map) ≡ Some root →
             homes_spec.IsPlaced world (homes_spec.home_at (spec.homes_of maps.old) map) →
-            level ≤ length self.old.nodes → level ≤ included_spec.node_limit →
+            level ≤ length self.old.nodes → level ≤ included_spec.map_node_limit →
             spec.Goes world result maps.new self.new (spec.rest world maps.old self.old
             (making_spec.put parent (making_spec.whole_map world (spec.path_at maps.old self.old
             ++ homes_spec.name_at (spec.homes_of maps.old) map ∷ []) level root)
@@ -127,8 +127,8 @@ impl Expansion {
         maps: &mut Maps,
     ) -> Result<(), Stop<PlanStop>>
         requires ready { spec.Ready (R.told reader.old) maps.old self.old }
-        requires few { length self.old.nodes ≤ included_spec.node_limit }
-        ensures few { OnOk result (length self.new.nodes ≤ included_spec.node_limit) }
+        requires few { length self.old.nodes ≤ included_spec.map_node_limit }
+        ensures few { OnOk result (length self.new.nodes ≤ included_spec.map_node_limit) }
         ensures left { OnOk result (self.new.left.items ≡ []) }
         ensures asked { OnOk result (asked_for_spec.AreAsked (R.told reader.new)
             (founded_spec.homes self.new.nodes)) }
@@ -164,8 +164,8 @@ impl Expansion {
     ) -> Result<(), Stop<PlanStop>>
         requires ready { spec.Ready (R.told reader.old) maps.old self.old }
         requires fits { making_spec.WalkFits (spec.homes_of maps.old) (length self.old.nodes) walk }
-        requires few { length self.old.nodes ≤ included_spec.node_limit }
-        ensures few { OnOk result (length self.new.nodes ≤ included_spec.node_limit) }
+        requires few { length self.old.nodes ≤ included_spec.map_node_limit }
+        ensures few { OnOk result (length self.new.nodes ≤ included_spec.map_node_limit) }
         ensures less { OnOk result (left_spec.left self.new.nodes self.new.left.items
             < left_spec.left self.old.nodes self.old.left.items + left_spec.steps_of walk) }
         ensures ready { OnOk result (spec.Ready (R.told reader.new) maps.new self.new) }
@@ -227,7 +227,7 @@ impl Expansion {
         requires fits { making_spec.WalkFits (spec.homes_of maps.old) (length self.old.nodes) walk }
         requires inside { homes_spec.AreSiblings
             (homes_spec.home_at (spec.homes_of maps.old) walk.map) (walk.place + 1) end }
-        ensures few { OnOk result (length self.new.nodes ≤ included_spec.node_limit) }
+        ensures few { OnOk result (length self.new.nodes ≤ included_spec.map_node_limit) }
         ensures less { OnOk result (left_spec.left self.new.nodes self.new.left.items
             ≤ left_spec.left self.old.nodes self.old.left.items) }
         ensures ready { OnOk result (spec.Ready (R.told reader.new) maps.new self.new) }
@@ -270,15 +270,15 @@ impl Expansion {
         maps: &mut Maps,
         walk: Walk,
         place: u32,
-        asked: Asked,
+        asked: Inclusion,
     ) -> Result<(), Stop<PlanStop>>
         requires ready { spec.Ready (R.told reader.old) maps.old self.old }
         requires within { walk.map < length (spec.homes_of maps.old) }
         requires level { walk.level + 1 < length self.old.nodes }
-        requires count { length self.old.nodes ≤ included_spec.node_limit }
+        requires count { length self.old.nodes ≤ included_spec.map_node_limit }
         requires may { telling_spec.MayFind (R.told reader.old)
             (named_spec.named_shown asked.named) }
-        ensures few { OnOk result (length self.new.nodes ≤ included_spec.node_limit) }
+        ensures few { OnOk result (length self.new.nodes ≤ included_spec.map_node_limit) }
         ensures less { OnOk result (left_spec.left self.new.nodes self.new.left.items
             ≤ left_spec.left self.old.nodes self.old.left.items) }
         ensures ready { OnOk result (spec.Ready (R.told reader.new) maps.new self.new) }
@@ -295,7 +295,7 @@ impl Expansion {
             (walk_spec.element_of (homes_spec.name_at (spec.homes_of maps.old) walk.map) node)
             asked.href (named_spec.named_shown asked.named)) (spec.so_far self.old))) }
     {
-        let Asked { href, named } = asked;
+        let Inclusion { href, named } = asked;
         match named {
             Named::Document(name) => self.include_name(alloc, reader, maps, walk, place, &name),
             Named::Elsewhere => Ok(()),
@@ -321,8 +321,8 @@ impl Expansion {
         requires ready { spec.Ready (R.told reader.old) maps.old self.old }
         requires within { walk.map < length (spec.homes_of maps.old) }
         requires level { walk.level + 1 < length self.old.nodes }
-        requires count { length self.old.nodes ≤ included_spec.node_limit }
-        ensures few { OnOk result (length self.new.nodes ≤ included_spec.node_limit) }
+        requires count { length self.old.nodes ≤ included_spec.map_node_limit }
+        ensures few { OnOk result (length self.new.nodes ≤ included_spec.map_node_limit) }
         ensures less { OnOk result (left_spec.left self.new.nodes self.new.left.items
             ≤ left_spec.left self.old.nodes self.old.left.items) }
         ensures ready { OnOk result (spec.Ready (R.told reader.new) maps.new self.new) }
@@ -366,8 +366,8 @@ impl Expansion {
         requires around { homes_spec.flag_at maps.old.maps.items map
             ≡ list_any (bytes_eq name.now) (spec.path_at maps.old self.old) }
         requires level { walk.level + 1 < length self.old.nodes }
-        requires count { length self.old.nodes ≤ included_spec.node_limit }
-        ensures few { OnOk result (length self.new.nodes ≤ included_spec.node_limit) }
+        requires count { length self.old.nodes ≤ included_spec.map_node_limit }
+        ensures few { OnOk result (length self.new.nodes ≤ included_spec.map_node_limit) }
         ensures less { OnOk result (left_spec.left self.new.nodes self.new.left.items
             ≤ left_spec.left self.old.nodes self.old.left.items) }
         ensures ready { (told : List Told) → spec.Ready told maps.old self.old →
@@ -400,8 +400,8 @@ impl Expansion {
         kind: PlanKind,
     ) -> Result<u32, Stop<PlanStop>>
         ensures room { OnOk result (length self.old.nodes < 65536) }
-        ensures few { OnOk result (length self.new.nodes ≤ included_spec.node_limit) }
-        ensures full { IfErr result (λ stop. spec.IsFull stop (length self.old.nodes)) }
+        ensures few { OnOk result (length self.new.nodes ≤ included_spec.map_node_limit) }
+        ensures full { IfErr result (λ stop. spec.HasNoRoom stop (length self.old.nodes)) }
         ensures place { IfOk result (λ place. place ≡ length self.old.nodes) }
         ensures nodes { OnOk result (self.new.nodes ≡ self.old.nodes
             ++ tree_spec.node_of (included_spec.new_head kind

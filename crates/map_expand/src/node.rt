@@ -14,7 +14,7 @@ use targets::{Named, named_of};
 
 /// What a topicref includes: its href, and what that names.
 #[derive(Drop)]
-pub(crate) struct Asked {
+pub(crate) struct Inclusion {
     pub href: Text,
     pub named: Named,
 }
@@ -26,14 +26,14 @@ pub(crate) fn asked_by(
     element: &Node,
     kind: PlanKind,
     in_table: bool,
-) -> Result<Option<Asked>, NoMemory>
+) -> Result<Option<Inclusion>, NoMemory>
     ensures { IfOk result (λ asked. spec.IsAsked kind in_table
         (walk_spec.element_of name.now element.now) asked) }
 {
     let Some(href) = map_href(element, kind, in_table) else {
         return Ok(None);
     };
-    Ok(Some(Asked {
+    Ok(Some(Inclusion {
         href: Text::from_str(alloc, href)?,
         named: named_of(alloc, name, element, href)?,
     }))
@@ -55,7 +55,7 @@ fn map_href(element: &Node, kind: PlanKind, in_table: bool) -> Option<&str>
 }
 
 /// The kind of a node with what its element includes.
-pub(crate) fn kind_with(asked: &Option<Asked>, kind: PlanKind) -> PlanKind
+pub(crate) fn kind_with(asked: &Option<Inclusion>, kind: PlanKind) -> PlanKind
     ensures { result ≡ spec.kind_with asked.now kind }
 {
     match asked {

@@ -39,9 +39,9 @@ pub fn expand<R: Reader>(
 ) -> Result<Expanded, Stop<PlanStop>>
     ensures known { (world : World) → Agrees world (R.told reader.new) →
         Gives result (result_map_both included_spec.expanded (λ stop. stop)
-        (included_spec.included included_spec.node_limit world map.now)) }
+        (included_spec.included included_spec.map_node_limit world map.now)) }
     ensures value { Gives result (result_map_both included_spec.expanded (λ stop. stop)
-        (included_spec.included included_spec.node_limit (R.stand reader.old).world map.now)) }
+        (included_spec.included included_spec.map_node_limit (R.stand reader.old).world map.now)) }
     ensures stand { R.stand reader.new ≡ R.stand reader.old }
     ensures grows { Grows (R.told reader.old) (R.told reader.new) }
     ensures founded { StaysFounded (map.now ∷ []) (R.told reader.old) (R.told reader.new) }
@@ -72,7 +72,7 @@ fn expand_root<R: Reader>(
         homes_spec.root_in (homes_spec.home_at (going_spec.homes_of maps.old) root) ≡ Some whole →
         homes_spec.IsPlaced world (homes_spec.home_at (going_spec.homes_of maps.old) root) →
         Gives result (result_map_both included_spec.expanded (λ stop. stop)
-        (included_spec.limited included_spec.node_limit (making_spec.whole_map world
+        (included_spec.limited included_spec.map_node_limit (making_spec.whole_map world
         (homes_spec.name_at (going_spec.homes_of maps.old) root ∷ []) 0 whole))) }
     ensures stand { R.stand reader.new ≡ R.stand reader.old }
     ensures grows { Grows (R.told reader.old) (R.told reader.new) }

@@ -1,16 +1,19 @@
 -- What a key gives is the same for nodes that are alike.
-use Rattle.std.specs.Prelude.{◌≡◌, ◌+◌, ◌==◌, ℕ, zero, suc, List, [], ◌∷◌, ◌++◌, Option, Some, None, is_some, map, slice_get, unwrap_or, codes, if◌then◌else◌}
-use Rattle.std.specs.List.{list_any}
-use Rattle.std.specs.Option.{option_and_then, option_map_or}
-use Rattle.std.proofs.Common.{refl}
+use Rattle.std.specs.Prelude.{◌≡◌, ◌+◌, ◌==◌, ℕ, Bool, false, zero, suc, List, [], ◌∷◌, ◌++◌, Option, Some, None, is_some, map, slice_get, unwrap_or, codes, if◌then◌else◌, true, ◌<◌, length, ◌≤◌}
+use Rattle.std.specs.List.{IsDistinct, flat_map, list_any}
+use Rattle.std.specs.Option.{option_and_then, option_map_or, option_or}
+use Rattle.std.proofs.Common.{ap, arith, eqb, length-append, refl, sym, ◌∙◌}
+use Rattle.std.proofs.Math.Path.{fun_ext}
+use Rattle.std.proofs.lemmas.Bool.{false≢true}
 use Rattle.dita_doc.specs.declared.fault.FaultCode.{FaultCode}
 use Rattle.dita_doc.specs.declared.fault.FaultCode.TheVariants as faults
 use Rattle.dita_doc.specs.declared.plan.PlanNode.{PlanNode}
+use Rattle.dita_doc.specs.declared.plan.Scope.{Scope}
 use Rattle.dita_doc.specs.declared.plan.Target.TheVariants as targets
 use Rattle.reader_spec.specs.World.{World}
 use Rattle.map_spec.specs.Cascade.{attribute_at, walk}
-use Rattle.map_spec.specs.Keys.{Chain, answer_of_chain, attribute_of, chain, chain_at, chain_from, fault_of_place, href_target, key_answer, key_of, label_or, last_of, met_again, target_at, target_of_chain, text_of_chain, text_of_definition, texts_of_node, title_of_target, undefined, undefined_at, untitled_at}
-use Rattle.map_spec.specs.Scopes.{node_fault}
+use Rattle.map_spec.specs.Keys.{Chain, answer_of_chain, attribute_of, chain, chain_at, chain_from, fault_of_place, href_target, key_answer, key_of, label_or, last_of, met_again, target_of_definition, target_of_chain, text_of_chain, text_of_definition, texts_of_node, title_of_target, undefined, undefined_at, untitled_at}
+use Rattle.map_spec.specs.Scopes.{behind, child_scopes, first_found, node_fault, own, qualified}
 use Rattle.map_spec.specs.Target.{target_by}
 use Rattle.map_spec.specs.Titles.{first_text}
 use Rattle.map_lemmas.specs.Alike.{AreAlike, IsLike}
@@ -72,15 +75,15 @@ module _ (world : World) (nodes others : List PlanNode) (alike : AreAlike nodes 
   -- The target
 
   same_target_at : (node other : PlanNode) → IsLike node other → (around more : List PlanNode) → AreAlike around more
-      → target_at world nodes node around ≡ target_at world others other more
+      → target_of_definition world node around ≡ target_of_definition world other more
   same_target_at node other like around more walks = λ i. option_and_then (λ href.
       target_by href (same_cascaded_value world (codes "format") around more walks i)
       (same_cascaded_value world (codes "scope") around more walks i) (like i).doc)
       (attribute_at world (codes "href") (like i))
 
   pub same_href_target : (at : ℕ) → href_target world nodes at ≡ href_target world others at
-  same_href_target at = same_read_then nodes others alike (λ node. target_at world nodes node (walk nodes at))
-      (λ node. target_at world others node (walk others at)) at
+  same_href_target at = same_read_then nodes others alike (λ node. target_of_definition world node (walk nodes at))
+      (λ node. target_of_definition world node (walk others at)) at
       (λ node other like. same_target_at node other like (walk nodes at) (walk others at)
       (same_walk nodes others alike at))
 
@@ -113,3 +116,84 @@ module _ (world : World) (nodes others : List PlanNode) (alike : AreAlike nodes 
   pub same_key_answer : (scope : ℕ) (key : List ℕ)
       → key_answer world nodes scope key ≡ key_answer world others scope key
   same_key_answer scope key = λ i. same_answer_of_chain key (same_chain scope key i) i
+
+-- Definitions that a chain has met
+
+-- each once, each a node
+pub record AreMet (count : ℕ) (met : List ℕ) : Type 0 where
+  pub distinct : IsDistinct eqb met
+  pub below : (at : ℕ) → list_any (eqb at) met ≡ true → at < count
+
+pub none_met : (count : ℕ) → AreMet count []
+unfolding IsDistinct
+none_met count = record { distinct = tt; below = λ at is. absurd (false≢true is) }
+
+-- As many steps as a key is long are enough
+
+-- the same where the functions may find nothing in turn
+pub and_then_same : {X Y : Type 0} (found : Option X) (f g : X → Option Y) → ((x : X) → found ≡ Some x → f x ≡ g x)
+    → option_and_then f found ≡ option_and_then g found
+and_then_same None f g same = refl
+and_then_same (Some x) f g same = same x refl
+
+-- the first that is found in two lists, one behind the other
+first_beside : {X : Type 0} (some more : List (Option X))
+    → first_found (some ++ more) ≡ option_or (first_found some) (first_found more)
+first_beside [] more = refl
+first_beside (Some x ∷ some) more = refl
+first_beside (None ∷ some) more = first_beside some more
+
+-- nothing is found where no list has anything
+pub none_found : {X Y : Type 0} (xs : List X) (f : X → List (Option Y)) → ((x : X) → first_found (f x) ≡ None)
+    → first_found (flat_map f xs) ≡ None
+none_found [] f none = refl
+none_found (x ∷ xs) f none = first_beside (f x) (flat_map f xs) ∙ rw (none x) (none_found xs f none)
+
+-- nor where no answer is anything
+pub none_mapped : {X Y : Type 0} (xs : List X) (f : X → Option Y) → ((x : X) → f x ≡ None) → first_found (map f xs) ≡ None
+none_mapped [] f none = refl
+none_mapped (x ∷ xs) f none = rw (none x) (none_mapped xs f none)
+
+-- a name and a dot stand before no text without bytes
+pub behind_nothing : (name : List ℕ) → behind (name ++ codes ".") [] ≡ None
+behind_nothing [] = refl
+behind_nothing (b ∷ name) = refl
+
+-- what is found under a test is found without it
+told_if : {X : Type 0} (test : Bool) (found : Option X) (x : X) → (if test then found else None) ≡ Some x
+    → found ≡ Some x
+told_if true found x e = e
+told_if false found x e = absurd (cc)
+
+-- what stands behind a beginning is shorter by its length
+pub behind_shorter : (front text rest : List ℕ) → behind front text ≡ Some rest → length text ≡ length front + length rest
+behind_shorter [] text rest e = let same : text ≡ rest = cc in omega (arith, ap length same)
+behind_shorter (b ∷ front) [] rest e = absurd (cc)
+behind_shorter (b ∷ front) (c ∷ text) rest e =
+    omega (arith, behind_shorter front text rest (told_if (b == c) (behind front text) rest e))
+
+-- no key is qualified that is nothing
+pub not_qualified : (steps : ℕ) (world : World) (nodes : List PlanNode) (scope : ℕ)
+    → qualified steps world nodes scope [] ≡ None
+unfolding qualified
+not_qualified zero world nodes scope = refl
+not_qualified (suc steps) world nodes scope = none_found (child_scopes nodes scope) _ (λ child.
+    none_mapped child.0.names _ (λ name. ap (option_and_then (λ rest.
+    option_or (own world nodes child.1 rest) (qualified steps world nodes child.1 rest))) (behind_nothing name)))
+
+-- two searches of as many steps as the key has bytes, or more, are one
+pub qualified_same : (n m : ℕ) (world : World) (nodes : List PlanNode) (scope : ℕ) (key : List ℕ) → length key ≤ n
+    → length key ≤ m → qualified n world nodes scope key ≡ qualified m world nodes scope key
+unfolding qualified
+qualified_same n m world nodes scope [] first second =
+    not_qualified n world nodes scope ∙ sym (not_qualified m world nodes scope)
+qualified_same zero m world nodes scope (b ∷ key) first second = absurd (omega arith)
+qualified_same (suc n) zero world nodes scope (b ∷ key) first second = absurd (omega arith)
+qualified_same (suc n) (suc m) world nodes scope (b ∷ key) first second =
+    ap (λ (f : Scope × ℕ → List (Option ℕ)). first_found (flat_map f (child_scopes nodes scope))) (fun_ext (λ child.
+    ap (λ (g : List ℕ → Option ℕ). map g child.0.names) (fun_ext (λ name.
+    and_then_same (behind (name ++ codes ".") (b ∷ key)) _ _ (λ rest is.
+    let shorter = behind_shorter (name ++ codes ".") (b ∷ key) rest is in
+    let long = length-append name (codes ".") in
+    ap (option_or (own world nodes child.1 rest))
+    (qualified_same n m world nodes child.1 rest (omega arith) (omega arith)))))))

@@ -8,3 +8,5 @@ pub mod GrownLaws
 pub mod HeadLaws
 pub mod PlacedLaws
 pub mod StandingLaws
+pub mod TreeLaws
+pub mod ListedLaws

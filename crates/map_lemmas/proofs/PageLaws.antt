@@ -12,7 +12,7 @@ use Rattle.map_spec.specs.Branches.{each_once}
 use Rattle.map_spec.specs.Cascade.{attribute_at, walk}
 use Rattle.map_spec.specs.Included.{is_reference}
 use Rattle.map_spec.specs.Keys.{key_of}
-use Rattle.map_spec.specs.Pages.{aim_at, aim_by_href, aim_by_key, aim_of, aim_read, aim_with, base_of, contents_name, documents_of, fault_of_use, faults_at, first_uses, html, ignored_at, is_normal, is_page_kind, local_name, name_fault, named_from, no_aim, page_faults, page_used_at, pages_of, targets_of, undefined_key, use_at, use_of, used_at, uses_of, with_more}
+use Rattle.map_spec.specs.Pages.{aim_at, aim_by_href, aim_by_key, aim_of, aim_read, aim_with, base_of, contents_name, documents_of, fault_of_use, faults_at, first_uses, html, ignored_at, is_normal, is_page_kind, local_name, name_fault, named_from, no_aim, page_faults, page_used_at, pages_of, node_targets, undefined_key, use_at, use_of, used_at, uses_of, with_more}
 use Rattle.map_spec.specs.Target.{target_by}
 use Rattle.map_spec.specs.Titles.{kind_in}
 use Rattle.map_lemmas.specs.Alike.{AreAlike, IsLike}
@@ -59,7 +59,7 @@ module _ (world : World) (nodes others : List PlanNode) (alike : AreAlike nodes 
   same_aim_at at =
       same_read_or nodes others alike (aim_of world nodes at) (aim_of world others at) no_aim at (same_aim_of at)
 
-  pub same_targets_of : targets_of world nodes ≡ targets_of world others
+  pub same_targets_of : node_targets world nodes ≡ node_targets world others
   same_targets_of = λ i. map (λ at. (same_aim_at at i).target) (same_places nodes others alike i)
 
   -- Uses

@@ -1,9 +1,10 @@
 -- The content of a document stands at its places: what is among it or in it is found there.
-use Rattle.std.specs.Prelude.{◌≡◌, ◌+◌, ◌-◌, ◌<◌, ◌==◌, ℕ, Bool, true, false, List, Option, Some, None, nat_lt, if◌then◌else◌}
+use Rattle.std.specs.Prelude.{◌≡◌, ◌+◌, ◌-◌, ◌<◌, ◌==◌, ℕ, Bool, true, false, List, Option, Some, None, nat_lt, if◌then◌else◌, ◌∷◌, ◌++◌, []}
 use Rattle.std.proofs.Common.{refl, subst, ◌∙◌, arith}
 use Rattle.std.proofs.lemmas.Bool.Decides.{nat_tests}
 use Rattle.dita_doc.specs.Tree as tree
 use Rattle.dita_doc.specs.Tree.{Content}
+use Rattle.map_spec.specs.Places.{Standing, TopicAt, standing_from}
 use Rattle.map_spec.specs.Written.{Element, Whole, Written, End, Chars, Node, element_at, first_place, first_sibling, size, written_in}
 
 -- each element was written in this document
@@ -124,3 +125,26 @@ root_at name all place (Node element inside rest) root own stands is =
       is = stands_first all place element inside rest stands;
       inside = stands_inside all place element inside rest stands;
     }))
+
+-- In which document an element stands
+
+-- elements that stand in one document
+abbrev pub InDocument : List ℕ → List Standing → Type 0
+InDocument name [] = Unit {0}
+InDocument name (standing ∷ more) = (standing.whole.0.doc ≡ name) × InDocument name more
+
+pub of_both : (name : List ℕ) (some more : List Standing) → InDocument name some → InDocument name more → InDocument name (some ++ more)
+of_both name [] more here there = there
+of_both name (standing ∷ some) more here there = (here.0, of_both name some more here.1 there)
+
+-- the elements of a document stand in it
+pub standing_of : (name : List ℕ) (all : Content) (place : ℕ) (topic : Option TopicAt) (before : Option Element)
+    → InDocument name (standing_from place topic before (written_in name all))
+standing_of name tree.End place topic before = tt
+standing_of name (tree.Chars text origin line rest) place topic before =
+    standing_of name rest (place + 1) topic before
+standing_of name (tree.Element text attributes origin line inside rest) place topic before = (
+  refl,
+  of_both name _ _ (standing_of name inside (place + 1) _ None)
+      (standing_of name rest (place + 1 + size (written_in name inside)) topic _),
+)

@@ -8,7 +8,7 @@ use Rattle.dita_doc.specs.declared.fault.FaultCode.TheVariants as faults
 use Rattle.dita_doc.specs.declared.plan.PlanNode.{PlanNode}
 use Rattle.dita_doc.specs.declared.plan.Scope.{Scope}
 use Rattle.reader_spec.specs.World.{World}
-use Rattle.map_spec.specs.Scopes.{bad_names, begins, behind, child_scopes, first_found, found, found_from, good_names, has_scope_name, is_at_level, is_child_of, key_faults, keys_defined, keys_of, may_define, name_faults, node_fault, number_of, numbered, own, own_or_qualified, own_places, parent_of, places, places_from, qualified, root_scope, scope_at, scope_begun, scope_faults, scope_on, scopes}
+use Rattle.map_spec.specs.Scopes.{bad_names, begins, behind, child_scopes, first_found, definition_found, found_from, good_names, has_scope_name, is_at_level, is_child_of, key_name_faults, keys_defined, keys_of, may_define, name_faults, node_fault, number_of, numbered, own, own_or_qualified, own_places, parent_of, places, places_from, qualified, root_scope, scope_at, scope_begun, scope_faults, scope_on, scopes}
 use Rattle.map_lemmas.specs.Alike.{AreAlike, IsLike, plain}
 use Rattle.map_lemmas.proofs.AlikeLaws.{by_plain, same_read_map, same_read_or}
 use Rattle.map_lemmas.proofs.WalkLaws.{same_places_up, same_table_at}
@@ -119,20 +119,21 @@ module _ (world : World) (nodes others : List PlanNode) (alike : AreAlike nodes 
       else option_or (same_found_from steps (same_parent_of nodes others alike scope i) key i)
       (same_own_or_qualified scope key i)
 
-  pub same_found : (scope : ℕ) (key : List ℕ) → found world nodes scope key ≡ found world others scope key
+  pub same_found : (scope : ℕ) (key : List ℕ)
+      → definition_found world nodes scope key ≡ definition_found world others scope key
   same_found scope key = same_found_from scope scope key
 
   -- Faults
 
   same_key_faults : (at : ℕ) (node other : PlanNode) → IsLike node other
-      → key_faults world nodes at node ≡ key_faults world others at other
+      → key_name_faults world nodes at node ≡ key_name_faults world others at other
   same_key_faults at node other like = λ i.
       if may_define (like i).kind && not (same_table_at nodes others alike at i)
       then map (node_fault (like i) faults.BadKeyName) (bad_names (keys_of world (like i))) else []
 
   pub same_name_faults : name_faults world nodes ≡ name_faults world others
   same_name_faults = λ i. flat_map (λ at. same_read_or nodes others alike
-      (λ (node : PlanNode). scope_faults at node ++ key_faults world nodes at node)
-      (λ (node : PlanNode). scope_faults at node ++ key_faults world others at node) [] at
+      (λ (node : PlanNode). scope_faults at node ++ key_name_faults world nodes at node)
+      (λ (node : PlanNode). scope_faults at node ++ key_name_faults world others at node) [] at
       (λ node other like j. scope_faults at (like j) ++ same_key_faults at node other like j) i)
       (same_places nodes others alike i)

@@ -13,7 +13,7 @@ use Rattle.dita_doc.specs.declared.plan.PlanNode.{PlanNode}
 use Rattle.reader_spec.specs.World.{World}
 use Rattle.map_spec.specs.Branches.{is_ditavalref}
 use Rattle.map_spec.specs.Elements.{attribute, class_faults, has_value, is_a, is_transparent}
-use Rattle.map_spec.specs.Included.{Around, around_below, fault_alone, included, includes_map, is_map, is_reference, kind_of, map_in, map_included, new_head, node_made, nodes_among, nodes_by, nodes_of_element, place_in, root_in, root_place, submap_found, submap_named, submap_of}
+use Rattle.map_spec.specs.Included.{MapAround, around_below, fault_alone, included, includes_map, is_map, is_reference, kind_of, map_in, map_included, new_head, map_node_made, nodes_among, nodes_by, nodes_of_element, root_place_in, root_in, root_place, submap_found, submap_named, submap_of}
 use Rattle.map_spec.specs.Judged.{filtered}
 use Rattle.map_spec.specs.MapTree.{Grown, beneath, beside, plan_nodes, with_faults}
 use Rattle.map_spec.specs.Target.{Named, Document, Elsewhere, Unreadable, named_of}
@@ -66,7 +66,7 @@ a_reference : (kind : PlanKind) (a b c : Bool) → (is_reference kind && a && b 
 a_reference kinds.Reference a b c is = refl
 a_reference _ a b c is = cc
 
-of_included : (element : Element) (kind : PlanKind) (around : Around) → includes_map kind around element ≡ true
+of_included : (element : Element) (kind : PlanKind) (around : MapAround) → includes_map kind around element ≡ true
     → kind_of element ≡ Some kind → IsOfKind kinds.Included element
 of_included element kind around includes is = is ∙ ap Some (a_reference kind (not around.in_table)
     (has_value (codes "format") (codes "ditamap") element) (is_some (attribute (codes "href") element)) includes)
@@ -83,10 +83,11 @@ module _ (world : World) (name : List ℕ) (all : Written) (there : document wor
   here kind place element inside own is of = subst (λ doc. StandsFor world kind doc place) (sym own)
       (record { whole = (element, inside); is = found place (element, inside) is; fits = of })
 
-  node_stands : (kind : PlanKind) (around : Around) (place : ℕ) (element : Element) (inside : Written) (below : Grown)
+  node_stands : (kind : PlanKind) (around : MapAround) (place : ℕ) (element : Element) (inside : Written)
+      (below : Grown)
       → element.doc ≡ name → element_at all place ≡ Some (element, inside) → kind_of element ≡ Some kind
       → AllHeads (HasElement world) below.tree
-      → AllHeads (HasElement world) (node_made submap kind around place element below).tree
+      → AllHeads (HasElement world) (map_node_made submap kind around place element below).tree
   node_stands kind around place element inside below own is of inner = cond_both (includes_map kind around element)
       (beneath (new_head kinds.Included element around.level place) (beside (submap element) below))
       (beneath (new_head kind element around.level place) below) (λ (grown : Grown). AllHeads (HasElement world) grown.tree)
@@ -97,24 +98,24 @@ module _ (world : World) (name : List ℕ) (all : Written) (there : document wor
       ))
       (λ other. (here kind place element inside own is (of_kind element kind (kind_is_made element kind of) of), inner, tt))
 
-  kind_stands : (kind : Option PlanKind) (around : Around) (place : ℕ) (element : Element) (inside : Written)
-      (below : Around → Grown) → element.doc ≡ name → element_at all place ≡ Some (element, inside)
-      → kind_of element ≡ kind → ((inner : Around) → AllHeads (HasElement world) (below inner).tree)
+  kind_stands : (kind : Option PlanKind) (around : MapAround) (place : ℕ) (element : Element) (inside : Written)
+      (below : MapAround → Grown) → element.doc ≡ name → element_at all place ≡ Some (element, inside)
+      → kind_of element ≡ kind → ((inner : MapAround) → AllHeads (HasElement world) (below inner).tree)
       → AllHeads (HasElement world) (nodes_by submap kind around place element below).tree
   kind_stands None around place element inside below own is of inner = tt
   kind_stands (Some kind) around place element inside below own is of inner =
       node_stands kind around place element inside (below (around_below kind around)) own is of
       (inner (around_below kind around))
 
-  element_stands : (around : Around) (place : ℕ) (element : Element) (inside : Written) (below : Around → Grown)
+  element_stands : (around : MapAround) (place : ℕ) (element : Element) (inside : Written) (below : MapAround → Grown)
       → element.doc ≡ name → element_at all place ≡ Some (element, inside)
-      → ((inner : Around) → AllHeads (HasElement world) (below inner).tree)
+      → ((inner : MapAround) → AllHeads (HasElement world) (below inner).tree)
       → AllHeads (HasElement world) (nodes_of_element submap around place element below).tree
   element_stands around place element inside below own is inner = heads_by_test (HasElement world) (is_transparent element)
       (with_faults (class_faults element) (below around)) (nodes_by submap (kind_of element) around place element below)
       (inner around) (kind_stands (kind_of element) around place element inside below own is refl inner)
 
-  among_stand : (around : Around) (place : ℕ) (nodes : Written) → AreOf name nodes → StandsFrom all place nodes
+  among_stand : (around : MapAround) (place : ℕ) (nodes : Written) → AreOf name nodes → StandsFrom all place nodes
       → AllHeads (HasElement world) (nodes_among submap around place nodes).tree
   among_stand around place End own from = tt
   among_stand around place (Chars text doc rest) own from =
@@ -143,7 +144,7 @@ root_by world name root (Some content) same is =
     let at = root_at name all 0 all root (written_of name content) (stands_whole all) is in
     let none : 0 + first_place all ≡ first_place all = omega arith in
     let place : 0 + first_place all ≡ root_place world root.0.doc =
-    none ∙ sym (ap (root_place world) at.own ∙ ap place_in there) in
+    none ∙ sym (ap (root_place world) at.own ∙ ap root_place_in there) in
     record { all = all; there = there; at = subst (λ n. IsRootAt name all n root) place at }
 
 root_of : (world : World) (name : List ℕ) (root : Whole) → root_in world name ≡ Some root → IsRootOf world name root

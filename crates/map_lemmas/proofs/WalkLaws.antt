@@ -6,7 +6,7 @@ use Rattle.std.proofs.Common.{refl, ap}
 use Rattle.dita_doc.specs.declared.plan.PlanNode.{PlanNode}
 use Rattle.ditaval_rules.specs.Verdict.{conditional_names}
 use Rattle.reader_spec.specs.World.{World}
-use Rattle.map_spec.specs.Cascade.{attribute_at, cascaded_on, cascaded_value, default_of, is_in_table, merged, named_tokens, nearest, nearest_names, own_tokens, passed, places_up, steps_up, tokens_on, walk}
+use Rattle.map_spec.specs.Cascade.{attribute_at, cascaded_on, cascaded_value, default_of, is_in_table, merged_tokens, named_tokens, nearest, nearest_names, own_tokens, passed, places_up, steps_up, tokens_on, walk}
 use Rattle.map_spec.specs.Included.{is_table}
 use Rattle.map_lemmas.specs.Alike.{AreAlike, IsLike, plain}
 use Rattle.map_lemmas.proofs.AlikeLaws.{alike_front, by_plain, same_node, same_read_or}
@@ -75,7 +75,7 @@ module _ (world : World) where
       → tokens_on world name (map plain nodes) ≡ tokens_on world name nodes
   plain_tokens name [] = refl
   plain_tokens name (node ∷ around) = λ i.
-      merged (not (bytes_eq (plain_value (codes "cascade") (node ∷ around) i) (codes "nomerge")))
+      merged_tokens (not (bytes_eq (plain_value (codes "cascade") (node ∷ around) i) (codes "nomerge")))
       (own_tokens world name node) (plain_tokens name around i)
 
   plain_carried : (nodes : List PlanNode) → cascaded_on world (map plain nodes) ≡ cascaded_on world nodes

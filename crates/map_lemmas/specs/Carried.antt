@@ -7,7 +7,7 @@ use Rattle.dita_doc.specs.declared.plan.Plan.{Plan}
 use Rattle.dita_doc.specs.declared.plan.PlanNode.{PlanNode}
 use Rattle.reader_spec.specs.World.{World}
 use Rattle.map_spec.specs.Cascade.{cascaded}
-use Rattle.map_spec.specs.Pages.{documents_of, page_faults, pages_of, targets_of}
+use Rattle.map_spec.specs.Pages.{documents_of, page_faults, pages_of, node_targets}
 use Rattle.map_spec.specs.Scopes.{name_faults, scoped, scopes}
 
 abbrev pub with_values : List Attribute → PlanNode → PlanNode
@@ -26,7 +26,7 @@ plan_holding world before nodes = record {
   nodes = nodes;
   scopes = scopes nodes;
   pages = pages_of world nodes;
-  targets = targets_of world nodes;
+  targets = node_targets world nodes;
   documents = documents_of world nodes;
   faults = before ++ name_faults world nodes ++ page_faults world nodes;
 }

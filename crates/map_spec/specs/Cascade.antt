@@ -105,10 +105,10 @@ with_new tokens (own ∷ others) =
     with_new (if list_any (bytes_eq own) tokens then tokens else tokens ++ own ∷ []) others
 
 -- merged, the node's own tokens that are not there yet come behind those above; else its own count alone, if it has any
-abbrev pub merged : Bool → Option (List (List ℕ)) → List (List ℕ) → List (List ℕ)
-merged merges None tokens = tokens
-merged true (Some own) tokens = with_new tokens own
-merged false (Some own) tokens = own
+abbrev pub merged_tokens : Bool → Option (List (List ℕ)) → List (List ℕ) → List (List ℕ)
+merged_tokens merges None tokens = tokens
+merged_tokens true (Some own) tokens = with_new tokens own
+merged_tokens false (Some own) tokens = own
 
 abbrev pub merges : World → List PlanNode → Bool
 merges world nodes = not (bytes_eq (cascaded_value world (codes "cascade") nodes) (codes "nomerge"))
@@ -116,7 +116,7 @@ merges world nodes = not (bytes_eq (cascaded_value world (codes "cascade") nodes
 abbrev pub tokens_on : World → List ℕ → List PlanNode → List (List ℕ)
 tokens_on world name [] = []
 tokens_on world name (node ∷ around) =
-    merged (merges world (node ∷ around)) (own_tokens world name node) (tokens_on world name around)
+    merged_tokens (merges world (node ∷ around)) (own_tokens world name node) (tokens_on world name around)
 
 -- The whole
 

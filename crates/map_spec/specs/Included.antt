@@ -28,7 +28,7 @@ kind_of element =
     else None
 
 -- where a node stands: how many maps are included around it, and whether a relationship table is around it
-pub record Around : Type 0 where
+pub record MapAround : Type 0 where
   pub level : ℕ
   pub in_table : Bool
 
@@ -36,7 +36,7 @@ abbrev pub is_table : PlanKind → Bool
 is_table kinds.RelTable = true
 is_table _ = false
 
-abbrev pub around_below : PlanKind → Around → Around
+abbrev pub around_below : PlanKind → MapAround → MapAround
 around_below kind around = record around { in_table = around.in_table || is_table kind }
 
 -- a node as it is made: without scope names, filters, affixes and cascaded values
@@ -55,12 +55,12 @@ new_head kind element level place = record {
 }
 
 -- a content reference on a node's element is ignored, with a fault for each
-abbrev pub ignored : List ℕ → Element → Option (List ℕ) → List Fault
-ignored name element None = []
-ignored name element (Some value) = fault_at element faults.MapConref value ∷ []
+abbrev pub ignored : Element → Option (List ℕ) → List Fault
+ignored element None = []
+ignored element (Some value) = fault_at element faults.MapConref value ∷ []
 
 abbrev pub ignored_by : List ℕ → Element → List Fault
-ignored_by name element = ignored name element (attribute name element)
+ignored_by name element = ignored element (attribute name element)
 
 abbrev pub ignored_references : Element → List Fault
 ignored_references element = ignored_by (codes "conref") element ++ ignored_by (codes "conkeyref") element
@@ -70,32 +70,32 @@ abbrev pub is_reference : PlanKind → Bool
 is_reference kinds.Reference = true
 is_reference _ = false
 
-abbrev pub includes_map : PlanKind → Around → Element → Bool
+abbrev pub includes_map : PlanKind → MapAround → Element → Bool
 includes_map kind around element =
     is_reference kind && not around.in_table && has_value (codes "format") (codes "ditamap") element
     && is_some (attribute (codes "href") element)
 
 -- the node of an element, with the submap that it includes before those below it
-abbrev pub node_made : (Element → Grown) → PlanKind → Around → ℕ → Element → Grown → Grown
-node_made submap kind around place element below =
+abbrev pub map_node_made : (Element → Grown) → PlanKind → MapAround → ℕ → Element → Grown → Grown
+map_node_made submap kind around place element below =
     with_faults (ignored_references element)
     (if includes_map kind around element
     then beneath (new_head kinds.Included element around.level place) (beside (submap element) below)
     else beneath (new_head kind element around.level place) below)
 
 -- `below` gives the nodes of what the element holds
-abbrev pub nodes_by : (Element → Grown) → Option PlanKind → Around → ℕ → Element → (Around → Grown) → Grown
+abbrev pub nodes_by : (Element → Grown) → Option PlanKind → MapAround → ℕ → Element → (MapAround → Grown) → Grown
 nodes_by submap None around place element below = no_growth
 nodes_by submap (Some kind) around place element below =
-    node_made submap kind around place element (below (around_below kind around))
+    map_node_made submap kind around place element (below (around_below kind around))
 
-abbrev pub nodes_of_element : (Element → Grown) → Around → ℕ → Element → (Around → Grown) → Grown
+abbrev pub nodes_of_element : (Element → Grown) → MapAround → ℕ → Element → (MapAround → Grown) → Grown
 nodes_of_element submap around place element below =
     if is_transparent element then with_faults (class_faults element) (below around)
     else nodes_by submap (kind_of element) around place element below
 
 -- the nodes of these siblings, of which the first stands at this place of its document
-abbrev pub nodes_among : (Element → Grown) → Around → ℕ → Written → Grown
+abbrev pub nodes_among : (Element → Grown) → MapAround → ℕ → Written → Grown
 nodes_among submap around place End = no_growth
 nodes_among submap around place (Chars text doc rest) = nodes_among submap around (place + 1) rest
 nodes_among submap around place (Node element inside rest) =
@@ -114,13 +114,13 @@ if_map root = if is_map root then Some root else None
 abbrev pub root_in : World → List ℕ → Option Whole
 root_in world name = option_and_then first_sibling (document world name)
 
-abbrev pub place_in : Option Written → ℕ
-place_in None = 0
-place_in (Some nodes) = first_place nodes
+abbrev pub root_place_in : Option Written → ℕ
+root_place_in None = 0
+root_place_in (Some nodes) = first_place nodes
 
 -- the place of a document's root
 abbrev pub root_place : World → List ℕ → ℕ
-root_place world name = place_in (document world name)
+root_place world name = root_place_in (document world name)
 
 abbrev pub map_in : World → List ℕ → Option Whole
 map_in world name = option_and_then if_map (root_in world name)
@@ -158,8 +158,8 @@ map_included (suc fuel) world path level root =
 
 -- The whole
 
-abbrev pub node_limit : ℕ
-node_limit = 65536
+abbrev pub map_node_limit : ℕ
+map_node_limit = 65536
 
 abbrev pub expanded : Grown → Expanded
 expanded grown = record { nodes = plan_nodes grown.tree; faults = grown.faults }

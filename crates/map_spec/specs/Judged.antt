@@ -32,12 +32,12 @@ abbrev pub declared_of : World → Head → List (List ℕ)
 declared_of world head = declared_in world head.doc head.place
 
 -- a value of groups counts as absent, with a fault
-abbrev pub is_group : List (List ℕ) → Attribute → Bool
-is_group declared written = is_conditional_among declared written.name && is_grouped written.value
+abbrev pub has_groups : List (List ℕ) → Attribute → Bool
+has_groups declared written = is_conditional_among declared written.name && is_grouped written.value
 
 abbrev pub group_faults : List (List ℕ) → Element → List Fault
 group_faults declared element = map (λ (written : Attribute). fault_at element faults.GroupValue written.name)
-    (filter (is_group declared) element.attributes)
+    (filter (has_groups declared) element.attributes)
 
 abbrev pub group_faults_of : World → Head → List Fault
 group_faults_of world head =

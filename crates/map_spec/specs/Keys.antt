@@ -13,7 +13,7 @@ use Rattle.dita_doc.specs.declared.plan.Target.TheVariants as targets
 use Rattle.reader_spec.specs.World.{World}
 use Rattle.map_spec.specs.Cascade.{attribute_at, cascaded_value, walk, whole_at}
 use Rattle.map_spec.specs.Elements.{first_under, text_of}
-use Rattle.map_spec.specs.Scopes.{found, node_fault, scope_at}
+use Rattle.map_spec.specs.Scopes.{definition_found, node_fault, scope_at}
 use Rattle.map_spec.specs.Target.{target_by}
 use Rattle.map_spec.specs.Titles.{first_text, title_in}
 use Rattle.map_spec.specs.Written.{Whole, Written}
@@ -70,21 +70,21 @@ chain_at follow world nodes met key (Some at) =
 unfoldable pub chain_from : ℕ → World → List PlanNode → List ℕ → ℕ → List ℕ → Chain
 chain_from zero world nodes met scope key = record { met = met; faults = [] }
 chain_from (suc steps) world nodes met scope key =
-    chain_at (chain_from steps world nodes) world nodes met key (found world nodes scope key)
+    chain_at (chain_from steps world nodes) world nodes met key (definition_found world nodes scope key)
 
 abbrev pub chain : World → List PlanNode → ℕ → List ℕ → Chain
 chain world nodes scope key = chain_from (length nodes + 1) world nodes [] scope key
 
 -- The target: that of the last definition's href
 
-abbrev pub target_at : World → List PlanNode → PlanNode → List PlanNode → Option Target
-target_at world nodes node around = option_and_then (λ href.
+abbrev pub target_of_definition : World → PlanNode → List PlanNode → Option Target
+target_of_definition world node around = option_and_then (λ href.
     target_by href (cascaded_value world (codes "format") around) (cascaded_value world (codes "scope") around) node.doc)
     (attribute_at world (codes "href") node)
 
 abbrev pub href_target : World → List PlanNode → ℕ → Option Target
 href_target world nodes at =
-    option_and_then (λ node. target_at world nodes node (walk nodes at)) (slice_get nodes at)
+    option_and_then (λ node. target_of_definition world node (walk nodes at)) (slice_get nodes at)
 
 abbrev pub target_of_chain : World → List PlanNode → List ℕ → Target
 target_of_chain world nodes met =

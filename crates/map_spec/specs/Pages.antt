@@ -74,8 +74,8 @@ aim_of world nodes at node =
 abbrev pub aim_at : World → List PlanNode → ℕ → Aim
 aim_at world nodes at = option_map_or (aim_of world nodes at) (slice_get nodes at) no_aim
 
-abbrev pub targets_of : World → List PlanNode → List Target
-targets_of world nodes = map (λ at. (aim_at world nodes at).target) (places nodes)
+abbrev pub node_targets : World → List PlanNode → List Target
+node_targets world nodes = map (λ at. (aim_at world nodes at).target) (places nodes)
 
 -- Uses: references outside relationship tables to DITA documents
 

@@ -10,10 +10,10 @@ use Rattle.ditaval_rules.specs.declared.rules.RulesRead.{RulesRead}
 use Rattle.reader_spec.specs.World.{World}
 use Rattle.map_spec.specs.Branches.{branched, ditaval_in}
 use Rattle.map_spec.specs.Cascade.{cascaded}
-use Rattle.map_spec.specs.Included.{included_from, is_map, node_limit, root_in}
+use Rattle.map_spec.specs.Included.{included_from, is_map, map_node_limit, root_in}
 use Rattle.map_spec.specs.Judged.{filtered}
 use Rattle.map_spec.specs.MapTree.{Grown, plan_nodes}
-use Rattle.map_spec.specs.Pages.{documents_of, page_faults, pages_of, targets_of}
+use Rattle.map_spec.specs.Pages.{documents_of, page_faults, pages_of, node_targets}
 use Rattle.map_spec.specs.Scopes.{name_faults, scoped, scopes}
 use Rattle.map_spec.specs.Written.{Whole}
 
@@ -23,7 +23,7 @@ pub record Limits : Type 0 where
   pub pages : ℕ
 
 abbrev pub limits : Limits
-limits = record { nodes = node_limit; pages = 4096 }
+limits = record { nodes = map_node_limit; pages = 4096 }
 
 -- The DITAVAL of a build: none, or one that must be there
 
@@ -50,7 +50,7 @@ plan_with world before nodes = record {
   nodes = scoped nodes;
   scopes = scopes nodes;
   pages = pages_of world nodes;
-  targets = targets_of world nodes;
+  targets = node_targets world nodes;
   documents = documents_of world nodes;
   faults = before ++ name_faults world nodes ++ page_faults world nodes;
 }

@@ -170,15 +170,15 @@ without_names names attributes =
 abbrev pub pushing_names : List (List ℕ)
 pushing_names = codes "conaction" ∷ codes "conref" ∷ codes "conkeyref" ∷ codes "conrefend" ∷ []
 
-abbrev pub acts : Element → Bool
-acts element = is_some (attribute (codes "conaction") element)
+abbrev pub has_conaction : Element → Bool
+has_conaction element = is_some (attribute (codes "conaction") element)
 
 -- content without the elements that act
 abbrev pub without_acting : Written → Written
 without_acting End = End
 without_acting (Chars text doc rest) = Chars text doc (without_acting rest)
 without_acting (Node element inside rest) =
-    if acts element then without_acting rest else Node element (without_acting inside) (without_acting rest)
+    if has_conaction element then without_acting rest else Node element (without_acting inside) (without_acting rest)
 
 abbrev pub id_written : Option (List ℕ) → List Attribute
 id_written None = []
@@ -224,8 +224,8 @@ itself_or world element inside (Some push) = copy_instead world element push
 
 -- what stands at the place of an element that does not act: what is pushed before it, the element or what replaces it, and
 -- what is pushed after it
-abbrev pub at_place : World → List Push → ℕ → Element → Written → Written
-at_place world pushes place element inside =
+abbrev pub pushed_at : World → List Push → ℕ → Element → Written → Written
+pushed_at world pushes place element inside =
     side_by_side (all_side_by_side (map (copy_beside world) (pushes_at is_before place pushes)))
     (side_by_side (itself_or world element inside (find (λ push. true) (pushes_at is_replace place pushes)))
     (all_side_by_side (map (copy_beside world) (pushes_at is_after place pushes))))
@@ -236,8 +236,8 @@ pushed_from world pushes place End = End
 pushed_from world pushes place (Chars text doc rest) = Chars text doc (pushed_from world pushes (place + 1) rest)
 pushed_from world pushes place (Node element inside rest) =
     let further = pushed_from world pushes (place + 1 + size inside) rest in
-    if acts element then further
-    else side_by_side (at_place world pushes place element (pushed_from world pushes (place + 1) inside)) further
+    if has_conaction element then further
+    else side_by_side (pushed_at world pushes place element (pushed_from world pushes (place + 1) inside)) further
 
 -- a document with the pushes of a plan's documents
 abbrev pub pushed : World → List (List ℕ) → List ℕ → Option Written

@@ -161,13 +161,13 @@ found_from zero world nodes scope key = own_or_qualified world nodes scope key
 found_from (suc steps) world nodes scope key = if scope == 0 then own_or_qualified world nodes scope key
     else option_or (found_from steps world nodes (parent_of nodes scope) key) (own_or_qualified world nodes scope key)
 
-abbrev pub found : World → List PlanNode → ℕ → List ℕ → Option ℕ
-found world nodes scope key = found_from scope world nodes scope key
+abbrev pub definition_found : World → List PlanNode → ℕ → List ℕ → Option ℕ
+definition_found world nodes scope key = found_from scope world nodes scope key
 
 -- Faults
 
-abbrev pub key_faults : World → List PlanNode → ℕ → PlanNode → List Fault
-key_faults world nodes at node =
+abbrev pub key_name_faults : World → List PlanNode → ℕ → PlanNode → List Fault
+key_name_faults world nodes at node =
     if may_define node.kind && not (is_in_table (walk nodes at))
     then map (node_fault node faults.BadKeyName) (bad_names (keys_of world node)) else []
 
@@ -178,4 +178,4 @@ scope_faults at node =
 -- each bad name once for each node
 abbrev pub name_faults : World → List PlanNode → List Fault
 name_faults world nodes = flat_map (λ at. option_map_or
-    (λ (node : PlanNode). scope_faults at node ++ key_faults world nodes at node) (slice_get nodes at) []) (places nodes)
+    (λ (node : PlanNode). scope_faults at node ++ key_name_faults world nodes at node) (slice_get nodes at) []) (places nodes)

@@ -64,11 +64,11 @@ pub data Named : Type 0 where
   Elsewhere : Named
   Unreadable : Named
 
-abbrev pub named_by : Option (List ℕ) → Named
-named_by None = Unreadable
-named_by (Some name) = Document name
+abbrev pub named_if_read : Option (List ℕ) → Named
+named_if_read None = Unreadable
+named_if_read (Some name) = Document name
 
 abbrev pub named_of : Element → List ℕ → Named
 named_of element value =
     if is_far (unwrap_or (attribute (codes "scope") element) default_scope) || is_external value then Elsewhere
-    else named_by (file_named element.doc value)
+    else named_if_read (file_named element.doc value)

@@ -1,5 +1,5 @@
 -- What documents declare, one put behind the other, and which of them are those of nodes.
-use Rattle.std.specs.Prelude.{◌≡◌, ◌+◌, ◌<◌, ◌≤◌, ℕ, zero, suc, List, [], ◌∷◌, ◌++◌, Option, Some, None, drop, length, map, slice_get}
+use Rattle.std.specs.Prelude.{◌≡◌, ◌+◌, ◌<◌, ℕ, zero, suc, List, [], ◌∷◌, ◌++◌, Option, Some, None, drop, length, map, slice_get}
 use Rattle.std.specs.BTreeMap.{insert_entry, is_at}
 use Rattle.std.specs.Borrow.{Bor}
 use Rattle.std.specs.Cmp.Lexicographic.{slice_cmp}
@@ -10,9 +10,11 @@ use Rattle.std.proofs.Common.{refl, sym, ap, subst, ◌∙◌, arith, append-nil
 use Rattle.std.proofs.lemmas.List.{at_drop_more, map-append}
 use Rattle.dita_doc.specs.Tree.{Content}
 use Rattle.dita_doc.specs.declared.plan.PlanNode.{PlanNode}
+use Rattle.dita_doc.proofs.Lists.{get_pushed}
 use Rattle.ditaval_rules.specs.Declarations.{AreDeclarations, Declaring}
 use Rattle.ditaval_rules.specs.Domains.{declared_at}
-use Rattle.plan_nodes.proofs.ListLaws.{get_more, get_pushed}
+use Rattle.plan_nodes.proofs.HomeLaws.{within_more}
+use Rattle.plan_nodes.proofs.ListLaws.{get_more}
 use Rattle.plan_nodes.proofs.MemoLaws.{IsEach, each_found, each_kept, each_put}
 use Rattle.readers.proofs.DocumentLaws.{asks_after}
 use Rattle.readers.proofs.FoundedLaws.{stays_after}
@@ -20,11 +22,6 @@ use Rattle.readers.proofs.GrowthLaws.{growing}
 use Rattle.reader_spec.specs.World.{World}
 use Rattle.plan_nodes.specs.HomeDocs.{IsWithin, Known}
 use Rattle.node_filter.specs.Domains.{AreHomes, AreHomesOf, AreKnown, Declares, Documents, IsDocumentOf, IsKnown, Longer, document_at, home_at, names_at, shown}
-
--- a place among so many stands among more
-pub within_more : (count larger : ℕ) (place : Option ℕ) → count ≤ larger → IsWithin count place → IsWithin larger place
-within_more count larger None grows within = tt
-within_more count larger (Some at) grows within = omega (arith, within)
 
 document_more : (documents more : Documents) (place : Option ℕ) → IsWithin (length documents) place
     → document_at (documents ++ more) place ≡ document_at documents place

@@ -1,21 +1,21 @@
 -- The elements of nodes, as they were found.
-use Rattle.std.specs.Prelude.{◌≡◌, ◌<◌, ◌==◌, ℕ, Bool, true, false, List, [], Option, Some, None, length, map, nat_lt, option_map, slice_get, if◌then◌else◌}
+use Rattle.std.specs.Prelude.{◌≡◌, ◌==◌, ℕ, Bool, true, false, List, [], Option, Some, None, map, nat_lt, option_map, slice_get, if◌then◌else◌}
 use Rattle.std.specs.Borrow.{Bor}
 use Rattle.std.specs.Option.{option_and_then, option_map_or}
-use Rattle.std.proofs.Common.{refl, sym, ap, subst, ◌∙◌, get_or}
-use Rattle.std.proofs.lemmas.Option.{slice_get-map, slice_get-get_or, same_Some}
+use Rattle.std.proofs.Common.{refl, sym, ap, subst, ◌∙◌}
+use Rattle.std.proofs.lemmas.Option.{slice_get-map, same_Some}
 use Rattle.dita_doc.specs.Tree as tree
 use Rattle.dita_doc.specs.Tree.{Content}
 use Rattle.dita_doc.specs.declared.doc.Node as doc
 use Rattle.dita_doc.specs.declared.plan.PlanNode.{PlanNode}
-use Rattle.doc_elements.specs.Walk.{Found, found_in}
+use Rattle.doc_elements.specs.Walk.{FoundElement, found_in}
 use Rattle.map_spec.specs.Cascade.{whole_at}
 use Rattle.map_spec.specs.Judged.{has_element}
 use Rattle.map_spec.specs.Written as written_spec
 use Rattle.map_spec.specs.Written.{Element, Whole, written_in, size}
 use Rattle.plan_nodes.specs.Home as home_spec
 use Rattle.reader_spec.specs.World.{World}
-use Rattle.node_filter.specs.Sieve.{element_at, element_found}
+use Rattle.node_filter.specs.Sieve.{element_in_world, element_found}
 
 -- an element of a document stands in it
 abbrev IsIn : List ℕ → Option Whole → Type 0
@@ -67,8 +67,8 @@ found_by name found (Some whole) is e =
 -- the element at a place is that of the node there
 pub home_found : (world : World) (homes : List (Option Whole)) (nodes : List PlanNode) (at : ℕ) (node : PlanNode)
     (found : Option (Bor doc.Node)) → homes ≡ map (whole_at world) nodes → slice_get nodes at ≡ Some node
-    → home_spec.found_in (home_spec.doc_of homes at) found ≡ home_spec.element_at homes at
-    → element_found node.doc found ≡ element_at world node
+    → home_spec.found_in (home_spec.doc_of homes at) found ≡ home_spec.element_among homes at
+    → element_found node.doc found ≡ element_in_world world node
 home_found world homes nodes at node found all here e =
     let entry : slice_get homes at ≡ Some (whole_at world node) = ap (λ (hs : List (Option Whole)). slice_get hs at) all
     ∙ (slice_get-map (whole_at world) nodes at ∙ ap (option_map (whole_at world)) here) in
@@ -77,19 +77,15 @@ home_found world homes nodes at node found all here e =
     ≡ option_map (λ (w : Whole). w.0) (option_and_then (λ (w : Option Whole). w) o) in
     found_by node.doc found (whole_at world node) (doc_at world node) (subst P entry e)
 
-pub node_there : (nodes : List PlanNode) (at : ℕ) (node : PlanNode) → at < length nodes → node ≡ get_or nodes at node
-    → slice_get nodes at ≡ Some node
-node_there nodes at node less is = slice_get-get_or nodes at node less ∙ ap (λ (n : PlanNode). Some n) (sym is)
-
 -- the same with what it holds
-whole_by : (name : List ℕ) (found : Option Found) (whole : Option Whole) → IsIn name whole
+whole_by : (name : List ℕ) (found : Option FoundElement) (whole : Option Whole) → IsIn name whole
     → found_in (option_map_or (λ (w : Whole). w.0.doc) whole []) found ≡ whole → found_in name found ≡ whole
 whole_by name None None is e = refl
 whole_by name (Some found) None is e = cc
 whole_by name found (Some whole) is e = subst (λ (n : List ℕ). found_in n found ≡ Some whole) (is whole refl) e
 
 pub whole_found : (world : World) (homes : List (Option Whole)) (nodes : List PlanNode) (at : ℕ) (node : PlanNode)
-    (found : Option Found) → homes ≡ map (whole_at world) nodes → slice_get nodes at ≡ Some node
+    (found : Option FoundElement) → homes ≡ map (whole_at world) nodes → slice_get nodes at ≡ Some node
     → found_in (home_spec.doc_of homes at) found ≡ home_spec.whole_at homes at
     → found_in node.doc found ≡ whole_at world node
 whole_found world homes nodes at node found all here e =

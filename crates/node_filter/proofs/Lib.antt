@@ -1,4 +1,3 @@
 pub mod DomainLaws
-pub mod Growing
 pub mod HomeLaws
 mod SieveLaws

@@ -2,9 +2,9 @@
 use Rattle.std.specs.Prelude.{◌≡◌, ◌+◌, ◌<◌, ◌≤◌, ℕ, zero, suc, Bool, true, false, List, [], ◌∷◌, ◌++◌, Option, Some, None, drop, length, map, nat_lt, option_map, slice_get}
 use Rattle.std.specs.Option.{option_map_or}
 use Rattle.std.proofs.Common.{refl, sym, ap, subst, ◌∙◌, arith, append_assoc, get_or}
-use Rattle.std.proofs.lemmas.Bool.Decides.{nat_tests}
 use Rattle.std.proofs.lemmas.List.{append-nil, at_drop_more, length-map, map-append}
 use Rattle.std.proofs.Common.{length-append}
+use Rattle.std.proofs.lemmas.Bool.{le-ltb, lt-ltb}
 use Rattle.dita_doc.specs.declared.content.Rule.{Rule}
 use Rattle.dita_doc.specs.declared.fault.Fault.{Fault}
 use Rattle.dita_doc.specs.declared.plan.Expanded.{Expanded}
@@ -21,7 +21,7 @@ use Rattle.reader_spec.specs.World.{World}
 use Rattle.node_filter.specs.declared.sieve.Sieve.{Sieve}
 use Rattle.node_filter.specs.declared.elements.Elements.{Elements}
 use Rattle.node_filter.specs.Domains.{AreDeclared, names_at}
-use Rattle.node_filter.specs.Sieve.{element_at, faults_of, is_excluded, empty, passed, all_passed}
+use Rattle.node_filter.specs.Sieve.{element_in_world, faults_of, is_sieved_out, empty, passed, all_passed}
 
 -- Lists
 
@@ -39,12 +39,6 @@ get_placed xs place x e = subst (λ n. slice_get (xs ++ x ∷ []) n ≡ Some x) 
 
 -- Tests
 
-is_less : (m n : ℕ) → m < n → nat_lt m n ≡ true
-is_less m n h = grind (arith, nat_tests)
-
-is_not_less : (m n : ℕ) → n ≤ m → nat_lt m n ≡ false
-is_not_less m n h = grind (arith, nat_tests)
-
 -- The elements of nodes
 
 faults_through : (declared : List (List ℕ)) (found : Option Whole)
@@ -54,17 +48,17 @@ faults_through declared None = refl
 faults_through declared (Some whole) = refl
 
 excluded_through : (rules : List Rule) (declared : List (List ℕ)) (found : Option Whole)
-    → is_excluded rules declared (option_map (λ (whole : Whole). whole.0) found)
+    → is_sieved_out rules declared (option_map (λ (whole : Whole). whole.0) found)
     ≡ option_map_or (λ (whole : Whole). excluded rules declared whole.0.attributes) found false
 excluded_through rules declared None = refl
 excluded_through rules declared (Some whole) = refl
 
 faults_at : (world : World) (head : Head) (parent end : ℕ)
-    → faults_of (declared_of world head) (element_at world (node_of head parent end)) ≡ group_faults_of world head
+    → faults_of (declared_of world head) (element_in_world world (node_of head parent end)) ≡ group_faults_of world head
 faults_at world head parent end = faults_through (declared_of world head) (judged_spec.whole_of world head)
 
 excluded_at : (world : World) (rules : List Rule) (head : Head) (parent end : ℕ)
-    → is_excluded rules (declared_of world head) (element_at world (node_of head parent end))
+    → is_sieved_out rules (declared_of world head) (element_in_world world (node_of head parent end))
     ≡ judged_spec.is_excluded world rules head
 excluded_at world rules head parent end =
     excluded_through rules (declared_of world head) (judged_spec.whole_of world head)
@@ -77,20 +71,20 @@ run world rules nodes sieve = all_passed world rules nodes sieve
 -- a node that is excluded, behind the root, is passed over with all below it
 pub pass_excluded : (rules : List Rule) (declared : List (List ℕ)) (element : Option Element) (node : PlanNode)
     (old : Sieve) (places : List ℕ) (faults : List Fault) (at count : ℕ) → at ≡ length old.places → old.next ≤ at → 0 < at
-    → is_excluded rules declared element ≡ true → count ≡ length old.kept → places ≡ old.places ++ count ∷ []
+    → is_sieved_out rules declared element ≡ true → count ≡ length old.kept → places ≡ old.places ++ count ∷ []
     → faults ≡ old.faults ++ faults_of declared element
     → record { places = places; kept = old.kept; faults = faults; next = node.end } ≡ passed rules declared element node old
 pass_excluded rules declared element node old places faults at count at_is past below out count_is more told =
     let not_inside : nat_lt (length old.places) old.next ≡ false =
-    is_not_less (length old.places) old.next (subst (λ n. old.next ≤ n) at_is past) in
+    le-ltb (length old.places) old.next (subst (λ n. old.next ≤ n) at_is past) in
     let not_first : nat_lt 0 (length old.places) ≡ true =
-    is_less 0 (length old.places) (subst (λ n. 0 < n) at_is below) in
+    lt-ltb 0 (length old.places) (subst (λ n. 0 < n) at_is below) in
     rw (told, more, count_is, not_inside, not_first, out) refl
 
 -- the node at a place is the next
 pub pass_next : (world : World) (rules : List Rule) (nodes : List PlanNode) (at : ℕ) (node : PlanNode)
     (declared : List (List ℕ)) (element : Option Element) (before after : Sieve) → at < length nodes
-    → node ≡ get_or nodes at node → declared ≡ names_at world node → element ≡ element_at world node
+    → node ≡ get_or nodes at node → declared ≡ names_at world node → element ≡ element_in_world world node
     → after ≡ passed rules declared element node before
     → all_passed world rules (drop (at + 1) nodes) after
     ≡ all_passed world rules (drop at nodes) before
@@ -98,14 +92,14 @@ pass_next world rules nodes at node declared element before after less is names 
     ap (λ (s : Sieve). run world rules (drop (at + 1) nodes) s) (then
     ∙ (ap (λ (d : List (List ℕ)). passed rules d element node before) names
     ∙ ap (λ (e : Option Element). passed rules (names_at world node) e node before) found
-    ∙ ap (λ (n : PlanNode). passed rules (names_at world n) (element_at world n) n before) is))
+    ∙ ap (λ (n : PlanNode). passed rules (names_at world n) (element_in_world world n) n before) is))
     ∙ sym (at_drop_more (λ (all : List PlanNode). run world rules all before) nodes at node less)
 
 run_append : (world : World) (rules : List Rule) (first second : List PlanNode) (sieve : Sieve)
     → run world rules (first ++ second) sieve ≡ run world rules second (run world rules first sieve)
 run_append world rules [] second sieve = refl
 run_append world rules (node ∷ first) second sieve =
-    run_append world rules first second (passed rules (names_at world node) (element_at world node) node sieve)
+    run_append world rules first second (passed rules (names_at world node) (element_in_world world node) node sieve)
 
 count_below : (tree : MapTree) (parent place : ℕ) → length (nodes_below parent place tree) ≡ count tree
 count_below NoNodes parent place = refl
@@ -124,7 +118,7 @@ skipped : (world : World) (rules : List Rule) (nodes : List PlanNode) (places : 
     ≡ record { places = places ++ map (λ (node : PlanNode). length kept) nodes; kept = kept; faults = faults; next = next }
 skipped world rules [] places kept faults next h = rw (append-nil places) refl
 skipped world rules (node ∷ nodes) places kept faults next h =
-    let here : nat_lt (length places) next ≡ true = is_less _ _ (omega arith) in
+    let here : nat_lt (length places) next ≡ true = lt-ltb _ _ (omega arith) in
     let then = skipped world rules nodes (places ++ length kept ∷ []) kept faults next
     (omega (arith, length-append places (length kept ∷ []))) in
     rw here (then ∙ rw (append_assoc places (length kept ∷ []) (map (λ (node : PlanNode). length kept) nodes)) refl)
@@ -167,7 +161,8 @@ none_left world rules parent place up sieve size some next found = record {
 -- its step, by whether it is excluded
 step_excluded : (world : World) (rules : List Rule) (head : Head) (parent end place : ℕ) (sieve : Sieve)
     → length sieve.places ≡ place → 0 < place → sieve.next ≤ place → judged_spec.is_excluded world rules head ≡ true
-    → passed rules (declared_of world head) (element_at world (node_of head parent end)) (node_of head parent end) sieve
+    → passed rules (declared_of world head) (element_in_world world (node_of head parent end))
+    (node_of head parent end) sieve
     ≡ record {
       places = sieve.places ++ length sieve.kept ∷ [];
       kept = sieve.kept;
@@ -175,14 +170,15 @@ step_excluded : (world : World) (rules : List Rule) (head : Head) (parent end pl
       next = end;
     }
 step_excluded world rules head parent end place sieve size some next e =
-    let past : nat_lt (length sieve.places) sieve.next ≡ false = is_not_less _ _ (omega arith) in
-    let behind : nat_lt 0 (length sieve.places) ≡ true = is_less _ _ (omega arith) in
+    let past : nat_lt (length sieve.places) sieve.next ≡ false = le-ltb _ _ (omega arith) in
+    let behind : nat_lt 0 (length sieve.places) ≡ true = lt-ltb _ _ (omega arith) in
     rw (past, behind, excluded_at world rules head parent end, e, faults_at world head parent end) refl
 
 step_kept : (world : World) (rules : List Rule) (head : Head) (parent end place up : ℕ) (sieve : Sieve)
     → length sieve.places ≡ place → 0 < place → sieve.next ≤ place → judged_spec.is_excluded world rules head ≡ false
     → slice_get sieve.places parent ≡ Some up
-    → passed rules (declared_of world head) (element_at world (node_of head parent end)) (node_of head parent end) sieve
+    → passed rules (declared_of world head) (element_in_world world (node_of head parent end))
+    (node_of head parent end) sieve
     ≡ record {
       places = sieve.places ++ length sieve.kept ∷ [];
       kept = sieve.kept ++ node_of head up end ∷ [];
@@ -190,8 +186,8 @@ step_kept : (world : World) (rules : List Rule) (head : Head) (parent end place 
       next = sieve.next;
     }
 step_kept world rules head parent end place up sieve size some next e found =
-    let past : nat_lt (length sieve.places) sieve.next ≡ false = is_not_less _ _ (omega arith) in
-    let behind : nat_lt 0 (length sieve.places) ≡ true = is_less _ _ (omega arith) in
+    let past : nat_lt (length sieve.places) sieve.next ≡ false = le-ltb _ _ (omega arith) in
+    let behind : nat_lt 0 (length sieve.places) ≡ true = lt-ltb _ _ (omega arith) in
     let above = get_before sieve.places (length sieve.kept ∷ []) parent up found in
     rw (past, behind, excluded_at world rules head parent end, e, faults_at world head parent end, above) refl
 

@@ -21,15 +21,15 @@ abbrev pub element_found : List ℕ → Option (Bor doc.Node) → Option Element
 element_found name found = option_map (λ (node : Bor doc.Node). element_of name node.now) found
 
 -- the same in a world
-abbrev pub element_at : World → PlanNode → Option Element
-element_at world node = option_map (λ (whole : Whole). whole.0) (whole_at world node)
+abbrev pub element_in_world : World → PlanNode → Option Element
+element_in_world world node = option_map (λ (whole : Whole). whole.0) (whole_at world node)
 
 -- what is wrong with an element for which these names are declared, and whether it is excluded
 abbrev pub faults_of : List (List ℕ) → Option Element → List Fault
 faults_of declared element = option_map_or (group_faults declared) element []
 
-abbrev pub is_excluded : List Rule → List (List ℕ) → Option Element → Bool
-is_excluded rules declared element =
+abbrev pub is_sieved_out : List Rule → List (List ℕ) → Option Element → Bool
+is_sieved_out rules declared element =
     option_map_or (λ (written : Element). excluded rules declared written.attributes) element false
 
 -- the node, whose parent stands at its new place
@@ -46,7 +46,7 @@ passed rules declared element node sieve =
     let faults : List Fault = sieve.faults ++ faults_of declared element in
     if nat_lt (length sieve.places) sieve.next
     then record { places = places; kept = sieve.kept; faults = sieve.faults; next = sieve.next }
-    else if nat_lt 0 (length sieve.places) && is_excluded rules declared element
+    else if nat_lt 0 (length sieve.places) && is_sieved_out rules declared element
     then record { places = places; kept = sieve.kept; faults = faults; next = node.end }
     else record { places = places; kept = sieve.kept ++ moved places node ∷ []; faults = faults; next = sieve.next }
 
@@ -54,4 +54,4 @@ passed rules declared element node sieve =
 abbrev pub all_passed : World → List Rule → List PlanNode → Sieve → Sieve
 all_passed world rules [] sieve = sieve
 all_passed world rules (node ∷ nodes) sieve =
-    all_passed world rules nodes (passed rules (names_at world node) (element_at world node) node sieve)
+    all_passed world rules nodes (passed rules (names_at world node) (element_in_world world node) node sieve)

@@ -112,7 +112,7 @@ fn home_at(homes: &[Option<usize>], at: usize) -> Option<usize>
 }
 
 // Which of the documents stands under a name, if one does; it is asked for if it was not before.
-#[tactic(auto, using(crate::proofs::Growing::telling))]
+#[tactic(auto, using(readers::proofs::Rules::walking))]
 fn document_of<R: Reader>(
     alloc: Global,
     reader: &mut R,

@@ -13,14 +13,14 @@ ghost use Rattle.reader_spec.specs.World.{World};
 
 use crate::domains::DeclaredNames;
 use dita_doc::{NoMemory, PlanNode};
-use plan_nodes::Homes;
+use plan_nodes::NodeElements;
 use readers::Reader;
 use std::alloc::Global;
 
 /// The element of each node, and the names of conditional attributes declared for it.
 #[derive(Drop)]
 pub struct Elements {
-    pub homes: Homes,
+    pub homes: NodeElements,
     pub declared: DeclaredNames,
 }
 
@@ -54,7 +54,7 @@ impl Elements {
             (R.told reader.old) (R.told reader.new) }
         ensures grows { Grows (R.told reader.old) (R.told reader.new) }
     {
-        let homes = Homes::of(alloc, reader, nodes)?;
+        let homes = NodeElements::of(alloc, reader, nodes)?;
         let declared = DeclaredNames::of(alloc, reader, nodes)?;
         Ok(Elements { homes, declared })
     }

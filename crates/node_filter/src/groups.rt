@@ -31,7 +31,7 @@ pub(crate) fn append_group_faults(
 }
 
 fn is_group(declared: &List<Text>, attribute: &Attribute) -> bool
-    ensures { result ≡ judged_spec.is_group declared.now attribute.now }
+    ensures { result ≡ judged_spec.has_groups declared.now attribute.now }
 {
     is_conditional_among(declared, attribute.name.as_str())
         && attribute.value.as_bytes().contains(&b'(')

@@ -84,14 +84,14 @@ fn is_left_out(
     element: Option<&Node>,
 ) -> bool
     ensures { (name : List ℕ) → result ≡ (nat_lt 0 at
-        && sieve_spec.is_excluded table.now declared.now
+        && sieve_spec.is_sieved_out table.now declared.now
         (sieve_spec.element_found name element.entry)) }
 {
     at > 0 && is_excluded(table, declared, element)
 }
 
 fn is_excluded(table: &RuleTable<'_>, declared: &List<Text>, element: Option<&Node>) -> bool
-    ensures { (name : List ℕ) → result ≡ sieve_spec.is_excluded table.now declared.now
+    ensures { (name : List ℕ) → result ≡ sieve_spec.is_sieved_out table.now declared.now
         (sieve_spec.element_found name element.entry) }
 {
     match element {

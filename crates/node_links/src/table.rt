@@ -16,7 +16,7 @@ ghost use Rattle.reltable_links.specs.RowTable as row_table_spec;
 use dita_doc::{Fault, List, NoMemory, PageLink, Plan};
 use family_links::Collections;
 use link_groups::{LinkList, LinkNodes};
-use plan_nodes::Homes;
+use plan_nodes::NodeElements;
 use readers::Asker;
 use reltable_links::Rows;
 use std::alloc::Global;
@@ -90,7 +90,7 @@ impl NodeLinks {
     }
 
     // What `of` says, but of the reader's own world.
-    #[tactic(auto, using(crate::proofs::Walking::walking))]
+    #[tactic(auto, using(readers::proofs::Rules::walking))]
     fn found<A: Asker>(alloc: Global, asker: &mut A, plan: &Plan) -> Result<NodeLinks, NoMemory>
         ensures known { (world : World) → Agrees world (A.told asker.new)
             → row_table_spec.CanLink world plan.now (A.stand asker.old).setting.pages
@@ -102,7 +102,7 @@ impl NodeLinks {
             (A.told asker.old) (A.told asker.new) }
         ensures grows { Grows (A.told asker.old) (A.told asker.new) }
     {
-        let homes = Homes::of(alloc, asker, plan.nodes.as_slice())?;
+        let homes = NodeElements::of(alloc, asker, plan.nodes.as_slice())?;
         let mut link_nodes = LinkNodes::new(alloc);
         let collections = Collections::of(alloc, asker, plan, &homes, &mut link_nodes)?;
         let rows = Rows::of(alloc, asker, plan, &homes, &mut link_nodes)?;
@@ -115,7 +115,7 @@ impl NodeLinks {
     }
 
     // What `of_page` says, but of the reader's own world.
-    #[tactic(auto, using(crate::proofs::Walking::walking))]
+    #[tactic(auto, using(readers::proofs::Rules::walking))]
     fn shown<A: Asker>(
         &self,
         alloc: Global,

@@ -1,12 +1,9 @@
 -- The documents that nodes use may be asked about: an answer of a key gives them, or an href of a told element.
-use Rattle.std.specs.Prelude.{◌≡◌, ◌+◌, ◌-◌, ◌==◌, ℕ, Bool, true, false, List, [], ◌∷◌, Option, Some, None, Result, Ok, Err, IfOk, codes, map, option_map, slice_get, nat_lt, if◌then◌else◌}
+use Rattle.std.specs.Prelude.{◌≡◌, ℕ, Bool, true, false, List, [], ◌∷◌, Option, Some, None, Result, Ok, Err, IfOk, codes, map, option_map, slice_get, if◌then◌else◌}
 use Rattle.std.specs.Option.{option_and_then, option_to_list}
 use Rattle.std.proofs.Common.{refl, sym, ap, subst, ◌∙◌}
 use Rattle.std.proofs.lemmas.Option.{slice_get-map}
-use Rattle.dita_doc.specs.Tree as tree
-use Rattle.dita_doc.specs.Tree.{Content}
 use Rattle.dita_doc.specs.declared.content.KeyAnswer.{KeyAnswer}
-use Rattle.dita_doc.specs.declared.doc.Attribute.{Attribute}
 use Rattle.dita_doc.specs.declared.fault.Fault.{Fault}
 use Rattle.dita_doc.specs.declared.plan.PlanNode.{PlanNode}
 use Rattle.dita_doc.specs.declared.plan.Target.{Target}
@@ -14,64 +11,19 @@ use Rattle.dita_doc.specs.declared.plan.Target.TheVariants as targets
 use Rattle.dita_doc.specs.declared.stop.NoMemory.{NoMemory}
 use Rattle.map_spec.specs.Cascade.{whole_at}
 use Rattle.map_spec.specs.Elements.{attribute}
-use Rattle.map_spec.specs.Judged.{has_element}
 use Rattle.map_spec.specs.Pages.{aim_read, local_name}
 use Rattle.map_spec.specs.Target.{target_by}
-use Rattle.map_spec.specs.Written.{Element, Whole, element_at, element_in, size, written_in}
+use Rattle.map_spec.specs.Written.{Whole}
 use Rattle.plan_nodes.specs.Given.{AreTold}
 use Rattle.plan_nodes.specs.Home as home
 use Rattle.plan_nodes.proofs.GivenLaws.{element_told_later, may_target}
+use Rattle.plan_nodes.proofs.TargetLaws.{doc_there}
 use Rattle.reader_spec.specs.World.{World}
 use Rattle.readers.specs.Founded.{AreAllowed, Grows, StaysFounded, homes}
 use Rattle.readers.specs.Told.{Told, key}
 use Rattle.readers.proofs.FoundedLaws.{given_allowed, none_allowed, one_allowed, stays_after, stays_one, stays_then}
-use Rattle.page_names.specs.Aims.{IsAim, IsGiven, IsHrefOf, MayName, names_of}
+use Rattle.page_names.specs.Aims.{IsAim, IsGiven, IsHrefOf, MayName, names_of_target}
 use Rattle.page_names.proofs.UseLaws.{home_there}
-
-some_behind : (test : Bool) (more : Option Whole) (whole : Whole) → (if test then None else more) ≡ Some whole
-    → more ≡ Some whole
-some_behind true more whole is = cc
-some_behind false more whole is = is
-
--- an element was written in the document whose tree it stands in
-doc_by : (name : List ℕ) (first past : Bool) (here behind inside : Option Whole) (whole : Whole)
-    → (here ≡ Some whole → whole.0.doc ≡ name) → (behind ≡ Some whole → whole.0.doc ≡ name)
-    → (inside ≡ Some whole → whole.0.doc ≡ name)
-    → (if first then here else if past then behind else inside) ≡ Some whole → whole.0.doc ≡ name
-doc_by name true past here behind inside whole by_here by_behind by_inside is = by_here is
-doc_by name false true here behind inside whole by_here by_behind by_inside is = by_behind is
-doc_by name false false here behind inside whole by_here by_behind by_inside is = by_inside is
-
-abbrev element_of : List ℕ → List ℕ → List Attribute → ℕ → Element
-element_of doc name attributes line =
-    record { name = name; attributes = attributes; doc = doc; line = line; href_doc = doc }
-
-doc_at : (name : List ℕ) (nodes : Content) (place : ℕ) (whole : Whole)
-    → element_at (written_in name nodes) place ≡ Some whole → whole.0.doc ≡ name
-doc_at name tree.End place whole is = cc
-doc_at name (tree.Chars text origin line rest) place whole is =
-    doc_at name rest (place - 1) whole (some_behind (place == 0) _ whole is)
-doc_at name (tree.Element own attributes origin line inside rest) place whole is =
-    doc_by name (place == 0) (nat_lt (size (written_in name inside)) place) _ _ _ whole
-    (λ here. let same : whole.0 ≡ element_of name own attributes line = cc in ap (λ (e : Element). e.doc) same)
-    (λ behind. doc_at name rest (place - (1 + size (written_in name inside))) whole behind)
-    (λ within. doc_at name inside (place - 1) whole within) is
-
-doc_in : (name : List ℕ) (found : Option Content) (place : ℕ) (whole : Whole)
-    → option_and_then (λ nodes. element_at nodes place) (option_map (written_in name) found) ≡ Some whole
-    → whole.0.doc ≡ name
-doc_in name None place whole is = cc
-doc_in name (Some nodes) place whole is = doc_at name nodes place whole is
-
-doc_if : (world : World) (node : PlanNode) (test : Bool) (whole : Whole)
-    → (if test then element_in world node.doc node.place else None) ≡ Some whole → whole.0.doc ≡ node.doc
-doc_if world node true whole is = doc_in node.doc (world node.doc) node.place whole is
-doc_if world node false whole is = cc
-
--- the element of a node was written in the node's document
-pub doc_there : (world : World) (node : PlanNode) (whole : Whole) → whole_at world node ≡ Some whole
-    → whole.0.doc ≡ node.doc
-doc_there world node whole is = doc_if world node (has_element node.kind) whole is
 
 -- The href of a node
 
@@ -116,7 +68,7 @@ given_later old new doc href grows given = record {
 
 -- The document of a target
 
-pub nothing_named : (told : List Told) (target : Target) → names_of target ≡ [] → MayName told target
+pub nothing_named : (told : List Told) (target : Target) → names_of_target target ≡ [] → MayName told target
 nothing_named told target none =
     record { by = λ roots. subst (AreAllowed roots told) (sym none) (none_allowed roots told) }
 

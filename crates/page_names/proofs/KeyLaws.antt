@@ -8,12 +8,13 @@ use Rattle.std.specs.Ordering.{is_eq, match_ordering, nat_cmp}
 use Rattle.std.proofs.Common.{Ordering, Less, Equal, Greater, refl, sym, ap, ◌∙◌}
 use Rattle.std.proofs.lemmas.Map.Text.{is_eq-slice_cmp}
 use Rattle.dita_doc.proofs.NameOrder.{same_from_equal}
+use Rattle.dita_doc.proofs.Orders.{both_equal, equal_test, numbers_same}
+use Rattle.dita_doc.proofs.Tests.{and_assoc, by_truth, or_again, or_moves}
 use Rattle.dita_doc.specs.declared.plan.PageId.{PageId}
 use Rattle.map_spec.specs.Pages.{are_same_affixes, are_same_texts, is_same_page}
 use Rattle.page_names.specs.PageUses.{key_of, order}
 use Rattle.page_names.specs.declared.page_uses.PageKey.{PageKey}
-use Rattle.plan_nodes.proofs.OrderLaws.{affixes_same, and_assoc, both_equal, by_truth, equal_test, numbers_same, texts_equal, texts_same, then_is}
-use Rattle.page_names.proofs.TestLaws.{swap, twice}
+use Rattle.plan_nodes.proofs.OrderLaws.{affixes_same, texts_equal, texts_same, then_is}
 
 -- two keys are equal where the pages are the same
 pub keys_same : (a b : PageId) → is_eq (order (key_of a) (key_of b)) ≡ is_same_page a b
@@ -73,5 +74,5 @@ any_key_put p k (first ∷ keys) = by_order (any_key_put p k keys) (order k firs
         → list_any p (match_ordering o (k ∷ first ∷ keys) (first ∷ keys) (first ∷ insert_key order keys k))
         ≡ (p k || list_any p (first ∷ keys))
     by_order behind Less e = refl
-    by_order behind Equal e = twice (p k) (p first) (list_any p keys) (ap p (equal_keys k first e))
-    by_order behind Greater e = swap (p first) (p k) (list_any p keys) _ behind
+    by_order behind Equal e = or_again (p k) (p first) (list_any p keys) (ap p (equal_keys k first e))
+    by_order behind Greater e = or_moves (p first) (p k) (list_any p keys) _ behind

@@ -6,7 +6,5 @@ mod MadeLaws
 mod NameLaws
 mod OnceLaws
 mod PageUseLaws
-mod TestLaws
 mod UseLaws
 mod UsedLaws
-pub mod Walking

@@ -21,7 +21,7 @@ use Rattle.page_names.specs.declared.made.PagesMade.{PagesMade}
 use Rattle.page_names.specs.declared.uses.Uses.{Uses}
 use Rattle.page_names.proofs.UseLaws.{all_places}
 
-count_named : (index : ℕ) (taken : List (List ℕ)) (uses : List pages_spec.Use)
+pub count_named : (index : ℕ) (taken : List (List ℕ)) (uses : List pages_spec.Use)
     → length (named_from index taken uses) ≡ length uses
 count_named index taken [] = refl
 count_named index taken (first ∷ uses) =

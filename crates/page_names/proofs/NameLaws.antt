@@ -13,35 +13,22 @@ use Rattle.std.proofs.lemmas.Grind.{flat_map-append}
 use Rattle.dita_doc.specs.declared.fault.Fault.{Fault}
 use Rattle.dita_doc.specs.declared.plan.PlanNode.{PlanNode}
 use Rattle.std.proofs.lemmas.Slice.Eq.{bytes_eq-Decides}
+use Rattle.dita_doc.proofs.Lists.{any_put}
 use Rattle.dita_doc.proofs.NameOrder.{same_from_equal}
+use Rattle.dita_doc.proofs.Orders.{at_text, equal_test}
+use Rattle.dita_doc.proofs.Tests.{not_false, not_true}
 use Rattle.dita_doc.specs.declared.plan.PagePlan.{PagePlan}
 use Rattle.map_spec.specs.Pages as pages_spec
 use Rattle.map_spec.specs.Pages.{contents_name, free_from, free_name, html, name_fault, named_from, page_of_use, with_number}
 use Rattle.page_names.specs.Taken.{AreNamed, AreTaken, AreTried, IsFound, IsNamed, IsTakenBy, IsTried, is_taken, name_for}
 use Rattle.page_names.specs.declared.names.PageNames.{PageNames}
-use Rattle.plan_nodes.proofs.OrderLaws.{equal_test}
-use Rattle.page_names.proofs.TestLaws.{by_key, not_false, not_true, swap, twice}
 
 -- Names in a set
 
 any_key : (word : List ℕ) (keys : List (List ℕ))
     → list_any (is_at (slice_cmp nat_cmp word)) keys ≡ is_taken keys word
 any_key word [] = refl
-any_key word (key ∷ keys) = rw (by_key key word, any_key word keys) refl
-
-any_put : (p : List ℕ → Bool) (word : List ℕ) (keys : List (List ℕ))
-    → list_any p (insert_key (slice_cmp nat_cmp) keys word) ≡ (p word || list_any p keys)
-any_put p word [] = refl
-any_put p word (key ∷ keys) = by_order (any_put p word keys) (slice_cmp nat_cmp word key) refl
-  where
-    by_order : list_any p (insert_key (slice_cmp nat_cmp) keys word) ≡ (p word || list_any p keys) → (o : Ordering)
-        → slice_cmp nat_cmp word key ≡ o
-        → list_any p (match_ordering o (word ∷ key ∷ keys) (key ∷ keys)
-        (key ∷ insert_key (slice_cmp nat_cmp) keys word))
-        ≡ (p word || list_any p (key ∷ keys))
-    by_order behind Less e = refl
-    by_order behind Equal e = twice (p word) (p key) (list_any p keys) (ap p (same_from_equal word key e))
-    by_order behind Greater e = swap (p key) (p word) (list_any p keys) _ behind
+any_key word (key ∷ keys) = rw (at_text key word, any_key word keys) refl
 
 -- Numbers that were tried
 

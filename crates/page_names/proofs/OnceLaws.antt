@@ -3,6 +3,7 @@ use Rattle.std.specs.Prelude.{◌≡◌, ◌||◌, ℕ, Bool, true, not, List, [
 use Rattle.std.specs.List.{list_any}
 use Rattle.std.proofs.Common.{refl, sym, ap, ◌∙◌}
 use Rattle.std.proofs.lemmas.Slice.Eq.{bytes_eq-Decides}
+use Rattle.dita_doc.proofs.Tests.{text_swaps}
 use Rattle.map_spec.specs.Branches.{each_once}
 use Rattle.map_spec.specs.Pages as pages_spec
 use Rattle.map_spec.specs.Pages.{first_uses, is_same_page}
@@ -10,7 +11,6 @@ use Rattle.page_names.specs.PageUses.{with_use}
 use Rattle.page_names.specs.Used.{with_name}
 use Rattle.page_names.proofs.KeyLaws.{same_through}
 use Rattle.plan_nodes.proofs.OnceLaws.{firsts, firsts_push}
-use Rattle.plan_nodes.proofs.OrderLaws.{by_truth}
 
 -- Names
 
@@ -22,16 +22,11 @@ once_is : (names : List (List ℕ)) → each_once names ≡ firsts bytes_eq same
 once_is [] = refl
 once_is (name ∷ names) = ap (λ more. name ∷ filter (λ other. not (bytes_eq name other)) more) (once_is names)
 
-turned : (a b : List ℕ) → bytes_eq a b ≡ bytes_eq b a
-turned a b = by_truth (bytes_eq a b) (bytes_eq b a)
-    (λ e. (bytes_eq-Decides b a).1 (sym ((bytes_eq-Decides a b).0 e)))
-    (λ e. (bytes_eq-Decides a b).1 (sym ((bytes_eq-Decides b a).0 e)))
-
 there_turned : (names : List (List ℕ)) (name : List ℕ)
     → list_any (λ other. bytes_eq other name) names ≡ list_any (bytes_eq name) names
 there_turned [] name = refl
 there_turned (first ∷ names) name =
-    ap (λ b. b || list_any (λ other. bytes_eq other name) names) (turned first name)
+    ap (λ b. b || list_any (λ other. bytes_eq other name) names) (text_swaps first name)
     ∙ ap (λ b. bytes_eq name first || b) (there_turned names name)
 
 pub once_push : (names : List (List ℕ)) (name : List ℕ) → each_once (names ++ name ∷ []) ≡ with_name

@@ -7,6 +7,8 @@ use Rattle.std.specs.Ordering.{is_eq}
 use Rattle.std.proofs.Common.{sym, ap, ◌∙◌}
 use Rattle.std.proofs.lemmas.List.{map-append}
 use Rattle.dita_doc.specs.declared.plan.PageId.{PageId}
+use Rattle.dita_doc.proofs.Lists.{any_push}
+use Rattle.dita_doc.proofs.Tests.{not_true}
 use Rattle.map_spec.specs.Pages as pages_spec
 use Rattle.map_spec.specs.Pages.{is_same_page}
 use Rattle.page_names.specs.PageUses.{AreFirst, is_used, key_of, order, with_use}
@@ -15,7 +17,6 @@ use Rattle.page_names.specs.declared.page_uses.PageKey.{PageKey}
 use Rattle.page_names.specs.declared.page_uses.PageUses.{PageUses}
 use Rattle.page_names.specs.declared.page_uses.Use.{Use}
 use Rattle.page_names.proofs.KeyLaws.{any_key_put, keys_same, same_turned}
-use Rattle.page_names.proofs.TestLaws.{any_push, not_true}
 
 asked_is : (uses : List pages_spec.Use) (old : PageUses) (id : PageId) (key : PageKey) → AreFirst uses old
     → key ≡ key_of id → list_any (is_at (order key)) old.seen.keys ≡ is_used uses id

@@ -2,18 +2,18 @@
 use Rattle.std.specs.Prelude.{◌≡◌, ◌+◌, ◌-◌, ◌<◌, ◌&&◌, ◌++◌, ℕ, zero, suc, Bool, true, false, List, [], ◌∷◌, Option, Some, None, OnOk, Result, IsTrue, drop, length, map, option_map, slice_get, take, unwrap_or, if◌then◌else◌}
 use Rattle.std.specs.List.{filter_map, flat_map}
 use Rattle.std.specs.Option.{option_and_then, option_map_or, option_to_list}
-use Rattle.std.proofs.Common.{refl, sym, ap, subst, ◌∙◌, arith, get_or, append-nil, append_assoc}
+use Rattle.std.proofs.Common.{refl, sym, ap, subst, ◌∙◌, arith, append-nil, append_assoc}
 use Rattle.std.proofs.lemmas.Grind.{flat_map-append}
-use Rattle.std.proofs.lemmas.List.{map-append, take_all, take_more}
+use Rattle.std.proofs.lemmas.List.{map-append, take_all}
 use Rattle.std.proofs.lemmas.List.Elements.{filter_map-append}
-use Rattle.std.proofs.lemmas.Option.{slice_get-map}
+use Rattle.std.proofs.lemmas.Option.{slice_get-map, slice_get_within}
 use Rattle.dita_doc.specs.declared.plan.PlanNode.{PlanNode}
 use Rattle.dita_doc.specs.declared.plan.Target.{Target}
 use Rattle.dita_doc.specs.declared.stop.NoMemory.{NoMemory}
 use Rattle.map_spec.specs.Branches.{each_once}
 use Rattle.map_spec.specs.Pages as pages_spec
 use Rattle.map_spec.specs.Pages.{aim_of, aim_at, fault_of_kind, fault_of_use, faults_at, first_uses, ignored_at, is_normal, is_page_kind, local_name, use_at, use_of, used_at, with_more}
-use Rattle.map_spec.specs.Scopes.{places, places_from, scope_at}
+use Rattle.map_spec.specs.Scopes.{places, scope_at}
 use Rattle.map_spec.specs.Titles.{kind_in}
 use Rattle.plan_nodes.specs.Preorder.{is_in_table_at, tables_around}
 use Rattle.reader_spec.specs.World.{World}
@@ -25,6 +25,8 @@ use Rattle.readers.specs.Told.{Told}
 use Rattle.readers.proofs.DocumentLaws.{asks_one}
 use Rattle.readers.proofs.FoundedLaws.{among_behind, among_first}
 use Rattle.dita_doc.specs.declared.question.DocKind.{DocKind}
+use Rattle.dita_doc.proofs.Lists.{one_found}
+use Rattle.map_lemmas.proofs.ListedLaws.{count_places, place_there, places_more}
 use Rattle.page_names.specs.Used.{AreUsed, IsKindOf, with_names}
 use Rattle.page_names.specs.Uses.{AreReady, AreUses, IsAdded, faults_of, target_at, told_at, use_made, with_uses}
 use Rattle.page_names.specs.declared.uses.Uses.{Uses}
@@ -32,38 +34,8 @@ use Rattle.page_names.proofs.OnceLaws.{once_push, uses_push}
 
 -- Places
 
-place_there : {X : Type 0} (xs : List X) (from at : ℕ) → at < length xs
-    → slice_get (places_from from xs) at ≡ Some (from + at)
-place_there [] from at within = absurd (omega arith)
-place_there (x ∷ xs) from zero within = ap Some (omega arith)
-place_there (x ∷ xs) from (suc at) within =
-    place_there xs (from + 1) at (omega arith) ∙ ap Some (omega arith)
-
-get_place : {X : Type 0} (xs : List X) (from at d : ℕ) → at < length xs → get_or (places_from from xs) at d ≡ from + at
-get_place [] from at d within = absurd (omega arith)
-get_place (x ∷ xs) from zero d within = omega arith
-get_place (x ∷ xs) from (suc at) d within =
-    let rest : get_or (places_from (from + 1) xs) at d ≡ from + 1 + at = get_place xs (from + 1) at d (omega arith) in
-    rest ∙ omega arith
-
-count_places : {X : Type 0} (xs : List X) (from : ℕ) → length (places_from from xs) ≡ length xs
-count_places [] from = refl
-count_places (x ∷ xs) from = ap suc (count_places xs (from + 1))
-
-places_more : (nodes : List PlanNode) (at : ℕ) → at < length nodes
-    → take (at + 1) (places nodes) ≡ take at (places nodes) ++ at ∷ []
-places_more nodes at within =
-    let below : at < length (places nodes) = omega (arith, count_places nodes 0) in
-    let same : get_or (places nodes) at 0 ≡ 0 + at = get_place nodes 0 at 0 within in
-    take_more (places nodes) at 0 below ∙ ap (λ place. take at (places nodes) ++ place ∷ []) (same ∙ omega arith)
-
 pub all_places : (nodes : List PlanNode) → take (length nodes) (places nodes) ≡ places nodes
 all_places nodes = take_all (length nodes) (places nodes) (omega (arith, count_places nodes 0))
-
-within : {X : Type 0} (xs : List X) (at : ℕ) (x : X) → slice_get xs at ≡ Some x → at < length xs
-within [] at x is = cc
-within (first ∷ xs) zero x is = omega arith
-within (first ∷ xs) (suc at) x is = let rest = within xs at x is in omega arith
 
 -- whether a node stands in a table, as the list for all nodes tells it
 pub told_there : (nodes : List PlanNode) (at : ℕ) (inside items : List Bool) (is_in : Bool) → at < length nodes
@@ -74,11 +46,6 @@ told_there nodes at inside items is_in below are same told =
     ∙ ap (option_map (is_in_table_at nodes)) (place_there nodes 0 at below ∙ ap Some (omega arith)))
 
 -- Lists with one more
-
-one_found : {X Y : Type 0} (f : X → Option Y) (x : X) (found : Option Y) → f x ≡ found
-    → filter_map f (x ∷ []) ≡ option_to_list found
-one_found f x None is = rw is refl
-one_found f x (Some y) is = rw is refl
 
 names_more : (names : List (List ℕ)) (used : Option (List ℕ))
     → each_once (names ++ option_to_list used) ≡ with_names (each_once names) used
@@ -146,7 +113,7 @@ pub node_added : (world : World) (nodes : List PlanNode) (at : ℕ) (node : Plan
 node_added world nodes at node target is_in used old middle added new there carries inside before aim kept is_used adds
     targets_new documents_new pages_new faults_new =
     let so_far = take at (places nodes) in
-    let more : take (at + 1) (places nodes) ≡ so_far ++ at ∷ [] = places_more nodes at (within nodes at node there) in
+    let more : take (at + 1) (places nodes) ≡ so_far ++ at ∷ [] = places_more nodes at (slice_get_within nodes at node there) in
     let use_is : used ≡ used_at world nodes at =
     used_there world nodes at node target is_in used there inside aim.leads is_used in
     let names_are : with_names (each_once (filter_map (used_at world nodes) so_far)) used
@@ -229,12 +196,6 @@ some_added world nodes at node names uses found name result old new some is =
     subst (λ f. OnOk result (IsAdded world nodes at node names uses f old new)) (sym some) is
 
 -- One of the nodes
-
-pub node_there : {X : Type 0} (xs : List X) (at : ℕ) (x : X) → at < length xs → x ≡ get_or xs at x
-    → slice_get xs at ≡ Some x
-node_there [] at x below is = absurd (omega arith)
-node_there (first ∷ xs) zero x below is = ap Some (sym is)
-node_there (first ∷ xs) (suc at) x below is = node_there xs at x (omega arith) is
 
 one_there : {X : Type 0} (xs : List X) (at : ℕ) (x : X) → slice_get xs at ≡ Some x → take 1 (drop at xs) ≡ x ∷ []
 one_there [] at x is = cc

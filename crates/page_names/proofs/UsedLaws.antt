@@ -8,13 +8,14 @@ use Rattle.std.specs.Ordering.{is_eq, match_ordering, nat_cmp}
 use Rattle.std.proofs.Common.{Ordering, Less, Equal, Greater, cond, refl, sym, ap, subst, ◌∙◌}
 use Rattle.std.proofs.lemmas.Bool.{false≢true}
 use Rattle.std.proofs.lemmas.Slice.Eq.{bytes_eq-Decides}
+use Rattle.dita_doc.proofs.Lists.{any_push}
 use Rattle.dita_doc.proofs.NameOrder.{same_from_equal}
+use Rattle.dita_doc.proofs.Orders.{at_text}
 use Rattle.dita_doc.specs.declared.question.DocKind.{DocKind}
 use Rattle.map_spec.specs.Titles.{kind_in}
 use Rattle.reader_spec.specs.World.{World}
 use Rattle.page_names.specs.Used.{AreUsed, IsKindOf, kind_known, with_name}
 use Rattle.page_names.specs.declared.documents.Documents.{Documents}
-use Rattle.page_names.proofs.TestLaws.{any_push, by_key}
 
 abbrev Entry : Type 0
 Entry = List ℕ × DocKind
@@ -26,7 +27,7 @@ find_kind name entries = lookup (is_at (slice_cmp nat_cmp name)) entries
 kind_put : (name key : List ℕ) (kind : DocKind) (entries : List Entry)
     → find_kind name (insert_entry (slice_cmp nat_cmp) entries key kind)
     ≡ (if bytes_eq name key then Some kind else find_kind name entries)
-kind_put name key kind [] = ap (λ b. cond b (Some kind) None) (by_key key name)
+kind_put name key kind [] = ap (λ b. cond b (Some kind) None) (at_text key name)
 kind_put name key kind (entry ∷ more) =
     by_order (kind_put name key kind more) (slice_cmp nat_cmp key entry.0) refl
   where
@@ -40,10 +41,10 @@ kind_put name key kind (entry ∷ more) =
     apart : slice_cmp nat_cmp key entry.0 ≡ Greater → is_at (slice_cmp nat_cmp name) entry.0 ≡ true
         → bytes_eq name key ≡ true → Some entry.1 ≡ Some kind
     apart greater here there =
-        let one : name ≡ entry.0 = (bytes_eq-Decides name entry.0).0 (sym (by_key entry.0 name) ∙ here) in
+        let one : name ≡ entry.0 = (bytes_eq-Decides name entry.0).0 (sym (at_text entry.0 name) ∙ here) in
         let two : name ≡ key = (bytes_eq-Decides name key).0 there in
         let equal : is_at (slice_cmp nat_cmp key) entry.0 ≡ true =
-        by_key entry.0 key ∙ (bytes_eq-Decides key entry.0).1 (sym two ∙ one) in
+        at_text entry.0 key ∙ (bytes_eq-Decides key entry.0).1 (sym two ∙ one) in
         absurd (false≢true (sym (ap is_eq greater) ∙ equal))
 
     by_order : find_kind name (insert_entry (slice_cmp nat_cmp) more key kind)
@@ -52,12 +53,12 @@ kind_put name key kind (entry ∷ more) =
         → find_kind name (match_ordering o ((key, kind) ∷ entry ∷ more) ((entry.0, kind) ∷ more)
         (entry ∷ insert_entry (slice_cmp nat_cmp) more key kind))
         ≡ (if bytes_eq name key then Some kind else find_kind name (entry ∷ more))
-    by_order behind Less is = ap (λ b. cond b (Some kind) (find_kind name (entry ∷ more))) (by_key key name)
+    by_order behind Less is = ap (λ b. cond b (Some kind) (find_kind name (entry ∷ more))) (at_text key name)
     by_order behind Equal is =
         ap (λ b. cond b (Some kind) (find_kind name more))
-        (by_key entry.0 name ∙ ap (bytes_eq name) (sym (same_from_equal key entry.0 is)))
+        (at_text entry.0 name ∙ ap (bytes_eq name) (sym (same_from_equal key entry.0 is)))
         ∙ again (bytes_eq name key) (is_at (slice_cmp nat_cmp name) entry.0)
-        (by_key entry.0 name ∙ ap (bytes_eq name) (sym (same_from_equal key entry.0 is)))
+        (at_text entry.0 name ∙ ap (bytes_eq name) (sym (same_from_equal key entry.0 is)))
       where
         again : (a b : Bool) → b ≡ a → cond a (Some kind) (find_kind name more)
             ≡ (if a then Some kind else cond b (Some entry.1) (find_kind name more))

@@ -43,12 +43,12 @@ pub record IsHrefOf (told : List Told) (doc href : List ℕ) : Type 0 where
 pub record IsGiven (told : List Told) (doc : List ℕ) (href : Option (List ℕ)) : Type 0 where
   pub each : (value : List ℕ) → href ≡ Some value → IsHrefOf told doc value
 
-abbrev pub Asked : Type 0
-Asked = List Told
+abbrev pub AskedAim : Type 0
+AskedAim = List Told
 
-abbrev pub names_of : Target → List (List ℕ)
-names_of target = option_to_list (local_name target)
+abbrev pub names_of_target : Target → List (List ℕ)
+names_of_target target = option_to_list (local_name target)
 
 -- the document that a target names may be asked about
 pub record MayName (told : List Told) (target : Target) : Type 0 where
-  pub by : (roots : List (List ℕ)) → AreAllowed roots told (names_of target)
+  pub by : (roots : List (List ℕ)) → AreAllowed roots told (names_of_target target)

@@ -8,7 +8,7 @@ use Rattle.dita_doc.specs.declared.plan.PlanStop.TheVariants as stops
 use Rattle.dita_doc.specs.declared.plan.Target.{Target}
 use Rattle.dita_doc.specs.declared.stop.NoMemory.{NoMemory}
 use Rattle.dita_doc.specs.declared.stop.Stop.{Stop}
-use Rattle.map_spec.specs.Pages.{aim_at, documents_of, page_faults, pages_of, targets_of}
+use Rattle.map_spec.specs.Pages.{aim_at, documents_of, page_faults, pages_of, node_targets}
 use Rattle.plan_nodes.specs.Carried.{CarryScopes, CarryValues}
 use Rattle.plan_nodes.specs.Preorder.{HasParentsBefore}
 use Rattle.reader_spec.specs.World.{World}
@@ -17,7 +17,7 @@ use Rattle.page_names.specs.declared.made.PagesMade.{PagesMade}
 abbrev pub all_made : World → List PlanNode → PagesMade
 all_made world nodes = record {
   pages = pages_of world nodes;
-  targets = targets_of world nodes;
+  targets = node_targets world nodes;
   documents = documents_of world nodes;
   faults = page_faults world nodes;
 }

@@ -16,7 +16,7 @@ ghost use Rattle.readers.specs.Founded.{Grows, StaysFounded};
 ghost use Rattle.readers.specs.Told.{Agrees};
 
 use dita_doc::{Fault, FaultCode, KeyAnswer, List, NoMemory, PlanKind, PlanNode, Target, Text};
-use plan_nodes::{Homes, fault_of};
+use plan_nodes::{NodeElements, fault_of};
 use readers::Keys;
 use std::alloc::Global;
 use targets::{split_key, target_by};
@@ -48,7 +48,7 @@ pub fn target<K: Keys>(
 }
 
 // What `target` says, but of the reader's own world.
-#[tactic(auto, using(crate::proofs::Walking::walking))]
+#[tactic(auto, using(readers::proofs::Rules::walking))]
 fn target_in<K: Keys>(
     alloc: Global,
     asker: &mut K,
@@ -86,7 +86,7 @@ pub(crate) fn is_reference(kind: PlanKind) -> bool
 }
 
 // What a reference leads to, which is alone in the list.
-#[tactic(auto, using(crate::proofs::Walking::walking))]
+#[tactic(auto, using(readers::proofs::Rules::walking))]
 fn target_alone<K: Keys>(
     alloc: Global,
     asker: &mut K,
@@ -107,7 +107,7 @@ fn target_alone<K: Keys>(
         (K.told asker.old) (K.told asker.new) }
     ensures grows { Grows (K.told asker.old) (K.told asker.new) }
 {
-    let homes = Homes::of(alloc, asker, alone)?;
+    let homes = NodeElements::of(alloc, asker, alone)?;
     let mut faults = List::new(alloc);
     let keyref = homes.value(0, "keyref");
     let href = homes.value(0, "href");
@@ -115,7 +115,7 @@ fn target_alone<K: Keys>(
 }
 
 /// What a reference leads to that has these two attributes. Appends the faults met on the way.
-#[tactic(auto, using(crate::proofs::Walking::walking))]
+#[tactic(auto, using(readers::proofs::Rules::walking))]
 pub(crate) fn target_of<K: Keys>(
     alloc: Global,
     asker: &mut K,
@@ -159,7 +159,7 @@ fn target_by_key(
         → node.now.cascaded ≡ cascade_spec.cascaded_on world around
         → IfOk result (λ target. spec.IsAim (pages_spec.aim_by_key world node.now around key.now
         (option_copied href.entry) answer) target faults.old faults.new) }
-    ensures given { (told : spec.Asked)
+    ensures given { (told : spec.AskedAim)
         → spec.IsGiven told node.now.doc (option_copied href.entry)
         → spec.MayName told answer.target → IfOk result (λ target. spec.MayName told target) }
 {
@@ -190,7 +190,7 @@ fn target_undefined(
         (pages_spec.undefined_key node.now key.now (option_copied href.entry))
         (pages_spec.aim_by_href world node.now around (option_copied href.entry)))
         target faults.old faults.new) }
-    ensures given { (told : spec.Asked)
+    ensures given { (told : spec.AskedAim)
         → spec.IsGiven told node.now.doc (option_copied href.entry)
         → IfOk result (λ target. spec.MayName told target) }
 {
@@ -238,7 +238,7 @@ fn target_by_href(
         → node.now.cascaded ≡ cascade_spec.cascaded_on world around
         → IfOk result (λ target. spec.IsAim (pages_spec.aim_by_href world node.now around
         (option_copied href.entry)) target faults.old faults.new) }
-    ensures given { (told : spec.Asked)
+    ensures given { (told : spec.AskedAim)
         → spec.IsGiven told node.now.doc (option_copied href.entry)
         → IfOk result (λ target. spec.MayName told target) }
 {

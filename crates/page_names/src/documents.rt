@@ -32,7 +32,7 @@ impl Documents {
     }
 
     /// What a document is; each is asked for once, and put behind the documents that are used.
-    #[tactic(auto, using(crate::proofs::Walking::walking))]
+    #[tactic(auto, using(readers::proofs::Rules::walking))]
     pub(crate) fn kind<T: Titles>(
         &mut self,
         alloc: Global,

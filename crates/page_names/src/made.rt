@@ -57,7 +57,7 @@ pub fn pages<K: Keys>(
 }
 
 // What `pages` says, but of the reader's own world.
-#[tactic(auto, using(crate::proofs::Walking::walking))]
+#[tactic(auto, using(readers::proofs::Rules::walking))]
 fn pages_of<K: Keys>(
     alloc: Global,
     asker: &mut K,

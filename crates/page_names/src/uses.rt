@@ -21,7 +21,7 @@ use crate::aim::{is_reference, target_of};
 use crate::documents::Documents;
 use crate::page_uses::PageUses;
 use dita_doc::{DocKind, Fault, FaultCode, List, Name, NoMemory, Node, PlanNode, Target};
-use plan_nodes::{Homes, fault_of, in_tables};
+use plan_nodes::{NodeElements, fault_of, in_tables};
 use readers::Keys;
 use std::alloc::Global;
 
@@ -36,7 +36,7 @@ pub(crate) struct Uses {
 
 impl Uses {
     /// Goes over all nodes in order.
-    #[tactic(auto, using(crate::proofs::Walking::walking))]
+    #[tactic(auto, using(readers::proofs::Rules::walking))]
     pub(crate) fn of<K: Keys>(
         alloc: Global,
         asker: &mut K,
@@ -53,7 +53,7 @@ impl Uses {
             (K.told asker.old) (K.told asker.new) }
         ensures grows { Grows (K.told asker.old) (K.told asker.new) }
     {
-        let homes = Homes::of(alloc, asker, nodes)?;
+        let homes = NodeElements::of(alloc, asker, nodes)?;
         let inside = in_tables(alloc, nodes)?;
         let mut uses = Uses::new(alloc);
         for (at, node) in nodes.iter().enumerate() {
@@ -75,12 +75,12 @@ impl Uses {
     }
 
     // Adds what a node leads to and uses.
-    #[tactic(auto, using(crate::proofs::Walking::walking))]
+    #[tactic(auto, using(readers::proofs::Rules::walking))]
     fn add_node<K: Keys>(
         &mut self,
         alloc: Global,
         asker: &mut K,
-        homes: &Homes,
+        homes: &NodeElements,
         at: usize,
         node: &PlanNode,
         is_in_table: bool,
@@ -108,7 +108,7 @@ impl Uses {
     }
 
     // Adds the use of a document by a node, if it uses one, and the page that it makes.
-    #[tactic(auto, using(crate::proofs::Walking::walking))]
+    #[tactic(auto, using(readers::proofs::Rules::walking))]
     fn add_use<K: Keys>(
         &mut self,
         alloc: Global,
@@ -137,7 +137,7 @@ impl Uses {
     }
 
     // Adds the use of this document by a node.
-    #[tactic(auto, using(crate::proofs::Walking::walking))]
+    #[tactic(auto, using(readers::proofs::Rules::walking))]
     fn add_name<K: Keys>(
         &mut self,
         alloc: Global,
@@ -174,11 +174,11 @@ fn is_within(inside: &[bool], at: usize) -> bool
 }
 
 // What a node leads to. Appends the faults of its attributes, and those met on the way.
-#[tactic(auto, using(crate::proofs::Walking::walking))]
+#[tactic(auto, using(readers::proofs::Rules::walking))]
 fn aim<K: Keys>(
     alloc: Global,
     asker: &mut K,
-    homes: &Homes,
+    homes: &NodeElements,
     at: usize,
     node: &PlanNode,
     faults: &mut List<Fault>,
@@ -215,7 +215,7 @@ fn aim<K: Keys>(
 // The value of an attribute of a node's element, if there is one that has it.
 fn value_in<'e>(element: Option<&'e Node>, name: &str) -> Option<&'e str>
     ensures { (homes : spec.Wholes) (at : ℕ) → home_spec.found_in (home_spec.doc_of homes at)
-        element.entry ≡ home_spec.element_at homes at
+        element.entry ≡ home_spec.element_among homes at
         → option_copied result ≡ home_spec.value_at homes at name.now }
 {
     element?.value_of(name)

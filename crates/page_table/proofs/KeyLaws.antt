@@ -6,13 +6,14 @@ use Rattle.std.specs.Ordering.{is_eq, nat_cmp}
 use Rattle.std.proofs.Common.{Equal, refl, ap, ◌∙◌}
 use Rattle.std.proofs.lemmas.Map.Text.{is_eq-slice_cmp}
 use Rattle.dita_doc.proofs.NameOrder.{same_from_equal}
+use Rattle.dita_doc.proofs.Orders.{both_equal, numbers_same}
 use Rattle.dita_doc.specs.declared.plan.PageId.{PageId}
 use Rattle.dita_doc.specs.declared.plan.PagePlan.{PagePlan}
 use Rattle.map_spec.specs.Pages.{are_same_affixes, are_same_texts, is_page_for}
 use Rattle.plan_nodes.specs.Affixes.{texts_of}
 use Rattle.page_table.specs.Pages.{key_of, order}
 use Rattle.page_table.specs.declared.keys.PageKey.{PageKey}
-use Rattle.plan_nodes.proofs.OrderLaws.{affixes_same, both_equal, numbers_same, texts_equal, texts_same, then_is}
+use Rattle.plan_nodes.proofs.OrderLaws.{affixes_same, texts_equal, texts_same, then_is}
 
 last_first : (s t a d : Bool) → (s && (t && (a && d))) ≡ (d && ((s && t) && a))
 last_first true true true true = refl

@@ -6,6 +6,7 @@ use Rattle.std.specs.Option.{option_or}
 use Rattle.std.specs.Ordering.{nat_cmp}
 use Rattle.std.proofs.Common.{refl, sym, ap, subst, ◌∙◌}
 use Rattle.dita_doc.proofs.NameOrder.{same_from_equal}
+use Rattle.dita_doc.proofs.Orders.{equal_test}
 use Rattle.dita_doc.specs.declared.plan.PageId.{PageId}
 use Rattle.dita_doc.specs.declared.plan.PagePlan.{PagePlan}
 use Rattle.map_spec.specs.Pages.{is_page_for, is_page_of, is_same_context, page_for, place_of}
@@ -13,7 +14,6 @@ use Rattle.page_table.specs.Pages.{IsPageTable, doc_in, doc_with, first_page, ke
 use Rattle.page_table.specs.declared.keys.PageKey.{PageKey}
 use Rattle.page_table.specs.declared.table.DocPages.{DocPages}
 use Rattle.page_table.specs.declared.table.PageTable.{PageTable}
-use Rattle.plan_nodes.proofs.OrderLaws.{equal_test}
 use Rattle.page_table.proofs.KeyLaws.{equal_keys, keys_same}
 use Rattle.page_table.proofs.PlaceLaws.{if_holds, none_for, page_more}
 

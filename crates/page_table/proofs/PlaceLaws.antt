@@ -1,7 +1,8 @@
 -- The first place of which a test holds, with one element more, and against a test that gives less.
-use Rattle.std.specs.Prelude.{◌≡◌, ◌+◌, ◌&&◌, ℕ, Bool, true, false, List, [], ◌∷◌, ◌++◌, Option, Some, None, length, if◌then◌else◌}
+use Rattle.std.specs.Prelude.{◌≡◌, ◌+◌, ℕ, Bool, true, false, List, [], ◌∷◌, ◌++◌, Option, Some, None, length, if◌then◌else◌}
 use Rattle.std.specs.Option.{option_or}
 use Rattle.std.proofs.Common.{refl, sym, ap, ◌∙◌, arith}
+use Rattle.std.proofs.lemmas.Bool.{and_left}
 use Rattle.dita_doc.specs.declared.plan.PageId.{PageId}
 use Rattle.dita_doc.specs.declared.plan.PagePlan.{PagePlan}
 use Rattle.map_spec.specs.Pages.{is_page_for, is_page_of, is_same_context, place_of}
@@ -33,9 +34,6 @@ pub page_more : (test : PagePlan → Bool) (pages : List PagePlan) (page : PageP
 page_more test pages page = let e : 0 + length pages ≡ length pages = omega arith in
     place_more test 0 pages page ∙ ap (λ n. option_or (place_of test 0 pages) (if_holds (test page) n)) e
 
-and_first : (a b : Bool) → a ≡ false → (a && b) ≡ false
-and_first a b none = rw none refl
-
 -- where no page is of the document, none is for a context
 pub none_for : (at : ℕ) (pages : List PagePlan) (name : List ℕ) (context : PageId)
     → place_of (is_page_of name) at pages ≡ None → place_of (is_page_for name context) at pages ≡ None
@@ -49,5 +47,5 @@ none_for at (page ∷ pages) name context none =
         → place_of (is_page_for name context) at (page ∷ pages) ≡ None
     by_test behind true is none = cc
     by_test behind false is none = ap (λ b. if b then Some at else place_of (is_page_for name context) (at + 1) pages)
-        (and_first (is_page_of name page) (is_same_context page.id context) is)
+        (and_left (is_page_of name page) (is_same_context page.id context) is)
         ∙ behind none

@@ -2,7 +2,7 @@
 use Rattle.std.specs.Prelude.{ℕ, not, List, [], ◌∷◌, ◌++◌, Option, Some, None, Result, Ok, Err, filter, length, map, nat_le, slice_get, sum_by, bytes_eq, if◌then◌else◌}
 use Rattle.std.specs.List.{flat_map}
 use Rattle.std.specs.Option.{option_map_or, option_to_list}
-use Rattle.build_spec.specs.Built.{Built, Page, Done, Stopped, TooLarge}
+use Rattle.build_spec.specs.Built.{BuildOutcome, Page, Done, Stopped, TooLarge}
 use Rattle.dita_doc.specs.declared.content.Mark.{Mark}
 use Rattle.dita_doc.specs.declared.content.PageLink.{PageLink}
 use Rattle.dita_doc.specs.declared.content.Rule.{Rule}
@@ -29,7 +29,7 @@ use Rattle.map_spec.specs.Titles.{title_in}
 use Rattle.map_spec.specs.Written.{Whole, Written, End, Chars, Node}
 use Rattle.html_spec.specs.Anchors.{Here, anchor_faults, anchors, element_links}
 use Rattle.html_spec.specs.Blocks.{body_html}
-use Rattle.conref_spec.specs.Content.{Made, Setting, count_limit, nothing_made, resolved_page}
+use Rattle.conref_spec.specs.Content.{Made, ResolveInput, count_limit, nothing_made, resolved_page}
 use Rattle.html_spec.specs.Contents.{contents}
 use Rattle.link_spec.specs.Links.{family_links, row_faults, row_links}
 use Rattle.html_spec.specs.PageHtml.{page_limit, page_within}
@@ -55,7 +55,7 @@ abbrev pub page_rules : World → Option (List ℕ) → PagePlan → List (List 
 page_rules world val page =
     flat_map (λ name. rules_of (ditaval_in world name)) (option_to_list val ++ page.id.filters)
 
-abbrev pub setting_of : World → Plan → Option (List ℕ) → PagePlan → Setting
+abbrev pub setting_of : World → Plan → Option (List ℕ) → PagePlan → ResolveInput
 setting_of world plan val page = record {
   page = page.id.doc;
   pushed = pushed world plan.documents;
@@ -78,8 +78,8 @@ hrefs_once [] = []
 hrefs_once (link ∷ more) = link ∷ filter (λ other. not (bytes_eq other.href link.href)) (hrefs_once more)
 
 -- the links of a page: by collections, by relationship tables, and those of its elements
-abbrev pub links_of : World → Plan → ℕ → List PageLink → List PageLink
-links_of world plan index own =
+abbrev pub all_page_links : World → Plan → ℕ → List PageLink → List PageLink
+all_page_links world plan index own =
     hrefs_once (family_links world plan index ++ row_links world plan index ++ own)
 
 -- too much content is a fault at the root of the page's document
@@ -107,7 +107,7 @@ page_with room world plan index page root rules made =
     let body = body_html (anchors here made.nodes) (marks_in rules made) made.nodes in
     page_within room.bytes root.0.doc root.0.line (title_in world page.id.doc [])
     (record { bytes = body.bytes; faults = made.faults ++ anchor_faults here made.nodes ++ body.faults ++ row_faults plan })
-    (links_of world plan index (element_links here made.nodes))
+    (all_page_links world plan index (element_links here made.nodes))
 
 abbrev pub page_of_root : Rooms → World → Plan → Option (List ℕ) → ℕ → PagePlan → Whole → Html
 page_of_root room world plan val index page root = page_with room world plan index page root
@@ -163,8 +163,8 @@ contents_part world plan =
 abbrev pub page_parts : Rooms → World → Plan → Option (List ℕ) → List Html
 page_parts room world plan val = map (page_part room world plan val) (places_from 0 plan.pages)
 
-abbrev pub names_of : Plan → List (List ℕ)
-names_of plan = map (λ (page : PagePlan). page.name) plan.pages ++ contents_name ∷ []
+abbrev pub names_of_pages : Plan → List (List ℕ)
+names_of_pages plan = map (λ (page : PagePlan). page.name) plan.pages ++ contents_name ∷ []
 
 abbrev pub parts_of : Rooms → World → Plan → Option (List ℕ) → List Html
 parts_of room world plan val = page_parts room world plan val ++ contents_part world plan ∷ []
@@ -185,17 +185,18 @@ abbrev pub total_limit : ℕ
 total_limit = 268435456
 
 -- the build of a plan is too large, or it is each page with its name, the contents last, and the report of all faults
-abbrev pub build_of : ℕ → Plan → List Html → Built
+abbrev pub build_of : ℕ → Plan → List Html → BuildOutcome
 build_of limit plan parts =
-    if nat_le (total_of parts) limit then Done (pages_with (names_of plan) parts) (report_of (faults_of plan parts))
+    if nat_le (total_of parts) limit then Done (pages_with (names_of_pages plan) parts)
+    (report_of (faults_of plan parts))
     else TooLarge (total_of parts)
 
-abbrev pub build_by : Rooms → ℕ → World → Option (List ℕ) → Result Plan PlanStop → Built
+abbrev pub build_by : Rooms → ℕ → World → Option (List ℕ) → Result Plan PlanStop → BuildOutcome
 build_by room limit world val (Err stop) = Stopped stop
 build_by room limit world val (Ok plan) = build_of limit plan (parts_of room world plan val)
 
 -- the clean build of a map with a DITAVAL or without, over a world
-unfoldable pub clean_build : World → List ℕ → Option (List ℕ) → Built
+unfoldable pub clean_build : World → List ℕ → Option (List ℕ) → BuildOutcome
 clean_build world map val = build_by rooms total_limit world val (plan_of limits world map val)
 
 -- The page of terms of a build: a build that is stopped or too large has none

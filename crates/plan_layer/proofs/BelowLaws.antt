@@ -5,13 +5,14 @@ use Rattle.std.proofs.Math.Logic.{⊎_elim, ∥∥₁_elim}
 use Rattle.std.proofs.lemmas.Bool.{false≢true, or_cases, or_left, or_right}
 use Rattle.conref_push.proofs.AmongLaws.{among_append}
 use Rattle.plan_layer.specs.Carried.{CarriesFrom}
-use Rattle.plan_layer.specs.Passing.{AskedBy-prop, FollowsPlan, PassesOn}
-use Rattle.plan_layer.proofs.PassLaws.{root_may}
+use Rattle.plan_layer.specs.Passing.{FollowsPlan, PassesOn}
 use Rattle.readers.specs.Documents.{AskedBy, AsksOnly, Covers, Follows, may_ask}
 use Rattle.readers.specs.Founded.{Grows, StaysFounded, is_among}
-use Rattle.readers.specs.Told.{Told, document, kind, title, first, key, pushes, page_of, tried, sought}
+use Rattle.readers.specs.Props.{AskedBy-prop}
+use Rattle.readers.specs.Told.{Told, document, kind, title, first, key, pushes, page_of, pending, pending_document}
 use Rattle.readers.proofs.AmongLaws.{among_back, among_front}
-use Rattle.readers.proofs.DocumentLaws.{may_ask_before}
+use Rattle.readers.proofs.DocumentLaws.{may_ask_before, reach, root_may}
+use Rattle.readers.proofs.FoundedLaws.{none_among}
 
 -- what was told to the reader below stays founded by the questions of the one above
 pub founded_below : (names : List (List ℕ)) (start below above : List Told) → CarriesFrom start below above
@@ -28,8 +29,8 @@ as_told rule follows (first name id) = rule (first name id)
 as_told rule follows (key nodes scope text answer) = rule (key nodes scope text answer)
 as_told rule follows (pushes documents name answer) = follows (pushes documents name answer)
 as_told rule follows (page_of pages name context answer) = []
-as_told rule follows (tried names) = []
-as_told rule follows (sought name) = []
+as_told rule follows (pending names) = []
+as_told rule follows (pending_document name) = []
 
 told_plan : (rule follows : Follows) → FollowsPlan follows → FollowsPlan (as_told rule follows)
 told_plan rule follows plan = record {
@@ -48,11 +49,8 @@ told_less rule follows (first name id) m covers among = among
 told_less rule follows (key nodes scope text answer) m covers among = among
 told_less rule follows (pushes documents name answer) m covers among = covers.each _ m among
 told_less rule follows (page_of pages name context answer) m covers among = absurd (false≢true among)
-told_less rule follows (tried names) m covers among = absurd (false≢true among)
-told_less rule follows (sought name) m covers among = absurd (false≢true among)
-
-none_among : (names : List (List ℕ)) (m : List ℕ) → names ≡ [] → IsTrue (is_among names m) → ⊥
-none_among names m none among = false≢true (subst (λ ns. IsTrue (is_among ns m)) none among)
+told_less rule follows (pending names) m covers among = absurd (false≢true among)
+told_less rule follows (pending_document name) m covers among = absurd (false≢true among)
 
 told_covers : (rule follows : Follows) → FollowsPlan follows → Covers rule follows
     → Covers (as_told rule follows) follows
@@ -66,13 +64,8 @@ told_covers rule follows plan covers = record { each = each }
     each (key nodes scope text answer) m among = covers.each _ m among
     each (pushes documents name answer) m among = among
     each (page_of pages name context answer) m among = absurd (none_among _ m (plan.pages _ _ _ _) among)
-    each (tried names) m among = absurd (none_among _ m (plan.tried names) among)
-    each (sought name) m among = absurd (none_among _ m (plan.sought name) among)
-
--- all that may be asked for
-abbrev reach : Follows → List (List ℕ) → List Told → List (List ℕ)
-reach rule roots [] = roots
-reach rule roots (t ∷ ts) = rule t ++ reach rule roots ts
+    each (pending names) m among = absurd (none_among _ m (plan.tried names) among)
+    each (pending_document name) m among = absurd (none_among _ m (plan.sought name) among)
 
 reach_may : (rule : Follows) (roots : List (List ℕ)) (ts : List Told) (m : List ℕ)
     → is_among (reach rule roots ts) m ≡ may_ask rule roots ts m

@@ -10,9 +10,9 @@ use Rattle.plan_layer.specs.Passing.{AreAmong}
 use Rattle.readers.specs.Founded.{AreAllowed, Grows, IsFounded, StaysFounded, homes, is_among, names_asked, names_given}
 use Rattle.readers.specs.Noted.{told_of, told_onto}
 use Rattle.readers.specs.Setting.{Setting}
-use Rattle.readers.specs.Told.{Told, Holds, Knows, tried, sought}
+use Rattle.readers.specs.Told.{Told, Holds, Knows, pending, pending_document}
 use Rattle.readers.specs.declared.questions.Note.{Note}
-use Rattle.readers.specs.declared.questions.Note.TheVariants.{Sought, TriedKey}
+use Rattle.readers.specs.declared.questions.Note.TheVariants.{PendingDocument, PendingKey}
 use Rattle.readers.proofs.FoundedLaws.{given_allowed}
 use Rattle.readers.proofs.GrowthLaws.{agrees_before, allowed_before, are_allowed_before, founded_before, told_answer}
 use Rattle.readers.proofs.LayerLaws.{allowed_with}
@@ -41,7 +41,7 @@ froms_allowed start below documents answer were grows among roots base = record 
 module _ (start : List Told) where
   -- a question was put, and then the reader below was asked about its documents
   pub carries_tried : (names : List (List ℕ)) (below below' above above' : List Told) → CarriesFrom start below above
-      → above' ≡ tried names ∷ above → Grows below below' → StaysFounded names below below'
+      → above' ≡ pending names ∷ above → Grows below below' → StaysFounded names below below'
       → CarriesFrom start below' above'
   carries_tried names below below' above above' carried put grows stays =
       subst (CarriesFrom start below') (sym put) (record {
@@ -54,7 +54,7 @@ module _ (start : List Told) where
 
   -- a document was sought, and then the reader below was asked for it
   pub carries_sought : (name : List ℕ) (below below' above above' : List Told) → CarriesFrom start below above
-      → above' ≡ sought name ∷ above → Grows below below' → StaysFounded (name ∷ []) below below'
+      → above' ≡ pending_document name ∷ above → Grows below below' → StaysFounded (name ∷ []) below below'
       → CarriesFrom start below' above'
   carries_sought name below below' above above' carried put grows stays =
       subst (CarriesFrom start below') (sym put) (record {
@@ -92,7 +92,7 @@ module _ (start : List Told) where
 -- the same of the notes in which a reader keeps its questions
 module _ (setting : Setting) (start : List Told) where
   pub note_tried : (put : Note) (names : List (List ℕ)) (below below' : List Told) (notes notes' : List Note)
-      → CarriesFrom start below (told_onto setting start notes) → told_of setting put ≡ tried names
+      → CarriesFrom start below (told_onto setting start notes) → told_of setting put ≡ pending names
       → notes' ≡ put ∷ notes → Grows below below' → StaysFounded names below below'
       → CarriesFrom start below' (told_onto setting start notes')
   note_tried put names below below' notes notes' carried about is =
@@ -102,18 +102,18 @@ module _ (setting : Setting) (start : List Told) where
   -- a key was asked for
   pub note_key_tried : (nodes : List PlanNode) (below below' : List Told) (notes notes' : List Note)
       → CarriesFrom start below (told_onto setting start notes) → nodes ≡ setting.nodes
-      → notes' ≡ TriedKey ∷ notes → Grows below below' → StaysFounded (homes nodes) below below'
+      → notes' ≡ PendingKey ∷ notes → Grows below below' → StaysFounded (homes nodes) below below'
       → CarriesFrom start below' (told_onto setting start notes')
   note_key_tried nodes below below' notes notes' carried same =
-      note_tried TriedKey (homes nodes) below below' notes notes' carried (ap (λ ns. tried (homes ns)) (sym same))
+      note_tried PendingKey (homes nodes) below below' notes notes' carried (ap (λ ns. pending (homes ns)) (sym same))
 
   pub note_sought : (name sought_name : List ℕ) (below below' : List Told) (notes notes' : List Note)
       → CarriesFrom start below (told_onto setting start notes) → sought_name ≡ name
-      → notes' ≡ Sought sought_name ∷ notes → Grows below below' → StaysFounded (name ∷ []) below below'
+      → notes' ≡ PendingDocument sought_name ∷ notes → Grows below below' → StaysFounded (name ∷ []) below below'
       → CarriesFrom start below' (told_onto setting start notes')
   note_sought name sought_name below below' notes notes' carried same is =
       carries_sought start name below below' (told_onto setting start notes) _ carried
-      (ap (told_onto setting start) is ∙ ap (λ n. sought n ∷ told_onto setting start notes) same)
+      (ap (told_onto setting start) is ∙ ap (λ n. pending_document n ∷ told_onto setting start notes) same)
 
   pub note_settled : (t : Told) (put note : Note) (before below : List Told) (older notes notes' : List Note)
       → CarriesFrom start below (told_onto setting start notes) → notes ≡ put ∷ older

@@ -1,45 +1,25 @@
 -- The pushes of some documents come from these documents.
-use Rattle.std.specs.Prelude.{◌≡◌, ◌+◌, ℕ, Bool, true, false, List, [], ◌∷◌, ◌++◌, Option, Some, None, IsTrue, bytes_eq, codes, cond, filter, map, option_map, if◌then◌else◌}
+use Rattle.std.specs.Prelude.{◌≡◌, ℕ, Bool, true, false, List, [], ◌∷◌, ◌++◌, Option, Some, None, IsTrue, bytes_eq, codes, cond, filter, map, option_map, if◌then◌else◌}
 use Rattle.std.specs.List.{cons_option, filter_map, list_any}
 use Rattle.std.specs.Option.{option_map_or}
-use Rattle.std.proofs.Common.{refl, sym, subst}
+use Rattle.std.proofs.Common.{sym, subst}
 use Rattle.std.proofs.Math.Logic.{⊎_elim}
 use Rattle.std.proofs.lemmas.Bool.{false≢true, or_cases}
 use Rattle.std.proofs.lemmas.Slice.Eq.{bytes_eq-Decides}
 use Rattle.conref_push.specs.Into.{froms}
-use Rattle.dita_doc.specs.Tree as tree
 use Rattle.dita_doc.specs.Tree.{Content}
-use Rattle.dita_doc.specs.declared.content.Push.{Push}
 use Rattle.dita_doc.specs.declared.content.PushKind.{PushKind}
 use Rattle.dita_doc.specs.declared.content.PushList.{PushList}
 use Rattle.map_spec.specs.Elements.{attribute}
-use Rattle.map_spec.specs.Written.{Element, size, written_in}
-use Rattle.map_spec.specs.Places.{Standing, TopicAt, all_standing, standing_from}
+use Rattle.map_spec.specs.Written.{written_in}
+use Rattle.map_spec.specs.Places.{Standing, all_standing}
 use Rattle.map_spec.specs.Pushes.{AllPushes, PushInto, PushTarget, Pushing, all_pushes, is_into, is_replaced_by, no_pushes, push_kind, push_of, pushes_behind, pushes_into, pushing_at, pushing_in, pushing_of, twice_fault, with_pushing}
 use Rattle.plan_layer.specs.Passing.{AreAmong}
 use Rattle.reader_spec.specs.World.{World}
+use Rattle.map_lemmas.proofs.PlacedLaws.{InDocument, standing_of}
 use Rattle.readers.specs.Founded.{is_among}
 use Rattle.readers.proofs.FoundedLaws.{among_behind, among_first}
-
--- elements that stand in a document of this name
-abbrev AreOf : List ℕ → List Standing → Type 0
-AreOf name [] = Unit {0}
-AreOf name (standing ∷ more) = (standing.whole.0.doc ≡ name) × AreOf name more
-
-of_both : (name : List ℕ) (some more : List Standing) → AreOf name some → AreOf name more → AreOf name (some ++ more)
-of_both name [] more here there = there
-of_both name (standing ∷ some) more here there = (here.0, of_both name some more here.1 there)
-
-standing_of : (name : List ℕ) (all : Content) (place : ℕ) (topic : Option TopicAt) (before : Option Element)
-    → AreOf name (standing_from place topic before (written_in name all))
-standing_of name tree.End place topic before = tt
-standing_of name (tree.Chars text origin line rest) place topic before =
-    standing_of name rest (place + 1) topic before
-standing_of name (tree.Element text attributes origin line inside rest) place topic before = (
-  refl,
-  of_both name _ _ (standing_of name inside (place + 1) _ None)
-      (standing_of name rest (place + 1 + size (written_in name inside)) topic _),
-)
+use Rattle.conref_push.proofs.TableLaws.{push_in}
 
 -- pushing elements that stand in some of these documents
 abbrev StandIn : List (List ℕ) → List Pushing → Type 0
@@ -58,7 +38,7 @@ module _ (world : World) (documents : List (List ℕ)) where
   stand_one standing None rest here there = there
   stand_one standing (Some kind) rest here there = (here, there)
 
-  stand_all : (name : List ℕ) (standings : List Standing) → IsTrue (is_among documents name) → AreOf name standings
+  stand_all : (name : List ℕ) (standings : List Standing) → IsTrue (is_among documents name) → InDocument name standings
       → StandIn documents (filter_map (pushing_at world) standings)
   stand_all name [] among of = tt
   stand_all name (standing ∷ more) among of = stand_one standing (push_kind (attribute (codes "conaction") standing.whole.0)) _
@@ -76,9 +56,6 @@ module _ (world : World) (documents : List (List ℕ)) where
   stand_in (name ∷ some) among = stand_both documents _ (pushing_in world some)
       (stand_stored name (world name) (among.each name (among_first name some)))
       (stand_in some (record { each = λ m here. among.each m (among_behind name some m here) }))
-
-abbrev push_in : PushInto → Push
-push_in into = into.push
 
 -- pushes that come from these documents
 abbrev ComeFrom : List (List ℕ) → List PushInto → Type 0

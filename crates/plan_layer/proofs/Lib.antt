@@ -1,4 +1,3 @@
-pub mod Rules
 pub mod CarryLaws
 pub mod PassLaws
 pub mod BelowLaws

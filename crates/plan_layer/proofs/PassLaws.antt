@@ -9,15 +9,10 @@ use Rattle.readers.specs.Documents.{AsksOnly, Follows, MayAsk, documents_asked, 
 use Rattle.readers.specs.Founded.{Grows, is_among}
 use Rattle.readers.specs.Noted.{told_of, told_onto}
 use Rattle.readers.specs.Setting.{Setting}
-use Rattle.readers.specs.Told.{Told, page_of, sought, tried}
+use Rattle.readers.specs.Told.{Told, page_of, pending_document, pending}
 use Rattle.readers.specs.declared.questions.Note.{Note}
-use Rattle.readers.specs.declared.questions.Note.TheVariants.{Sought}
-use Rattle.readers.proofs.DocumentLaws.{covers_nothing, may_ask_before, none_may}
-
-pub root_may : (rule : Follows) (roots : List (List ℕ)) (ts : List Told) (m : List ℕ) → IsTrue (is_among roots m)
-    → IsTrue (may_ask rule roots ts m)
-root_may rule roots [] m among = among
-root_may rule roots (t ∷ ts) m among = or_right (is_among (rule t) m) _ (root_may rule roots ts m among)
+use Rattle.readers.specs.declared.questions.Note.TheVariants.{PendingDocument}
+use Rattle.readers.proofs.DocumentLaws.{covers_nothing, may_ask_before, may_behind, none_may, root_may}
 
 module _ (documents : List (List ℕ)) where
   -- a reader begins with what the reader below it was told
@@ -25,33 +20,27 @@ module _ (documents : List (List ℕ)) where
   passes_start ts =
       record { may = λ rule roots m plan among may. may; asked = λ rule roots plan among asked. asked }
 
-  -- nothing that the rule gives stands in front
-  may_behind : (rule : Follows) (roots : List (List ℕ)) (t : Told) (ts : List Told) (m : List ℕ) → rule t ≡ []
-      → IsTrue (may_ask rule roots (t ∷ ts) m) → IsTrue (may_ask rule roots ts m)
-  may_behind rule roots t ts m none may =
-      ⊎_elim (λ here. absurd (false≢true (subst (λ names. IsTrue (is_among names m)) none here))) (λ behind. behind)
-      (or_cases (is_among (rule t) m) (may_ask rule roots ts m) may)
-
   -- a question was put, and then the reader below was asked, but for no document
   pub passes_tried : (names : List (List ℕ)) (below below' above above' : List Told) → PassesOn documents below above
-      → above' ≡ tried names ∷ above → Grows below below' → AsksOnly nothing [] below below'
+      → above' ≡ pending names ∷ above → Grows below below' → AsksOnly nothing [] below below'
       → PassesOn documents below' above'
   passes_tried names below below' above above' passed put grows asks = subst (PassesOn documents below') (sym put)
       (record {
         may = λ rule roots m plan among may. may_ask_before rule roots below below' m grows
-            (passed.may rule roots m plan among (may_behind rule roots (tried names) above m (plan.tried names) may));
+            (passed.may rule roots m plan among (may_behind rule roots (pending names) above m (plan.tried names) may));
         asked = λ rule roots plan among a. asks.by rule roots (covers_nothing rule) (none_may rule roots below)
             (passed.asked rule roots plan among a.1);
       })
 
   -- a document was sought, and then the reader below was asked for it
   pub passes_sought : (name : List ℕ) (below below' above above' : List Told) → PassesOn documents below above
-      → above' ≡ sought name ∷ above → Grows below below' → AsksOnly nothing (name ∷ []) below below'
+      → above' ≡ pending_document name ∷ above → Grows below below' → AsksOnly nothing (name ∷ []) below below'
       → PassesOn documents below' above'
   passes_sought name below below' above above' passed put grows asks = subst (PassesOn documents below') (sym put)
       (record {
         may = λ rule roots m plan among may. may_ask_before rule roots below below' m grows
-            (passed.may rule roots m plan among (may_behind rule roots (sought name) above m (plan.sought name) may));
+            (passed.may rule roots m plan among
+            (may_behind rule roots (pending_document name) above m (plan.sought name) may));
         asked = λ rule roots plan among a. asks.by rule roots (covers_nothing rule)
             (record { each = λ m here. passed.may rule roots m plan among (a.0.each m here) })
             (passed.asked rule roots plan among a.1);
@@ -95,7 +84,7 @@ page_follows documents pages name context answer rule m plan here =
 -- the same of the notes in which a reader keeps its questions
 module _ (documents : List (List ℕ)) (setting : Setting) (start : List Told) where
   pub note_tried : (put : Note) (names : List (List ℕ)) (below below' : List Told) (notes notes' : List Note)
-      → PassesOn documents below (told_onto setting start notes) → told_of setting put ≡ tried names
+      → PassesOn documents below (told_onto setting start notes) → told_of setting put ≡ pending names
       → notes' ≡ put ∷ notes → Grows below below' → AsksOnly nothing [] below below'
       → PassesOn documents below' (told_onto setting start notes')
   note_tried put names below below' notes notes' passed about is =
@@ -104,11 +93,11 @@ module _ (documents : List (List ℕ)) (setting : Setting) (start : List Told) w
 
   pub note_sought : (name sought_name : List ℕ) (below below' : List Told) (notes notes' : List Note)
       → PassesOn documents below (told_onto setting start notes) → sought_name ≡ name
-      → notes' ≡ Sought sought_name ∷ notes → Grows below below' → AsksOnly nothing (name ∷ []) below below'
+      → notes' ≡ PendingDocument sought_name ∷ notes → Grows below below' → AsksOnly nothing (name ∷ []) below below'
       → PassesOn documents below' (told_onto setting start notes')
   note_sought name sought_name below below' notes notes' passed same is =
       passes_sought documents name below below' (told_onto setting start notes) _ passed
-      (ap (told_onto setting start) is ∙ ap (λ n. sought n ∷ told_onto setting start notes) same)
+      (ap (told_onto setting start) is ∙ ap (λ n. pending_document n ∷ told_onto setting start notes) same)
 
   pub note_settled : (t : Told) (put note : Note) (before below : List Told) (older notes notes' : List Note)
       → PassesOn documents below (told_onto setting start notes) → notes ≡ put ∷ older

@@ -1,15 +1,15 @@
 -- A reader that tells what is pushed into documents, and passes all other questions on to the one below it (own): of
 -- documents it asks for no other than those that are asked for above it, and those that pushes come from.
-use Rattle.std.specs.Prelude.{◌≡◌, ℕ, List, [], ◌∷◌, Option, IsTrue}
-use Rattle.std.specs.Coded.{×_prop, Unit-prop}
+use Rattle.std.specs.Prelude.{◌≡◌, ℕ, List, [], Option, IsTrue}
 use Rattle.std.proofs.Props.{props}
 use Rattle.conref_push.specs.Into.{froms}
 use Rattle.dita_doc.specs.declared.content.PushList.{PushList}
 use Rattle.dita_doc.specs.declared.plan.PageId.{PageId}
 use Rattle.dita_doc.specs.declared.plan.PagePlan.{PagePlan}
-use Rattle.readers.specs.Documents.{AskedBy, Follows, MayAsk, documents_asked, may_ask}
+use Rattle.readers.specs.Documents.{AskedBy, Follows, may_ask}
 use Rattle.readers.specs.Founded.{is_among}
-use Rattle.readers.specs.Told.{Told, pushes, page_of, sought, tried}
+use Rattle.readers.specs.Props.{AskedBy-prop}
+use Rattle.readers.specs.Told.{Told, pushes, page_of, pending_document, pending}
 
 -- by the rule no more follows from pushes than the documents that they come from, and nothing from a page, nor from a
 -- question without an answer
@@ -18,8 +18,8 @@ pub record FollowsPlan (rule : Follows) : Type 0 where
       → IsTrue (is_among (rule (pushes documents name answer)) m) → IsTrue (is_among (froms answer.pushes) m)
   pub pages : (pages : List PagePlan) (name : List ℕ) (context : PageId) (answer : Option ℕ)
       → rule (page_of pages name context answer) ≡ []
-  pub tried : (names : List (List ℕ)) → rule (tried names) ≡ []
-  pub sought : (name : List ℕ) → rule (sought name) ≡ []
+  pub tried : (names : List (List ℕ)) → rule (pending names) ≡ []
+  pub sought : (name : List ℕ) → rule (pending_document name) ≡ []
 
 -- some names are among others
 pub record AreAmong (some all : List (List ℕ)) : Type 0 where
@@ -32,14 +32,6 @@ pub record PassesOn (documents : List (List ℕ)) (below above : List Told) : Ty
       → IsTrue (may_ask rule roots above m) → IsTrue (may_ask rule roots below m)
   pub asked : (rule : Follows) (roots : List (List ℕ)) → FollowsPlan rule → AreAmong documents roots
       → AskedBy rule roots above → AskedBy rule roots below
-
-pub AskedBy-prop : (rule : Follows) (roots : List (List ℕ)) (ts : List Told) → IsProp (AskedBy rule roots ts)
-AskedBy-prop rule roots [] = Unit-prop
-AskedBy-prop rule roots (t ∷ ts) = ×_prop (may_prop rule roots ts (documents_asked t)) (AskedBy-prop rule roots ts)
-  where
-    may_prop : (rule : Follows) (roots : List (List ℕ)) (ts : List Told) (names : List (List ℕ))
-        → IsProp (MayAsk rule roots ts names)
-    may_prop rule roots ts names = hlevel props
 
 pub PassesOn-prop : (documents : List (List ℕ)) (below above : List Told) → IsProp (PassesOn documents below above)
 PassesOn-prop documents below above = hlevel (props, AskedBy-prop)

@@ -1,16 +1,16 @@
 //! The calls of the layer as a reader that knows a plan.
 
 use crate::layer::PlanLayer;
-use conref_push::{PushTable, acts_in};
+use conref_push::{PushTable, has_conaction_in};
 use dita_doc::{Context, Doc, Name, NoMemory, PushList};
 use pushed_docs::{
     GivesTouched, TellsPushes, kept_pushed, made_pushed, page_note, pushes_known, with_pushes,
 };
-use readers::{Asker, Keys, Since, share};
+use readers::{Asker, Keys, LogStart, share};
 use std::alloc::Global;
 use std::sync::Arc;
 
-impl<'r, 'q, 'm, 'd, 'n, K: Keys, S: Since> TellsPushes for PlanLayer<'r, 'q, 'm, 'd, 'n, K, S> {
+impl<'r, 'q, 'm, 'd, 'n, K: Keys, S: LogStart> TellsPushes for PlanLayer<'r, 'q, 'm, 'd, 'n, K, S> {
     fn tell_pushes(&mut self, alloc: Global, name: &Name) -> Result<PushList, NoMemory> {
         let answer = self.table.pushes_into(alloc, name)?;
         // The question is kept with an answer of its own.
@@ -20,7 +20,8 @@ impl<'r, 'q, 'm, 'd, 'n, K: Keys, S: Since> TellsPushes for PlanLayer<'r, 'q, 'm
     }
 }
 
-impl<'r, 'q, 'm, 'd, 'n, K: Keys, S: Since> GivesTouched for PlanLayer<'r, 'q, 'm, 'd, 'n, K, S> {
+impl<'r, 'q, 'm, 'd, 'n, K: Keys, S: LogStart> GivesTouched
+    for PlanLayer<'r, 'q, 'm, 'd, 'n, K, S> {
     fn touched(&mut self, alloc: Global, name: &Name) -> Result<Option<Arc<Doc>>, NoMemory> {
         if let Some(kept) = self.docs.find(name) {
             let copy = share(kept)?;
@@ -44,10 +45,10 @@ impl<'r, 'q, 'm, 'd, 'n, K: Keys, S: Since> GivesTouched for PlanLayer<'r, 'q, '
         if table.touches(name) {
             return Ok(false);
         }
-        if self.docs.is_quiet(name) {
+        if self.docs.is_without_conaction(name) {
             return Ok(true);
         }
-        if acts_in(doc) {
+        if has_conaction_in(doc) {
             return Ok(false);
         }
         self.docs.put_quiet(name)?;
@@ -55,7 +56,7 @@ impl<'r, 'q, 'm, 'd, 'n, K: Keys, S: Since> GivesTouched for PlanLayer<'r, 'q, '
     }
 }
 
-impl<'r, 'q, 'm, 'd, 'n, K: Keys, S: Since> Asker for PlanLayer<'r, 'q, 'm, 'd, 'n, K, S> {
+impl<'r, 'q, 'm, 'd, 'n, K: Keys, S: LogStart> Asker for PlanLayer<'r, 'q, 'm, 'd, 'n, K, S> {
     fn pushes(&mut self, alloc: Global, name: &Name) -> Result<PushList, NoMemory> {
         self.tell_pushes(alloc, name)
     }

@@ -6,11 +6,11 @@ ghost use Rattle.readers.specs.declared.questions.Note.TheVariants as notes;
 
 use crate::layer::PlanLayer;
 use dita_doc::{Doc, DocKind, KeyAnswer, Name, NoMemory, Text};
-use readers::{Keys, Note, Since};
+use readers::{Keys, LogStart, Note};
 use std::alloc::Global;
 use std::sync::Arc;
 
-impl<'r, 'q, 'm, 'd, 'n, K: Keys, S: Since> PlanLayer<'r, 'q, 'm, 'd, 'n, K, S> {
+impl<'r, 'q, 'm, 'd, 'n, K: Keys, S: LogStart> PlanLayer<'r, 'q, 'm, 'd, 'n, K, S> {
     pub(crate) fn ask_doc(
         &mut self,
         alloc: Global,
@@ -22,16 +22,16 @@ impl<'r, 'q, 'm, 'd, 'n, K: Keys, S: Since> PlanLayer<'r, 'q, 'm, 'd, 'n, K, S> 
         ensures documents { self.new.documents.now ≡ self.old.documents.now }
         ensures pages { self.new.pages.now ≡ self.old.pages.now }
         ensures stand { K.stand self.new.lower.now ≡ K.stand self.old.lower.now }
-        ensures ok { OnOk result (self.new.asked.now ≡ notes.Sought name.now ∷ self.old.asked.now) }
+        ensures ok { OnOk result (self.new.asked.now ≡ notes.PendingDocument name.now ∷ self.old.asked.now) }
         ensures err { OnErr result ((self.new.asked.now ≡ self.old.asked.now)
-            ⊎ (self.new.asked.now ≡ notes.Sought name.now ∷ self.old.asked.now)) }
+            ⊎ (self.new.asked.now ≡ notes.PendingDocument name.now ∷ self.old.asked.now)) }
         ensures below { IfOk result (λ found. K.told self.new.lower.now
             ≡ told_spec.document name.now (told_spec.tree_found found)
             ∷ K.told self.old.lower.now) }
         ensures origin { IfOk result (λ found. IfSome (told_spec.doc_of found)
             (λ doc. doc.origins ≡ name.now ∷ [])) }
     {
-        self.asked.begin(Note::Sought(name.clone()?))?;
+        self.asked.begin(Note::PendingDocument(name.clone()?))?;
         self.lower.doc(alloc, name)
     }
 
@@ -42,13 +42,13 @@ impl<'r, 'q, 'm, 'd, 'n, K: Keys, S: Since> PlanLayer<'r, 'q, 'm, 'd, 'n, K, S> 
         ensures documents { self.new.documents.now ≡ self.old.documents.now }
         ensures pages { self.new.pages.now ≡ self.old.pages.now }
         ensures stand { K.stand self.new.lower.now ≡ K.stand self.old.lower.now }
-        ensures ok { OnOk result (self.new.asked.now ≡ notes.Tried name.now ∷ self.old.asked.now) }
+        ensures ok { OnOk result (self.new.asked.now ≡ notes.Pending name.now ∷ self.old.asked.now) }
         ensures err { OnErr result ((self.new.asked.now ≡ self.old.asked.now)
-            ⊎ (self.new.asked.now ≡ notes.Tried name.now ∷ self.old.asked.now)) }
+            ⊎ (self.new.asked.now ≡ notes.Pending name.now ∷ self.old.asked.now)) }
         ensures below { IfOk result (λ kind. K.told self.new.lower.now
             ≡ told_spec.kind name.now kind ∷ K.told self.old.lower.now) }
     {
-        self.asked.begin(Note::Tried(name.clone()?))?;
+        self.asked.begin(Note::Pending(name.clone()?))?;
         self.lower.kind(alloc, name)
     }
 
@@ -64,13 +64,13 @@ impl<'r, 'q, 'm, 'd, 'n, K: Keys, S: Since> PlanLayer<'r, 'q, 'm, 'd, 'n, K, S> 
         ensures documents { self.new.documents.now ≡ self.old.documents.now }
         ensures pages { self.new.pages.now ≡ self.old.pages.now }
         ensures stand { K.stand self.new.lower.now ≡ K.stand self.old.lower.now }
-        ensures ok { OnOk result (self.new.asked.now ≡ notes.Tried name.now ∷ self.old.asked.now) }
+        ensures ok { OnOk result (self.new.asked.now ≡ notes.Pending name.now ∷ self.old.asked.now) }
         ensures err { OnErr result ((self.new.asked.now ≡ self.old.asked.now)
-            ⊎ (self.new.asked.now ≡ notes.Tried name.now ∷ self.old.asked.now)) }
+            ⊎ (self.new.asked.now ≡ notes.Pending name.now ∷ self.old.asked.now)) }
         ensures below { IfOk result (λ text. K.told self.new.lower.now
             ≡ told_spec.title name.now topic.now text ∷ K.told self.old.lower.now) }
     {
-        self.asked.begin(Note::Tried(name.clone()?))?;
+        self.asked.begin(Note::Pending(name.clone()?))?;
         self.lower.title(alloc, name, topic)
     }
 
@@ -81,13 +81,13 @@ impl<'r, 'q, 'm, 'd, 'n, K: Keys, S: Since> PlanLayer<'r, 'q, 'm, 'd, 'n, K, S> 
         ensures documents { self.new.documents.now ≡ self.old.documents.now }
         ensures pages { self.new.pages.now ≡ self.old.pages.now }
         ensures stand { K.stand self.new.lower.now ≡ K.stand self.old.lower.now }
-        ensures ok { OnOk result (self.new.asked.now ≡ notes.Tried name.now ∷ self.old.asked.now) }
+        ensures ok { OnOk result (self.new.asked.now ≡ notes.Pending name.now ∷ self.old.asked.now) }
         ensures err { OnErr result ((self.new.asked.now ≡ self.old.asked.now)
-            ⊎ (self.new.asked.now ≡ notes.Tried name.now ∷ self.old.asked.now)) }
+            ⊎ (self.new.asked.now ≡ notes.Pending name.now ∷ self.old.asked.now)) }
         ensures below { IfOk result (λ id. K.told self.new.lower.now
             ≡ told_spec.first name.now id ∷ K.told self.old.lower.now) }
     {
-        self.asked.begin(Note::Tried(name.clone()?))?;
+        self.asked.begin(Note::Pending(name.clone()?))?;
         self.lower.first(alloc, name)
     }
 
@@ -103,14 +103,14 @@ impl<'r, 'q, 'm, 'd, 'n, K: Keys, S: Since> PlanLayer<'r, 'q, 'm, 'd, 'n, K, S> 
         ensures documents { self.new.documents.now ≡ self.old.documents.now }
         ensures pages { self.new.pages.now ≡ self.old.pages.now }
         ensures stand { K.stand self.new.lower.now ≡ K.stand self.old.lower.now }
-        ensures ok { OnOk result (self.new.asked.now ≡ notes.TriedKey ∷ self.old.asked.now) }
+        ensures ok { OnOk result (self.new.asked.now ≡ notes.PendingKey ∷ self.old.asked.now) }
         ensures err { OnErr result ((self.new.asked.now ≡ self.old.asked.now)
-            ⊎ (self.new.asked.now ≡ notes.TriedKey ∷ self.old.asked.now)) }
+            ⊎ (self.new.asked.now ≡ notes.PendingKey ∷ self.old.asked.now)) }
         ensures below { IfOk result (λ answer. K.told self.new.lower.now
             ≡ told_spec.key (K.stand self.old.lower.now).setting.nodes scope key.now answer
             ∷ K.told self.old.lower.now) }
     {
-        self.asked.begin(Note::TriedKey)?;
+        self.asked.begin(Note::PendingKey)?;
         self.lower.key(alloc, scope, key)
     }
 }

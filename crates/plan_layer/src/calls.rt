@@ -7,12 +7,12 @@ ghost use Rattle.readers.specs.Told as told_spec;
 
 use crate::layer::PlanLayer;
 use dita_doc::{Doc, DocKind, KeyAnswer, Name, NoMemory, Text};
-use readers::{Keys, Note, Reader, Since, Titles};
+use readers::{Keys, LogStart, Note, Reader, Titles};
 use std::alloc::Global;
 use std::sync::Arc;
 use targets::copy_answer;
 
-impl<'r, 'q, 'm, 'd, 'n, K: Keys, S: Since> Reader for PlanLayer<'r, 'q, 'm, 'd, 'n, K, S> {
+impl<'r, 'q, 'm, 'd, 'n, K: Keys, S: LogStart> Reader for PlanLayer<'r, 'q, 'm, 'd, 'n, K, S> {
     ghost use Rattle.std.specs.Prelude.{◌∷◌};
     ghost use Rattle.plan_layer.specs.Carried as carried_spec;
     ghost use Rattle.readers.specs.Noted as noted_spec;
@@ -36,7 +36,7 @@ impl<'r, 'q, 'm, 'd, 'n, K: Keys, S: Since> Reader for PlanLayer<'r, 'q, 'm, 'd,
     }
 }
 
-impl<'r, 'q, 'm, 'd, 'n, K: Keys, S: Since> Titles for PlanLayer<'r, 'q, 'm, 'd, 'n, K, S> {
+impl<'r, 'q, 'm, 'd, 'n, K: Keys, S: LogStart> Titles for PlanLayer<'r, 'q, 'm, 'd, 'n, K, S> {
     fn kind(&mut self, alloc: Global, name: &Name) -> Result<DocKind, NoMemory> {
         let kind = self.ask_kind(alloc, name)?;
         let note = Note::kind(name, kind)?;
@@ -59,7 +59,7 @@ impl<'r, 'q, 'm, 'd, 'n, K: Keys, S: Since> Titles for PlanLayer<'r, 'q, 'm, 'd,
     }
 }
 
-impl<'r, 'q, 'm, 'd, 'n, K: Keys, S: Since> Keys for PlanLayer<'r, 'q, 'm, 'd, 'n, K, S> {
+impl<'r, 'q, 'm, 'd, 'n, K: Keys, S: LogStart> Keys for PlanLayer<'r, 'q, 'm, 'd, 'n, K, S> {
     fn key(&mut self, alloc: Global, scope: u32, key: &Text) -> Result<KeyAnswer, NoMemory> {
         let answer = self.ask_key(alloc, scope, key)?;
         let note = key_note(alloc, scope, key, &answer)?;

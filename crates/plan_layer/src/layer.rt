@@ -16,7 +16,7 @@ use conref_push::PushTable;
 use dita_doc::{List, Name, PagePlan};
 use page_table::PageTable;
 use pushed_docs::{PushedDocs, PushedMemo};
-use readers::{Keys, Questions, Since};
+use readers::{Keys, LogStart, Questions};
 use std::marker::PhantomData;
 
 /// The pushes and the pages of a plan over a reader that knows keys. Each document is made once with
@@ -30,7 +30,7 @@ use std::marker::PhantomData;
 /// that the documents might be asked about by the start, since each was asked for. `kept` says that
 /// what is in `docs` is right in the world on which the reader below stands.
 #[derive(Drop)]
-pub struct PlanLayer<'r, 'q, 'm, 'd, 'n, K: Keys, S: Since> {
+pub struct PlanLayer<'r, 'q, 'm, 'd, 'n, K: Keys, S: LogStart> {
     pub lower: &'r mut K,
     pub asked: &'q mut Questions,
     pub memo: &'m mut PushedMemo,

@@ -2,7 +2,7 @@
 //!
 //! What is used above it: the clauses of `Reader`, `Titles`, `Keys` and `Asker` of `readers`, which
 //! `PlanLayer` meets over any `Keys`, and its ghost fields, by which they go down to that reader.
-#![tactic(auto, using(crate::proofs::Rules::noting))]
+#![tactic(auto, using(readers::proofs::Rules::noting))]
 
 mod asker;
 mod asks;

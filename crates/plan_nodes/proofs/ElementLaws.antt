@@ -6,14 +6,15 @@ use Rattle.std.proofs.Math.Logic.{⊎_elim}
 use Rattle.std.proofs.lemmas.Bool.{cases_lt}
 use Rattle.std.proofs.lemmas.Bool.Decides.{nat_tests}
 use Rattle.dita_doc.specs.Siblings as siblings
-use Rattle.dita_doc.specs.Siblings.{IsElementAt, content_from, first_element, joined}
+use Rattle.dita_doc.specs.Siblings.{IsElementAt, content_from, first_element, content_behind}
 use Rattle.dita_doc.specs.Tree as tree
 use Rattle.dita_doc.specs.Tree.{ArePreorder, Content, content_of, is_element, size_of, tree_of}
 use Rattle.dita_doc.specs.declared.doc.Doc.{Doc}
 use Rattle.dita_doc.specs.declared.doc.Node.{Node}
 use Rattle.dita_doc.proofs.PlaceLaws.{content_there}
 use Rattle.map_spec.specs.Written.{Element, Whole, element_at, size, written_in}
-use Rattle.doc_elements.specs.Walk.{Found, element_of, found_in}
+use Rattle.map_lemmas.proofs.TreeLaws.{size_written}
+use Rattle.doc_elements.specs.Walk.{FoundElement, element_of, found_in}
 
 -- the first element, under a name
 abbrev first_in : List ℕ → Content → Option Whole
@@ -22,17 +23,9 @@ first_in name (tree.Chars text origin line rest) = None
 first_in name (tree.Element text attributes origin line inside rest) =
     Some (record { name = text; attributes = attributes; doc = name; line = line; href_doc = name }, written_in name inside)
 
-size-written : (name : List ℕ) (all : Content) → size (written_in name all) ≡ size_of all
-size-written name tree.End = refl
-size-written name (tree.Chars text origin line rest) = ap (λ n. 1 + n) (size-written name rest)
-size-written name (tree.Element text attributes origin line inside rest) =
-    let within = size-written name inside in
-    let behind = size-written name rest in
-    omega (arith, within, behind)
-
 -- behind a content stands what comes after it
 from_behind : (all more : Content) (place : ℕ) → size_of all ≤ place
-    → content_from place (joined all more) ≡ content_from (place - size_of all) more
+    → content_from place (content_behind all more) ≡ content_from (place - size_of all) more
 from_behind tree.End more place past = let same : place ≡ place - 0 = omega arith in ap (λ n. content_from n more) same
 from_behind (tree.Chars text origin line rest) more zero past = absurd (omega arith)
 from_behind (tree.Chars text origin line rest) more (suc place) past =
@@ -41,13 +34,13 @@ from_behind (tree.Chars text origin line rest) more (suc place) past =
 from_behind (tree.Element text attributes origin line inside rest) more zero past = absurd (omega arith)
 from_behind (tree.Element text attributes origin line inside rest) more (suc place) past =
     let same : place - size_of inside - size_of rest ≡ suc place - (1 + (size_of inside + size_of rest)) = omega arith in
-    from_behind inside (joined rest more) place (omega arith)
+    from_behind inside (content_behind rest more) place (omega arith)
     ∙ from_behind rest more (place - size_of inside) (omega arith)
     ∙ ap (λ n. content_from n more) same
 
 -- in a content the first element is the same, whatever comes after it
 from_within : (name : List ℕ) (all more : Content) (place : ℕ) → place < size_of all
-    → first_in name (content_from place (joined all more)) ≡ first_in name (content_from place all)
+    → first_in name (content_from place (content_behind all more)) ≡ first_in name (content_from place all)
 from_within name tree.End more place within = absurd (omega arith)
 from_within name (tree.Chars text origin line rest) more zero within = refl
 from_within name (tree.Chars text origin line rest) more (suc place) within =
@@ -55,8 +48,9 @@ from_within name (tree.Chars text origin line rest) more (suc place) within =
 from_within name (tree.Element text attributes origin line inside rest) more zero within = refl
 from_within name (tree.Element text attributes origin line inside rest) more (suc place) within =
     ⊎_elim
-    (λ below. from_within name inside (joined rest more) place below ∙ sym (from_within name inside rest place below))
-    (λ past. ap (first_in name) (from_behind inside (joined rest more) place past)
+    (λ below. from_within name inside (content_behind rest more) place below
+    ∙ sym (from_within name inside rest place below))
+    (λ past. ap (first_in name) (from_behind inside (content_behind rest more) place past)
     ∙ from_within name rest more (place - size_of inside) (omega arith)
     ∙ sym (ap (first_in name) (from_behind inside rest place past)))
     (cases_lt place (size_of inside))
@@ -79,10 +73,10 @@ at_first name (tree.Chars text origin line rest) (suc place) =
 at_first name (tree.Element text attributes origin line inside rest) zero = refl
 at_first name (tree.Element text attributes origin line inside rest) (suc place) =
     let within = written_in name inside in
-    let as_many : size within ≡ size_of inside = size-written name inside in
+    let as_many : size within ≡ size_of inside = size_written name inside in
     let other : (suc place == 0) ≡ false = grind (arith, nat_tests) in
     rw other (choice (nat_lt (size within) (suc place)) (element_at (written_in name rest) (suc place - (1 + size within)))
-    (element_at within (suc place - 1)) (first_in name (content_from place (joined inside rest)))
+    (element_at within (suc place - 1)) (first_in name (content_from place (content_behind inside rest)))
     (λ past. let after : size within < suc place = grind (arith, nat_tests) in
     let same : suc place - (1 + size within) ≡ place - size_of inside = omega arith in
     ap (element_at (written_in name rest)) same
@@ -100,9 +94,9 @@ first_again name (tree.Chars text origin line rest) = refl
 first_again name (tree.Element text attributes origin line inside rest) = refl
 
 -- the element that was found in a document, or that none was
-pub element_found : (name : List ℕ) (doc : Doc) (place : ℕ) (found : Option Found)
-    → MatchOption found (siblings.element_at (tree_of doc.nodes) place ≡ None)
-    (λ (f : Found). IsElementAt doc place f.0.now f.1)
+pub element_found : (name : List ℕ) (doc : Doc) (place : ℕ) (found : Option FoundElement)
+    → MatchOption found (siblings.content_at (tree_of doc.nodes) place ≡ None)
+    (λ (f : FoundElement). IsElementAt doc place f.0.now f.1)
     → found_in name found ≡ element_at (written_in name (tree_of doc.nodes)) place
 element_found name doc place None none = sym (
     at_first name (tree_of doc.nodes) place ∙ first_again name (content_from place (tree_of doc.nodes))

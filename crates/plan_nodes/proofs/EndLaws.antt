@@ -6,6 +6,7 @@ use Rattle.std.proofs.lemmas.List.{length-map, map-append}
 use Rattle.std.proofs.lemmas.Option.{slice_get_read}
 use Rattle.dita_doc.specs.declared.plan.PlanNode.{PlanNode}
 use Rattle.map_spec.specs.MapTree.{Head, MapTree, MapNode, NoNodes, count, node_of, nodes_below, plan_nodes}
+use Rattle.map_lemmas.proofs.TreeLaws.{length_below}
 use Rattle.plan_nodes.specs.Ends.{ended, ended_before, parent_of_raised, raised}
 use Rattle.plan_nodes.specs.Preorder.{HasOneRoot, without_end}
 
@@ -130,15 +131,6 @@ ended_parts first (suc second) place nodes =
     ∙ ap (λ at. ended_from first place (ended_from second (place + first) (ended at nodes))) same
 
 -- A tree
-
-pub length_below : (parent place : ℕ) (tree : MapTree) → length (nodes_below parent place tree) ≡ count tree
-length_below parent place NoNodes = refl
-length_below parent place (MapNode head below more) =
-    let end = place + 1 + count below in
-    let inside = length_below place (place + 1) below in
-    let beside = length_below parent end more in
-    let both = length-append (nodes_below place (place + 1) below) (nodes_below parent end more) in
-    omega arith
 
 -- where the last of some nodes side by side ends; 0 if there is none
 abbrev last_end : ℕ → MapTree → ℕ

@@ -9,7 +9,7 @@ use Rattle.href_text.specs.Joined.{joined}
 use Rattle.href_text.specs.Reference.{is_external, reference_of}
 use Rattle.href_text.specs.declared.fault.RefFault.{RefFault}
 use Rattle.map_spec.specs.Elements.{attribute}
-use Rattle.map_spec.specs.Target.{Document, Elsewhere, default_scope, file_of, if_read, is_far, local_topic, named_by, named_of, target_by}
+use Rattle.map_spec.specs.Target.{Document, Elsewhere, default_scope, file_of, if_read, is_far, local_topic, named_if_read, named_of, target_by}
 use Rattle.map_spec.specs.Written.{Element, Whole}
 use Rattle.readers.specs.Founded.{Grows, is_allowed, is_among}
 use Rattle.readers.specs.Named.{name_joined, names_of_element}
@@ -39,7 +39,7 @@ told_later old new homes grows told =
 -- The document that an href names
 
 pub name_by : (far external empty : Bool) (read : Option (List ℕ)) (name : List ℕ)
-    → (if far || external then Elsewhere else named_by (if empty then None else read)) ≡ Document name
+    → (if far || external then Elsewhere else named_if_read (if empty then None else read)) ≡ Document name
     → (if external then None else read) ≡ Some name
 name_by true external empty read name is = cc
 name_by false true empty read name is = cc

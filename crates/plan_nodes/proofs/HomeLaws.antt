@@ -4,31 +4,35 @@ use Rattle.std.specs.Arc.{arc_value}
 use Rattle.std.specs.BTreeMap.{insert_entry, is_at}
 use Rattle.std.specs.Cmp.Lexicographic.{slice_cmp}
 use Rattle.std.specs.Map.{lookup}
+use Rattle.std.specs.Option.{option_and_then}
 use Rattle.std.specs.Ordering.{nat_cmp}
 use Rattle.std.specs.declared.alloc.Global.{Global}
 use Rattle.std.specs.declared.sync.Arc.{Arc}
 use Rattle.std.proofs.Common.{refl, sym, ap, subst, ◌∙◌, arith, append-nil, get_or, length-append}
 use Rattle.std.proofs.lemmas.List.{map-append, take_more}
-use Rattle.std.proofs.lemmas.Option.{slice_get_past}
+use Rattle.std.proofs.lemmas.Option.{slice_get-map, slice_get_past}
 use Rattle.dita_doc.specs.Siblings as siblings
 use Rattle.dita_doc.specs.Siblings.{IsElementAt}
 use Rattle.dita_doc.specs.Tree.{tree_of}
 use Rattle.dita_doc.specs.declared.doc.Doc.{Doc}
 use Rattle.dita_doc.specs.declared.doc.Node.{Node}
 use Rattle.dita_doc.specs.declared.doc.NodeKind.TheVariants as kinds
-use Rattle.doc_elements.specs.Walk.{Found, element_of, found_in}
+use Rattle.doc_elements.specs.Walk.{FoundElement, element_of, found_in}
 use Rattle.dita_doc.specs.declared.plan.PlanNode.{PlanNode}
-use Rattle.map_spec.specs.Cascade.{whole_at}
+use Rattle.dita_doc.proofs.Lists.{get_pushed}
+use Rattle.map_spec.specs.Cascade.{attribute_at, whole_at}
 use Rattle.map_spec.specs.Judged.{has_element}
-use Rattle.map_spec.specs.Written.{document, element_at, written_in}
+use Rattle.map_spec.specs.Written.{Whole, document, element_at, written_in}
 use Rattle.reader_spec.specs.World.{World}
+use Rattle.plan_nodes.specs.Home.{value_at}
 use Rattle.plan_nodes.specs.HomeDocs.{element_of as home_element}
 use Rattle.plan_nodes.specs.HomeDocs.{AreHomesOf, AreKnown, AreWithin, IsDocOf, IsHomeOf, IsKnown, IsWithin, Known, Longer, doc_of, document_at, name_of, whole_in, whole_of, written_of}
-use Rattle.plan_nodes.specs.declared.homes.Home.{Home}
-use Rattle.plan_nodes.specs.declared.homes.NamedDoc.{NamedDoc}
+use Rattle.plan_nodes.specs.declared.node_elements.Home.{Home}
+use Rattle.plan_nodes.specs.declared.node_elements.NamedDoc.{NamedDoc}
 use Rattle.plan_nodes.proofs.ElementLaws.{element_found, element_here, of_node}
-use Rattle.plan_nodes.proofs.ListLaws.{get_more, get_pushed}
+use Rattle.plan_nodes.proofs.ListLaws.{get_more}
 use Rattle.plan_nodes.proofs.MemoLaws.{IsEach, each_found, each_kept, each_put}
+use Rattle.map_spec.specs.Elements.{attribute}
 
 document_more : (docs more : List NamedDoc) (place : Option ℕ) → IsWithin (length docs) place
     → document_at (docs ++ more) place ≡ document_at docs place
@@ -41,7 +45,7 @@ whole_more docs more None within = refl
 whole_more docs more (Some home) within =
     ap (λ nodes. whole_in nodes home.place) (document_more docs more (Some home.doc) within)
 
-within_more : (count larger : ℕ) (place : Option ℕ) → count ≤ larger → IsWithin count place → IsWithin larger place
+pub within_more : (count larger : ℕ) (place : Option ℕ) → count ≤ larger → IsWithin count place → IsWithin larger place
 within_more count larger None grows within = tt
 within_more count larger (Some at) grows within = omega (arith, within)
 
@@ -114,10 +118,10 @@ place_put world old new name key place entries later longer same is known here =
 
 -- Homes
 
-pub whole_found : (docs : List NamedDoc) (home : Home) (named : NamedDoc) (doc : Doc) (found : Option Found)
+pub whole_found : (docs : List NamedDoc) (home : Home) (named : NamedDoc) (doc : Doc) (found : Option FoundElement)
     → Some named ≡ slice_get docs home.doc → doc ≡ arc_value named.doc
-    → MatchOption found (siblings.element_at (tree_of doc.nodes) home.place ≡ None)
-    (λ (f : Found). IsElementAt doc home.place f.0.now f.1)
+    → MatchOption found (siblings.content_at (tree_of doc.nodes) home.place ≡ None)
+    (λ (f : FoundElement). IsElementAt doc home.place f.0.now f.1)
     → found_in (name_of docs home.doc) found ≡ whole_of docs (Some home)
 whole_found docs home named doc found is same there =
     rw (← is) (
@@ -225,3 +229,18 @@ homes_push world old new before entries some more node homes all home nodes_are 
           ∙ sym (map-append (whole_at world) some (node ∷ []))
           ∙ sym (ap (map (whole_at world)) nodes_are);
     }
+
+-- the value of a node by the elements of all nodes
+pub value_same : (world : World) (homes : List (Option Whole)) (nodes : List PlanNode) (at : ℕ) (node : PlanNode)
+    (name : List ℕ) → homes ≡ map (whole_at world) nodes → slice_get nodes at ≡ Some node
+    → value_at homes at name ≡ attribute_at world name node
+value_same world homes nodes at node name same there =
+    ap (λ all. value_at all at name) same
+    ∙ rw (slice_get-map (whole_at world) nodes at, there) refl
+
+pub value_by : (world : World) (name : List ℕ) (node : Option PlanNode)
+    → option_and_then (λ (whole : Whole). attribute name whole.0)
+    (option_and_then (λ (whole : Option Whole). whole) (option_map (whole_at world) node))
+    ≡ option_and_then (attribute_at world name) node
+value_by world name None = refl
+value_by world name (Some node) = refl

@@ -14,4 +14,3 @@ pub mod TextSetLaws
 pub mod ToldLaws
 pub mod Walking
 pub mod WorldLaws
-pub mod WordLaws

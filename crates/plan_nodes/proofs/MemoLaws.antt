@@ -3,9 +3,10 @@ use Rattle.std.specs.Prelude.{◌≡◌, ℕ, Bool, true, false, List, [], ◌�
 use Rattle.std.specs.BTreeMap.{insert_entry, is_at}
 use Rattle.std.specs.Cmp.Lexicographic.{slice_cmp}
 use Rattle.std.specs.Map.{lookup}
-use Rattle.std.specs.Ordering.{is_eq, match_ordering, nat_cmp}
+use Rattle.std.specs.Ordering.{match_ordering, nat_cmp}
 use Rattle.std.proofs.Common.{Ordering, Less, Equal, Greater, refl, sym, subst}
 use Rattle.dita_doc.proofs.NameOrder.{same_from_equal}
+use Rattle.dita_doc.proofs.Orders.{equal_test}
 
 -- what is said of all entries is what is said of each
 pub record IsEach {V : Type 0} (Is : List ℕ → V → Type 0) (Are : List (List ℕ × V) → Type 0) : Type 0 where
@@ -22,11 +23,6 @@ each_kept Is Later Are AreLater each later kept [] are = later.none
 each_kept Is Later Are AreLater each later kept (entry ∷ more) are =
     later.both entry more (kept entry.0 entry.1 (each.first entry more are))
     (each_kept Is Later Are AreLater each later kept more (each.behind entry more are))
-
-equal_test : (o : Ordering) → is_eq o ≡ true → o ≡ Equal
-equal_test Equal same = refl
-equal_test Less same = cc
-equal_test Greater same = cc
 
 module _ {V : Type 0} (Is : List ℕ → V → Type 0) (Are : List (List ℕ × V) → Type 0) (each : IsEach Is Are) where
   found : (name : List ℕ) (entries : List (List ℕ × V)) → Are entries

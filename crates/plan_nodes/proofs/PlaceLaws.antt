@@ -5,7 +5,6 @@ use Rattle.std.specs.Option.{option_map_or}
 use Rattle.std.proofs.Common.{refl, ap, ◌∙◌, arith, get_or, eqb}
 use Rattle.std.proofs.lemmas.Bool.Decides.{nat_tests}
 use Rattle.std.proofs.lemmas.List.{length-take, map-append, take_more}
-use Rattle.std.proofs.lemmas.Option.{slice_get_read}
 use Rattle.dita_doc.specs.declared.plan.PlanNode.{PlanNode}
 use Rattle.map_spec.specs.Cascade.{places_up, steps_up, walk}
 use Rattle.map_spec.specs.Scopes.{places, places_from}
@@ -99,8 +98,3 @@ pub known_more : {X : Type 0} (f : ℕ → X) (nodes : List PlanNode) (at : ℕ)
     → known f nodes (at + 1) ≡ known f nodes at ++ f at ∷ []
 known_more f nodes at node within =
     ap (map f) (place_more nodes at node within) ∙ map-append f (places (take at nodes)) (at ∷ [])
-
--- the node at a place
-pub node_at : (nodes : List PlanNode) (at : ℕ) (node : PlanNode) → at < length nodes → node ≡ get_or nodes at node
-    → slice_get nodes at ≡ Some node
-node_at nodes at node within item = slice_get_read nodes (length nodes) at node refl within item

@@ -3,8 +3,8 @@ use Rattle.std.specs.Prelude.{◌≡◌, ◌+◌, ◌<◌, ℕ, zero, suc, List,
 use Rattle.std.proofs.Common.{arith, subst}
 use Rattle.dita_doc.specs.declared.plan.PlanNode.{PlanNode}
 use Rattle.map_spec.specs.MapTree.{MapTree, MapNode, NoNodes, count, nodes_below, plan_nodes}
+use Rattle.map_lemmas.proofs.TreeLaws.{length_below}
 use Rattle.plan_nodes.specs.Preorder.{HasParentsBefore}
-use Rattle.plan_nodes.proofs.EndLaws.{length_below}
 
 -- the first of these nodes stands at this place, and each behind its parent
 abbrev AreBehind : ℕ → List PlanNode → Type 0

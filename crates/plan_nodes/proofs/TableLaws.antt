@@ -2,9 +2,10 @@
 use Rattle.std.specs.Prelude.{◌≡◌, ◌+◌, ◌<◌, ◌||◌, ℕ, zero, suc, Bool, true, false, List, [], ◌∷◌, ◌++◌, Some, length, slice_get, unwrap_or}
 use Rattle.std.proofs.Common.{refl, sym, ap, ◌∙◌, arith, get_or}
 use Rattle.dita_doc.specs.declared.plan.PlanNode.{PlanNode}
+use Rattle.dita_doc.proofs.Lists.{get_read}
 use Rattle.map_spec.specs.Cascade.{is_in_table}
 use Rattle.map_spec.specs.Included.{is_table}
-use Rattle.plan_nodes.proofs.PlaceLaws.{known, known_at, known_more, node_at, walk_root, walk_up}
+use Rattle.plan_nodes.proofs.PlaceLaws.{known, known_at, known_more, walk_root, walk_up}
 use Rattle.plan_nodes.specs.Preorder.{HasParentsBefore, is_in_table_at}
 
 or_comm : (a b : Bool) → (a || b) ≡ (b || a)
@@ -37,6 +38,6 @@ pub table_more : (nodes : List PlanNode) (at : ℕ) (node : PlanNode) (told : Li
 table_more nodes at node told within before fits item same by =
     ap (λ last. told ++ last ∷ []) (by
     ∙ ap (λ some. unwrap_or (slice_get some node.parent) false || is_table node.kind) same
-    ∙ in_table_by nodes before at node (node_at nodes at node fits item) fits)
+    ∙ in_table_by nodes before at node (get_read nodes at node fits item) fits)
     ∙ ap (λ some. some ++ is_in_table_at nodes at ∷ []) same
     ∙ sym (known_more (is_in_table_at nodes) nodes at node fits)

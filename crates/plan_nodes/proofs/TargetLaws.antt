@@ -12,7 +12,7 @@ use Rattle.dita_doc.specs.declared.plan.Target.TheVariants as targets
 use Rattle.map_spec.specs.Cascade.{cascaded_value, whole_at}
 use Rattle.map_spec.specs.Elements.{attribute}
 use Rattle.map_spec.specs.Judged.{has_element}
-use Rattle.map_spec.specs.Keys.{target_at}
+use Rattle.map_spec.specs.Keys.{target_of_definition}
 use Rattle.map_spec.specs.Target.{target_by}
 use Rattle.map_spec.specs.Written.{Element, Whole, element_at, element_in, size, written_in}
 use Rattle.readers.specs.Founded.{is_allowed}
@@ -50,9 +50,9 @@ doc_by : (world : World) (node : PlanNode) (test : Bool) (whole : Whole)
 doc_by world node true whole is = doc_found node.doc (world node.doc) node.place whole is
 doc_by world node false whole is = cc
 
-pub doc_at : (world : World) (node : PlanNode) (whole : Whole) → whole_at world node ≡ Some whole
+pub doc_there : (world : World) (node : PlanNode) (whole : Whole) → whole_at world node ≡ Some whole
     → whole.0.doc ≡ node.doc
-doc_at world node whole is = doc_by world node (has_element node.kind) whole is
+doc_there world node whole is = doc_by world node (has_element node.kind) whole is
 
 -- a topic that a node's href leads to
 
@@ -73,11 +73,11 @@ module _ (told : List Told) (format scope name : List ℕ) (reference : Referenc
       → IsTrue (is_allowed roots told name)
   by_whole world node None is was target = cc
   by_whole world node (Some whole) is was target =
-      by_href whole.0 node.doc (attribute (codes "href") whole.0) (was whole is) (doc_at world node whole is) refl target
+      by_href whole.0 node.doc (attribute (codes "href") whole.0) (was whole is) (doc_there world node whole is) refl target
 
 pub may_target_at : (told : List Told) (world : World) (nodes around : List PlanNode) (at : ℕ) (node : PlanNode)
     (name : List ℕ) (reference : Reference) → AreTold told (map (whole_at world) nodes)
-    → slice_get nodes at ≡ Some node → target_at world nodes node around ≡ Some (targets.Local name reference)
+    → slice_get nodes at ≡ Some node → target_of_definition world node around ≡ Some (targets.Local name reference)
     → (roots : List (List ℕ)) → IsTrue (is_allowed roots told name)
 may_target_at told world nodes around at node name reference were here target roots =
     by_whole told (cascaded_value world (codes "format") around) (cascaded_value world (codes "scope") around) name

@@ -1,5 +1,5 @@
 -- A set of texts, and one more of them.
-use Rattle.std.specs.Prelude.{◌≡◌, ◌||◌, ℕ, Bool, true, false, List, [], ◌∷◌, ◌++◌, bytes_eq, map}
+use Rattle.std.specs.Prelude.{◌≡◌, ◌||◌, ℕ, Bool, List, [], ◌∷◌, ◌++◌, bytes_eq, map}
 use Rattle.std.specs.Borrow.{Bor}
 use Rattle.std.specs.BTreeMap.{is_at}
 use Rattle.std.specs.BTreeSet.{insert_key}
@@ -10,6 +10,7 @@ use Rattle.std.proofs.Common.{Ordering, Less, Equal, Greater, refl, sym, ap, ◌
 use Rattle.std.proofs.lemmas.List.{map-append}
 use Rattle.std.proofs.lemmas.Map.Text.{is_eq-slice_cmp}
 use Rattle.dita_doc.proofs.NameOrder.{same_from_equal}
+use Rattle.dita_doc.proofs.Tests.{or_assoc, or_last, or_swap, or_twice}
 
 abbrev pub Str : Type 0
 Str = Bor (List ℕ)
@@ -22,26 +23,6 @@ texts keys = map (λ (text : Str). text.now) keys
 
 abbrev pub is_one : List ℕ → List (List ℕ) → Bool
 is_one text all = list_any (bytes_eq text) all
-
-or_twice : (a b : Bool) → (a || b) ≡ (a || (a || b))
-or_twice true b = refl
-or_twice false b = refl
-
-or_swap : (a b c : Bool) → (a || (b || c)) ≡ (b || (a || c))
-or_swap true true c = refl
-or_swap true false c = refl
-or_swap false true c = refl
-or_swap false false c = refl
-
-or_last : (a b : Bool) → (a || b) ≡ (b || (a || false))
-or_last true true = refl
-or_last true false = refl
-or_last false true = refl
-or_last false false = refl
-
-pub or_assoc : (a b c : Bool) → ((a || b) || c) ≡ (a || (b || c))
-or_assoc true b c = refl
-or_assoc false b c = refl
 
 pub one_append : (text : List ℕ) (xs ys : List (List ℕ))
     → is_one text (xs ++ ys) ≡ (is_one text xs || is_one text ys)

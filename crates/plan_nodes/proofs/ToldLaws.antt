@@ -21,8 +21,8 @@ use Rattle.readers.proofs.GrowthLaws.{allowed_before, grows_one}
 use Rattle.plan_nodes.specs.Given.{AreTold, IsTold}
 use Rattle.plan_nodes.specs.HomeDocs.{document_at, whole_in, whole_of}
 use Rattle.plan_nodes.specs.ToldDocs.{AreToldDocs, WasTold, told_of, with_found}
-use Rattle.plan_nodes.specs.declared.homes.Home.{Home}
-use Rattle.plan_nodes.specs.declared.homes.NamedDoc.{NamedDoc}
+use Rattle.plan_nodes.specs.declared.node_elements.Home.{Home}
+use Rattle.plan_nodes.specs.declared.node_elements.NamedDoc.{NamedDoc}
 
 -- Documents, one told after the other
 

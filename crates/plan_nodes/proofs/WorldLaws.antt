@@ -7,7 +7,7 @@ use Rattle.std.proofs.lemmas.Option.{slice_get-map}
 use Rattle.dita_doc.specs.declared.plan.PlanNode.{PlanNode}
 use Rattle.ditaval_rules.specs.Verdict.{conditional_names}
 use Rattle.map_spec.specs.Branches.{words_written}
-use Rattle.map_spec.specs.Cascade.{attribute_at, cascaded_on, cascaded_value, default_of, if_not_grouped, is_in_table, merged, named_tokens, nearest, nearest_names, passed, places_up, tokens_on, walk, whole_at}
+use Rattle.map_spec.specs.Cascade.{attribute_at, cascaded_on, cascaded_value, default_of, if_not_grouped, is_in_table, merged_tokens, named_tokens, nearest, nearest_names, passed, places_up, tokens_on, walk, whole_at}
 use Rattle.map_spec.specs.Elements.{attribute}
 use Rattle.map_spec.specs.Scopes.{good_names, keys_defined, keys_of, may_define}
 use Rattle.map_spec.specs.Written.{Whole}
@@ -74,7 +74,7 @@ module _ (a b : World) where
   same_tokens : (name : List ℕ) (around : List PlanNode) → AreSame around → tokens_on a name around ≡ tokens_on b name around
   same_tokens name [] same = refl
   same_tokens name (node ∷ around) same = λ i.
-      merged (not (bytes_eq (same_value (codes "cascade") (node ∷ around) same i) (codes "nomerge")))
+      merged_tokens (not (bytes_eq (same_value (codes "cascade") (node ∷ around) same i) (codes "nomerge")))
       (option_and_then if_not_grouped (same_attribute name node (first_same node around same) i))
       (same_tokens name around (rest_same node around same) i)
 

@@ -11,8 +11,8 @@ use Rattle.doc_elements.specs.Walk.{element_of}
 abbrev pub whole_at : List (Option Whole) → ℕ → Option Whole
 whole_at homes at = option_and_then (λ (whole : Option Whole). whole) (slice_get homes at)
 
-abbrev pub element_at : List (Option Whole) → ℕ → Option Element
-element_at homes at = option_map (λ (whole : Whole). whole.0) (whole_at homes at)
+abbrev pub element_among : List (Option Whole) → ℕ → Option Element
+element_among homes at = option_map (λ (whole : Whole). whole.0) (whole_at homes at)
 
 -- the document in which it was written
 abbrev pub doc_of : List (Option Whole) → ℕ → List ℕ

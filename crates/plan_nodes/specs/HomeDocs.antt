@@ -7,8 +7,8 @@ use Rattle.dita_doc.specs.declared.plan.PlanNode.{PlanNode}
 use Rattle.map_spec.specs.Cascade.{whole_at}
 use Rattle.map_spec.specs.Written.{Element, Whole, Written, document, element_at, written_in}
 use Rattle.reader_spec.specs.World.{World}
-use Rattle.plan_nodes.specs.declared.homes.Home.{Home}
-use Rattle.plan_nodes.specs.declared.homes.NamedDoc.{NamedDoc}
+use Rattle.plan_nodes.specs.declared.node_elements.Home.{Home}
+use Rattle.plan_nodes.specs.declared.node_elements.NamedDoc.{NamedDoc}
 
 -- a document under its name
 abbrev pub written_of : NamedDoc → Written

@@ -8,7 +8,7 @@ use Rattle.dita_doc.specs.declared.doc.Doc.{Doc}
 use Rattle.readers.specs.Documents.{Follows, may_ask}
 use Rattle.readers.specs.Founded.{is_allowed, is_among, names_given}
 use Rattle.readers.specs.Told.{Told, document}
-use Rattle.plan_nodes.specs.declared.homes.NamedDoc.{NamedDoc}
+use Rattle.plan_nodes.specs.declared.node_elements.NamedDoc.{NamedDoc}
 
 -- an answer was told
 pub record WasTold (told : List Told) (t : Told) : Type 0 where

@@ -12,7 +12,7 @@ use Rattle.dita_doc.specs.declared.content.PushList.{PushList}
 use Rattle.dita_doc.specs.declared.doc.Doc.{Doc}
 use Rattle.map_spec.specs.Written.{Written}
 use Rattle.map_spec.specs.Pushes.{pushed, pushes_into}
-use Rattle.pushed_docs.specs.Made.{AreKept, IsKept, is_quiet}
+use Rattle.pushed_docs.specs.Made.{AreKept, IsKept, is_without_conaction}
 use Rattle.pushed_docs.specs.declared.docs.PushedDocs.{PushedDocs}
 use Rattle.pushed_docs.proofs.MadeLaws.{touched_known}
 use Rattle.reader_spec.specs.World.{World}
@@ -44,7 +44,7 @@ module _ (world : World) (documents : List (List ℕ)) where
   kept_none docs made quiet = record {
     made = known_none (IsKept world documents) docs.docs made;
     quiet = λ name is.
-        let none : is_quiet docs.quiet name ≡ false = rw quiet refl in absurd (false≢true (sym none ∙ is));
+        let none : is_without_conaction docs.quiet name ≡ false = rw quiet refl in absurd (false≢true (sym none ∙ is));
   }
 
   -- one more document is kept
@@ -53,7 +53,7 @@ module _ (world : World) (documents : List (List ℕ)) where
       → AreKept world documents old → AreKept world documents new
   kept_put old new name key found put still same is kept = record {
     made = known_put (IsKept world documents) old.docs new.docs name key found put same is kept.made;
-    quiet = λ other there. kept.quiet other (subst (λ names. IsTrue (is_quiet names other)) still there);
+    quiet = λ other there. kept.quiet other (subst (λ names. IsTrue (is_without_conaction names other)) still there);
   }
 
 module _ (own : World) (documents : List (List ℕ)) (name : List ℕ) (list : PushList) (named : Option Written) where

@@ -11,7 +11,7 @@ use Rattle.std.specs.declared.alloc.Global.{Global}
 use Rattle.std.specs.declared.sync.Arc.{Arc}
 use Rattle.std.proofs.Common.{refl}
 use Rattle.std.proofs.Props.{props}
-use Rattle.conref_push.specs.Acting.{acts_in}
+use Rattle.conref_push.specs.Acting.{has_conaction_in}
 use Rattle.conref_push.specs.Targets.{AreKnown}
 use Rattle.dita_doc.specs.declared.doc.Doc.{Doc}
 use Rattle.map_spec.specs.Written.{Element, Whole, Written, End}
@@ -41,13 +41,13 @@ abbrev pub IsKept : World → List (List ℕ) → List ℕ → Option (Arc Doc G
 IsKept world documents name found = named_found found ≡ pushed world documents name
 
 -- whether the document of a name is among those that are quiet
-abbrev pub is_quiet : names.BTreeSet (List ℕ) → List ℕ → Bool
-is_quiet quiet name = names.contains (slice_cmp nat_cmp) quiet name
+abbrev pub is_without_conaction : names.BTreeSet (List ℕ) → List ℕ → Bool
+is_without_conaction quiet name = names.contains (slice_cmp nat_cmp) quiet name
 
 -- each document that was made is kept as it is in this world, and no element acts of a document that is quiet
 pub record AreKept (world : World) (documents : List (List ℕ)) (docs : PushedDocs) : Type 0 where
   pub made : AreKnown (IsKept world documents) docs.docs
-  pub quiet : (name : List ℕ) → IsTrue (is_quiet docs.quiet name) → acts_in world name ≡ false
+  pub quiet : (name : List ℕ) → IsTrue (is_without_conaction docs.quiet name) → has_conaction_in world name ≡ false
 
 -- content is data, as what an element holds
 abbrev no_element : Element

@@ -55,11 +55,11 @@ impl PushedDocs {
     }
 
     /// Whether it was seen that no element of the document of this name acts.
-    pub fn is_quiet(&self, name: &Name) -> bool
-        ensures value { result ≡ made_spec.is_quiet self.now.quiet name.now }
+    pub fn is_without_conaction(&self, name: &Name) -> bool
+        ensures value { result ≡ made_spec.is_without_conaction self.now.quiet name.now }
         ensures quiet { (world : World) (documents : List (List ℕ))
             → AreKept world documents self.now → IsTrue result
-            → acting_spec.acts_in world name.now ≡ false }
+            → acting_spec.has_conaction_in world name.now ≡ false }
     {
         self.quiet.contains(name)
     }
@@ -67,9 +67,9 @@ impl PushedDocs {
     /// Puts the name of a document of which no element acts.
     pub fn put_quiet(&mut self, name: &Name) -> Result<(), NoMemory>
         ensures kept { (world : World) (documents : List (List ℕ))
-            → AreKept world documents self.old → acting_spec.acts_in world name.now ≡ false
+            → AreKept world documents self.old → acting_spec.has_conaction_in world name.now ≡ false
             → AreKept world documents self.new }
-        ensures ok { OnOk result (IsTrue (made_spec.is_quiet self.new.quiet name.now)) }
+        ensures ok { OnOk result (IsTrue (made_spec.is_without_conaction self.new.quiet name.now)) }
     {
         let _ = self.quiet.insert(name.clone()?)?;
         Ok(())

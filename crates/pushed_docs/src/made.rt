@@ -1,6 +1,6 @@
 //! A document with the pushes into it, by a reader that tells pushes and keeps what it made.
 
-ghost use Rattle.std.specs.Prelude.{◌≡◌, ℕ, [], ◌∷◌, List, true, IfOk};
+ghost use Rattle.std.specs.Prelude.{◌≡◌, ℕ, [], ◌∷◌, List, true, IfOk, OnOk};
 ghost use Rattle.conref_push.specs.Table.{IsPushTable};
 ghost use Rattle.map_spec.specs.Written as written_spec;
 ghost use Rattle.map_spec.specs.Pushes as pushes_spec;
@@ -10,6 +10,8 @@ ghost use Rattle.readers.specs.Documents as documents_spec;
 ghost use Rattle.readers.specs.Documents.{AsksOnly, IsGiven};
 ghost use Rattle.readers.specs.Founded.{Grows, StaysFounded};
 ghost use Rattle.readers.specs.Named as named_spec;
+ghost use Rattle.readers.specs.Only as only_spec;
+ghost use Rattle.readers.specs.Only.{TellsOnly};
 ghost use Rattle.readers.specs.Told as told_spec;
 ghost use Rattle.readers.specs.Told.{Agrees};
 
@@ -44,6 +46,10 @@ pub trait GivesTouched: TellsPushes {
         ensures founded { StaysFounded (name.now ∷ []) (Self.told self.old) (Self.told self.new) }
         ensures asks { AsksOnly documents_spec.of_pushes (name.now ∷ []) (Self.told self.old)
             (Self.told self.new) }
+        ensures only { (world : World) → Agrees world (Self.told self.new)
+            → OnOk result (TellsOnly (only_spec.is_of_pushed world
+            (Self.stand self.old).setting.documents name.now) (Self.told self.old)
+            (Self.told self.new)) }
         ensures grows { Grows (Self.told self.old) (Self.told self.new) };
 
     /// Whether the pushes leave the document that was found under a name as it is, as far as the
@@ -86,6 +92,9 @@ pub fn made_pushed<P: GivesTouched>(
     ensures founded { StaysFounded (name.now ∷ []) (P.told asker.old) (P.told asker.new) }
     ensures asks { AsksOnly documents_spec.of_pushes (name.now ∷ []) (P.told asker.old)
         (P.told asker.new) }
+    ensures only { (world : World) → Agrees world (P.told asker.new)
+        → OnOk result (TellsOnly (only_spec.is_of_pushed world
+        (P.stand asker.old).setting.documents name.now) (P.told asker.old) (P.told asker.new)) }
     ensures grows { Grows (P.told asker.old) (P.told asker.new) }
 {
     let found = asker.doc(alloc, name)?;
@@ -111,6 +120,9 @@ pub fn with_pushes<P: TellsPushes>(
     ensures founded { StaysFounded (name.now ∷ []) (P.told asker.old) (P.told asker.new) }
     ensures asks { AsksOnly documents_spec.of_pushes (name.now ∷ []) (P.told asker.old)
         (P.told asker.new) }
+    ensures only { (world : World) → Agrees world (P.told asker.new)
+        → OnOk result (TellsOnly (only_spec.is_of_pushed world
+        (P.stand asker.old).setting.documents name.now) (P.told asker.old) (P.told asker.new)) }
     ensures grows { Grows (P.told asker.old) (P.told asker.new) }
 {
     let list = asker.tell_pushes(alloc, name)?;
@@ -139,6 +151,9 @@ pub fn kept_pushed<P: TellsPushes>(
     ensures founded { StaysFounded (name.now ∷ []) (P.told asker.old) (P.told asker.new) }
     ensures asks { AsksOnly documents_spec.of_pushes (name.now ∷ []) (P.told asker.old)
         (P.told asker.new) }
+    ensures only { (world : World) → Agrees world (P.told asker.new)
+        → OnOk result (TellsOnly (only_spec.is_of_pushed world
+        (P.stand asker.old).setting.documents name.now) (P.told asker.old) (P.told asker.new)) }
     ensures grows { Grows (P.told asker.old) (P.told asker.new) }
 {
     let list = asker.tell_pushes(alloc, name)?;

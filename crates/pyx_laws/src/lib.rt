@@ -1,12 +1,14 @@
 //! Laws of the texts of PYX. Each function does nothing: its contract is the law.
 #![tactic(auto)]
 
-ghost use Rattle.std.specs.Prelude.{◌≡◌, ◌≤◌, Ok, length};
+ghost use Rattle.std.specs.Prelude.{◌≡◌, ◌≤◌, ◌++◌, Ok, length};
 ghost use Rattle.dita_doc.specs.Bytes.{Bytes};
 ghost use Rattle.dita_doc.specs.Pyx as pyx_spec;
 ghost use Rattle.dita_doc.specs.ReadTree as read_tree_spec;
 ghost use Rattle.dita_doc.specs.Tree as tree_spec;
+ghost use Rattle.dita_doc.specs.declared.fault.PyxFault as pyx_fault_declared;
 ghost use Rattle.pyx_text.specs.Canonical as canonical_spec;
+ghost use Rattle.pyx_text.specs.Pieces as pieces_spec;
 ghost use Rattle.pyx_text.specs.Read as read_spec;
 
 /// A text stands for one tree at most.
@@ -33,4 +35,11 @@ pub fn trees_of_texts()
     ensures again { (tree : tree_spec.Content) → read_tree_spec.IsReadTree tree →
         length (canonical_spec.text_of tree) ≤ pyx_spec.text_limit →
         read_spec.StandsAgainFor (canonical_spec.text_of tree) tree }
+{}
+
+/// A fault that a text tells, since its line is ended, is told by each text that goes on from it. So
+/// a reader of a text in pieces that told a fault tells it again at each later piece.
+pub fn told_faults_stay()
+    ensures { (text rest : Bytes) (fault : pyx_fault_declared.PyxFault) →
+        pieces_spec.TellsFault text fault → pieces_spec.TellsFault (text ++ rest) fault }
 {}

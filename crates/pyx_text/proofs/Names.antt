@@ -1,5 +1,5 @@
 -- A set of names after one more was put into it.
-use Rattle.std.proofs.Common.{◌≡◌, ℕ, Bool, true, false, List, [], ◌∷◌, bytes_eq, sym, refl, ap, ◌∙◌}
+use Rattle.std.proofs.Common.{◌≡◌, ℕ, Bool, false, List, [], ◌∷◌, bytes_eq, sym, refl, ap, ◌∙◌}
 use Rattle.std.specs.Prelude.{◌||◌}
 use Rattle.std.specs.declared.cmp.Ordering.{Ordering}
 use Rattle.std.specs.declared.cmp.Ordering.TheVariants.{Less, Equal, Greater}
@@ -10,6 +10,7 @@ use Rattle.std.specs.BTreeMap.{is_at}
 use Rattle.std.specs.BTreeSet.{BTreeSet, insert_key}
 use Rattle.std.proofs.lemmas.Map.Text.{is_eq-slice_cmp}
 use Rattle.dita_doc.proofs.NameOrder.{same_from_equal}
+use Rattle.dita_doc.proofs.Tests.{or_swap, or_twice}
 use Rattle.pyx_text.specs.Machine.{has_name}
 
 -- how the set compares its names
@@ -20,17 +21,6 @@ name_cmp x y = slice_cmp nat_cmp x y
 abbrev pub is_among : List ℕ → List (List ℕ) → Bool
 is_among name keys = list_any (is_at (λ k. slice_cmp nat_cmp name k)) keys
 
--- two laws of `||`
-or-twice : (a b : Bool) → (a || b) ≡ (a || (a || b))
-or-twice true b = refl
-or-twice false b = refl
-
-or-swap : (a b c : Bool) → (a || (b || c)) ≡ (b || (a || c))
-or-swap true true c = refl
-or-swap true false c = refl
-or-swap false true c = refl
-or-swap false false c = refl
-
 -- the first of the keys, behind or before which a name is put
 is_among-placed : (other : List ℕ) (k x : List ℕ) (keys more : List (List ℕ)) (order : Ordering)
     → slice_cmp nat_cmp k x ≡ order
@@ -40,12 +30,12 @@ is_among-placed : (other : List ℕ) (k x : List ℕ) (keys more : List (List �
 is_among-placed other k x keys more Less is rest = ap (λ b. b || is_among other (x ∷ keys)) (is_eq-slice_cmp other k)
 is_among-placed other k x keys more Equal is rest =
     ap (λ b. b || is_among other keys) (is_eq-slice_cmp other x)
-    ∙ or-twice (bytes_eq other x) (is_among other keys)
+    ∙ or_twice (bytes_eq other x) (is_among other keys)
     ∙ ap (λ b. bytes_eq other x || (b || is_among other keys)) (sym (is_eq-slice_cmp other x))
     ∙ ap (λ name. bytes_eq other name || is_among other (x ∷ keys)) (sym (same_from_equal k x is))
 is_among-placed other k x keys more Greater is rest =
     let test = is_eq (slice_cmp nat_cmp other x) in
-    ap (λ b. test || b) rest ∙ or-swap test (bytes_eq other k) (is_among other keys)
+    ap (λ b. test || b) rest ∙ or_swap test (bytes_eq other k) (is_among other keys)
 
 -- the keys with a name put among them
 is_among-insert : (other : List ℕ) (k : List ℕ) (keys : List (List ℕ))

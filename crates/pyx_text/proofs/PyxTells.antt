@@ -5,7 +5,7 @@ use Rattle.std.proofs.lemmas.List.{append-nil}
 use Rattle.dita_doc.specs.declared.doc.Attribute.{Attribute}
 use Rattle.dita_doc.specs.Tree.{Content, End, Chars, Element}
 use Rattle.dita_doc.specs.PyxEvent.{Event, Open, Give, Text, Close, add_text}
-use Rattle.dita_doc.specs.Pyx.{says, give_all, built, text_then, is_nothing, begins_with_text, IsWritten}
+use Rattle.dita_doc.specs.Pyx.{says, give_all, built, text_then, is_empty_line, begins_with_text, IsWritten}
 
 -- a text that has been said is not followed by another
 abbrev pub IsApart : List ℕ → Content → Type 0
@@ -20,7 +20,7 @@ built_given (attribute ∷ attributes) given before around =
     built_given attributes given (Give attribute.name attribute.value ∷ before) around
 
 -- a written text is what `text_then` makes
-pub text_kept : (text : List ℕ) (origin line : ℕ) (rest : Content) → is_nothing text ≡ false → origin ≡ 0 → line ≡ 0
+pub text_kept : (text : List ℕ) (origin line : ℕ) (rest : Content) → is_empty_line text ≡ false → origin ≡ 0 → line ≡ 0
     → text_then text rest ≡ Chars text origin line rest
 text_kept [] origin line rest some first second = absurd cc
 text_kept (b ∷ text) origin line rest some first second = cc

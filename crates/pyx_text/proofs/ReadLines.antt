@@ -12,8 +12,8 @@ use Rattle.dita_doc.specs.Cut.{Lacks}
 use Rattle.dita_doc.specs.PyxLine.{Line, Opens, Gives, Says, Closes, Passes, Breaks, is_line_name, with_name, line_by_byte, line_by_bytes, line_of}
 use Rattle.dita_doc.specs.PyxEscapes.{unescaped}
 use Rattle.dita_doc.specs.Bytes.{is_space}
-use Rattle.dita_doc.specs.PyxEvent.{Event, Open, Give, Text, Close, add_text, open_names, has_root, given_names, is_outside, depth_limit, fault_of, fault_of_open, fault_of_give, after}
-use Rattle.dita_doc.specs.Pyx.{is_nothing, is_none_open, lines_from, reads}
+use Rattle.dita_doc.specs.PyxEvent.{Event, Open, Give, Text, Close, add_text, open_names, has_root, given_names, is_outside, read_depth_limit, fault_of, fault_of_open, fault_of_give, after}
+use Rattle.dita_doc.specs.Pyx.{is_empty_line, is_none_open, lines_from, reads}
 use Rattle.dita_doc.specs.ReadTree.{IsReadName, IsReadText}
 use Rattle.pyx_text.proofs.PyxKeeps.{open_names_add_text}
 use Rattle.pyx_text.proofs.PyxSteps.{goes_on_ok, ends_by}
@@ -98,14 +98,14 @@ all_if true x y first second = first refl
 all_if false x y first second = second refl
 
 sound_last : (line : List ℕ) → Lacks 10 line → Lacks 13 line
-    → AreSoundLines (if is_nothing line then [] else line_of line ∷ [])
-sound_last line f r = all_if (is_nothing line) [] (line_of line ∷ []) (λ e. tt) (λ e. (sound_line line f r, tt))
+    → AreSoundLines (if is_empty_line line then [] else line_of line ∷ [])
+sound_last line f r = all_if (is_empty_line line) [] (line_of line ∷ []) (λ e. tt) (λ e. (sound_line line f r, tt))
 
 pub sound_lines : (left : ℕ) (line bytes : List ℕ) → Lacks 10 line → Lacks 13 line
     → AreSoundLines (lines_from left line bytes)
 sound_lines zero line [] f r = sound_last line f r
 sound_lines (suc left) line [] f r = sound_last line f r
-sound_lines zero line (b ∷ bytes) f r = all_if ((b == 13) && is_nothing line) (lines_from zero line bytes)
+sound_lines zero line (b ∷ bytes) f r = all_if ((b == 13) && is_empty_line line) (lines_from zero line bytes)
     (Breaks codes.TooLong ∷ []) (λ e. sound_lines zero line bytes f r) (λ e. (tt, tt))
 sound_lines (suc left) line (b ∷ bytes) f r =
     all_if (b == 10) (line_of line ∷ lines_from left [] bytes) _
@@ -146,11 +146,12 @@ sound_add_text text (Close name ∷ before) t sound = (t, sound)
 -- a line that is not faulty keeps them so
 shallow : (rooted : Bool) (names : List (List ℕ)) → fault_of_open rooted names ≡ None → length names < 256
 shallow rooted [] e = omega arith
-shallow rooted (name ∷ names) e = shallow_by (name ∷ names) (nat_le depth_limit (length (name ∷ names))) refl e where
-  shallow_by : (names : List (List ℕ)) (deep : Bool) → nat_le depth_limit (length names) ≡ deep
-      → (if deep then Some codes.TooDeep else None) ≡ None → length names < 256
-  shallow_by names true e sound = absurd cc
-  shallow_by names false e sound = grind (arith, nat_tests)
+shallow rooted (name ∷ names) e = shallow_by (name ∷ names)
+    (nat_le read_depth_limit (length (name ∷ names))) refl e where
+      shallow_by : (names : List (List ℕ)) (deep : Bool) → nat_le read_depth_limit (length names) ≡ deep
+          → (if deep then Some codes.TooDeep else None) ≡ None → length names < 256
+      shallow_by names true e sound = absurd cc
+      shallow_by names false e sound = grind (arith, nat_tests)
 
 sound_text : (outside : Bool) (text : List ℕ) (before : List Event) → IsReadText text → AreSound before
     → AreSound (if outside then before else add_text text before)

@@ -7,7 +7,7 @@ use Rattle.dita_doc.specs.Tree.{Content, End, Chars, Element, nodes_of, size_of,
 use Rattle.dita_doc.specs.PyxEvent.{Event, Open, Give, Text, Close, add_text}
 use Rattle.dita_doc.specs.Pyx.{give_all, says, IsWritten, IsOneElement, text_then}
 use Rattle.dita_doc.proofs.TreeLaws.{length_nodes}
-use Rattle.pyx_text.specs.Machine.{Made, made_by, with_text, with_attribute, with_end, giving, ending, innermost, outer, text_at, settled}
+use Rattle.pyx_text.specs.Machine.{MadeEvents, made_by, with_text, with_attribute, with_end, giving, ending, innermost, outer, text_at, settled}
 use Rattle.pyx_text.proofs.Lists.{changed_behind, innermost_push, outer_push}
 use Rattle.pyx_text.proofs.Made.{made-settled, text_at-add}
 use Rattle.pyx_text.proofs.PyxTells.{IsApart, apart_from_false, text_kept}
@@ -30,7 +30,8 @@ given_all (attribute ∷ attributes) given before front node places made =
     let at : length front ≡ length nodes - 1 = omega (arith, length_push front last) in
     let next : AreMade (Give attribute.name attribute.value ∷ before)
     (front ++ (record node { attributes = given ++ attribute ∷ [] }) ∷ []) places =
-    ap (λ m. let made : Made = m in record { nodes = with_attribute attribute made.nodes; places = made.places }) made
+    ap (λ m. let made : MadeEvents =
+    m in record { nodes = with_attribute attribute made.nodes; places = made.places }) made
     ∙ ap (λ ns. record { nodes = ns; places = places })
     (changed_behind front last [] (length nodes - 1) (giving attribute) at) in
     given_all attributes (given ++ attribute ∷ []) (Give attribute.name attribute.value ∷ before) front node places next
@@ -67,11 +68,11 @@ ended front name attributes line inside element is =
     ∙ ap (λ node. front ++ ending (length (front ++ element ∷ within)) node ∷ within) is
     ∙ ap (λ end. front ++ element_node name attributes 0 line end ∷ within) count
 
-closed : Made → Made
+closed : MadeEvents → MadeEvents
 closed made = record { nodes = with_end (innermost made.places) made.nodes; places = outer made.places }
 
 -- what a content puts behind others
-behind : Content → Made → Made
+behind : Content → MadeEvents → MadeEvents
 behind c made = record { nodes = made.nodes ++ nodes_of c (length made.nodes); places = made.places }
 
 -- an element and what follows it
@@ -156,6 +157,6 @@ tree-made tree events written one same =
     let none : text_at events ≡ [] = sym (append-nil (text_at events)) ∙ sym (text_at-add [] events)
     ∙ ap text_at (sym same) ∙ last_text tree one in
     ap (λ t. with_text t (made_by (settled events)).nodes) (sym none)
-    ∙ ap (λ m. let made : Made = m in made.nodes) (sym (made-settled events))
+    ∙ ap (λ m. let made : MadeEvents = m in made.nodes) (sym (made-settled events))
     ∙ ap (λ es. (made_by es).nodes) (sym same)
-    ∙ ap (λ m. let made : Made = m in made.nodes) (says-made [] tree [] written tt)
+    ∙ ap (λ m. let made : MadeEvents = m in made.nodes) (says-made [] tree [] written tt)

@@ -2,3 +2,4 @@ pub mod Machine
 pub mod Reader
 pub mod Canonical
 pub mod Read
+pub mod Pieces

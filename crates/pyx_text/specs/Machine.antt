@@ -72,11 +72,11 @@ abbrev pub outer : List ℕ → List ℕ
 outer places = take (length places - 1) places
 
 -- what some lines have made: nodes, and the places of the elements that are open, the innermost last
-pub record Made : Type 0 where
+pub record MadeEvents : Type 0 where
   pub nodes : List Node
   pub places : List ℕ
 
-abbrev pub made_by : List Event → Made
+abbrev pub made_by : List Event → MadeEvents
 made_by [] = record { nodes = []; places = [] }
 made_by (Open name line ∷ before) =
     let made = made_by before in

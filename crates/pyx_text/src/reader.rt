@@ -63,7 +63,7 @@ impl PyxReader {
             IfOk result (λ nodes. read_spec.AreRead nodes text) }
         ensures fault { (text : Bytes) → spec.IsAt self text →
             IfErr result (λ stop. IsStopOf stop (pyx_spec.reading text)) }
-        ensures small { IfOk result (λ nodes. length nodes < tree_spec.node_limit) }
+        ensures small { IfOk result (λ nodes. length nodes < tree_spec.doc_node_limit) }
     {
         self.end_text(alloc)?;
         match self.machine.end_fault() {

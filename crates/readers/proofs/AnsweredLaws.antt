@@ -10,7 +10,7 @@ use Rattle.readers.specs.Noted.{answered_of, if_answered, told_asked, told_in, t
 use Rattle.readers.specs.Setting.{Setting}
 use Rattle.readers.specs.Told.{Told, document, kind, title, first, Agrees, tree_found}
 use Rattle.readers.specs.declared.questions.Note.{Note}
-use Rattle.readers.specs.declared.questions.Note.TheVariants.{Document, Kind, Title, First, Answer, Sought, Tried, TriedKey}
+use Rattle.readers.specs.declared.questions.Note.TheVariants.{Document, Kind, Title, First, Answer, PendingDocument, Pending, PendingKey}
 
 module _ (setting : Setting) (ts : List Told) where
   -- what the notes with answers tell, the newest first
@@ -21,9 +21,9 @@ module _ (setting : Setting) (ts : List Told) where
   answers (Title name topic text ∷ older) = title name topic text ∷ answers older
   answers (First name id ∷ older) = first name id ∷ answers older
   answers (Answer asked ∷ older) = told_asked setting (box_value asked) ∷ answers older
-  answers (Tried name ∷ older) = answers older
-  answers (Sought name ∷ older) = answers older
-  answers (TriedKey ∷ older) = answers older
+  answers (Pending name ∷ older) = answers older
+  answers (PendingDocument name ∷ older) = answers older
+  answers (PendingKey ∷ older) = answers older
 
   agrees_answers : (world : World) (notes : List Note) → Agrees world (told_onto setting ts notes)
       → Agrees world (answers notes)
@@ -33,9 +33,9 @@ module _ (setting : Setting) (ts : List Told) where
   agrees_answers world (Title name topic text ∷ older) agrees = (agrees.0, agrees_answers world older agrees.1)
   agrees_answers world (First name id ∷ older) agrees = (agrees.0, agrees_answers world older agrees.1)
   agrees_answers world (Answer asked ∷ older) agrees = (agrees.0, agrees_answers world older agrees.1)
-  agrees_answers world (Tried name ∷ older) agrees = agrees_answers world older agrees.1
-  agrees_answers world (Sought name ∷ older) agrees = agrees_answers world older agrees.1
-  agrees_answers world (TriedKey ∷ older) agrees = agrees_answers world older agrees.1
+  agrees_answers world (Pending name ∷ older) agrees = agrees_answers world older agrees.1
+  agrees_answers world (PendingDocument name ∷ older) agrees = agrees_answers world older agrees.1
+  agrees_answers world (PendingKey ∷ older) agrees = agrees_answers world older agrees.1
 
   agrees_all : (world : World) (notes : List Note) → Agrees world (answers notes)
       → Agrees world (told_onto setting ts notes)
@@ -45,9 +45,9 @@ module _ (setting : Setting) (ts : List Told) where
   agrees_all world (Title name topic text ∷ older) agrees = (agrees.0, agrees_all world older agrees.1)
   agrees_all world (First name id ∷ older) agrees = (agrees.0, agrees_all world older agrees.1)
   agrees_all world (Answer asked ∷ older) agrees = (agrees.0, agrees_all world older agrees.1)
-  agrees_all world (Tried name ∷ older) agrees = (tt, agrees_all world older agrees)
-  agrees_all world (Sought name ∷ older) agrees = (tt, agrees_all world older agrees)
-  agrees_all world (TriedKey ∷ older) agrees = (tt, agrees_all world older agrees)
+  agrees_all world (Pending name ∷ older) agrees = (tt, agrees_all world older agrees)
+  agrees_all world (PendingDocument name ∷ older) agrees = (tt, agrees_all world older agrees)
+  agrees_all world (PendingKey ∷ older) agrees = (tt, agrees_all world older agrees)
 
   allowed_alike : (roots : List (List ℕ)) (m : List ℕ) (notes : List Note)
       → is_allowed roots (told_onto setting ts notes) m ≡ is_allowed roots (answers notes) m
@@ -62,9 +62,9 @@ module _ (setting : Setting) (ts : List Told) where
       ap (λ b. is_among (names_given (first name id)) m || b) (allowed_alike roots m older)
   allowed_alike roots m (Answer asked ∷ older) =
       ap (λ b. is_among (names_given (told_asked setting (box_value asked))) m || b) (allowed_alike roots m older)
-  allowed_alike roots m (Tried name ∷ older) = allowed_alike roots m older
-  allowed_alike roots m (Sought name ∷ older) = allowed_alike roots m older
-  allowed_alike roots m (TriedKey ∷ older) = allowed_alike roots m older
+  allowed_alike roots m (Pending name ∷ older) = allowed_alike roots m older
+  allowed_alike roots m (PendingDocument name ∷ older) = allowed_alike roots m older
+  allowed_alike roots m (PendingKey ∷ older) = allowed_alike roots m older
 
   founded_answers : (roots : List (List ℕ)) (notes : List Note) → IsFounded roots (told_onto setting ts notes)
       → IsFounded roots (answers notes)
@@ -99,9 +99,9 @@ module _ (setting : Setting) (ts : List Told) where
     },
     founded_answers roots older founded.1,
   )
-  founded_answers roots (Tried name ∷ older) founded = founded_answers roots older founded.1
-  founded_answers roots (Sought name ∷ older) founded = founded_answers roots older founded.1
-  founded_answers roots (TriedKey ∷ older) founded = founded_answers roots older founded.1
+  founded_answers roots (Pending name ∷ older) founded = founded_answers roots older founded.1
+  founded_answers roots (PendingDocument name ∷ older) founded = founded_answers roots older founded.1
+  founded_answers roots (PendingKey ∷ older) founded = founded_answers roots older founded.1
 
 told-append : (setting : Setting) (ts : List Told) (xs ys : List Asked)
     → told_in setting ts (xs ++ ys) ≡ told_in setting (told_in setting ts xs) ys
@@ -117,9 +117,9 @@ told_by_one setting ts (Kind name answer) older is = ap (λ all. kind name answe
 told_by_one setting ts (Title name topic text) older is = ap (λ all. title name topic text ∷ all) is
 told_by_one setting ts (First name id) older is = ap (λ all. first name id ∷ all) is
 told_by_one setting ts (Answer asked) older is = ap (λ all. told_asked setting (box_value asked) ∷ all) is
-told_by_one setting ts (Tried name) older is = is
-told_by_one setting ts (Sought name) older is = is
-told_by_one setting ts TriedKey older is = is
+told_by_one setting ts (Pending name) older is = is
+told_by_one setting ts (PendingDocument name) older is = is
+told_by_one setting ts PendingKey older is = is
 
 told_by_answers : (setting : Setting) (ts : List Told) (notes : List Note)
     → told_in setting ts (answered_of (reverse notes)) ≡ answers setting ts notes

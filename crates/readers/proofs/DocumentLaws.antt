@@ -1,8 +1,8 @@
 -- Which documents are asked for by calls one after another.
 use Rattle.std.proofs.Common.{◌≡◌, ℕ, List, [], ◌∷◌, ◌++◌, IsTrue, sym, ap, subst}
-use Rattle.std.proofs.Math.Logic.{∥∥₁_elim}
+use Rattle.std.proofs.Math.Logic.{∥∥₁_elim, ⊎_elim}
 use Rattle.std.proofs.Props.{props}
-use Rattle.std.proofs.lemmas.Bool.{false≢true, or_left, or_right}
+use Rattle.std.proofs.lemmas.Bool.{false≢true, or_cases, or_left, or_right}
 use Rattle.readers.specs.Documents.{AskedBy, AsksOnly, Covers, Follows, MayAsk, documents_asked, may_ask, nothing}
 use Rattle.readers.specs.Founded.{Grows, is_among}
 use Rattle.readers.specs.Noted.{told_of, told_onto}
@@ -123,3 +123,21 @@ module _ (setting : Setting) (start : List Told) where
 
 -- what closes most claims on the documents that are asked for by a reader with notes
 pub ruleset fetching = (asks_kept, asks_put)
+
+-- a root may be asked for
+pub root_may : (rule : Follows) (roots : List (List ℕ)) (ts : List Told) (m : List ℕ) → IsTrue (is_among roots m)
+    → IsTrue (may_ask rule roots ts m)
+root_may rule roots [] m among = among
+root_may rule roots (t ∷ ts) m among = or_right (is_among (rule t) m) _ (root_may rule roots ts m among)
+
+-- nothing that the rule gives stands in front
+pub may_behind : (rule : Follows) (roots : List (List ℕ)) (t : Told) (ts : List Told) (m : List ℕ) → rule t ≡ []
+    → IsTrue (may_ask rule roots (t ∷ ts) m) → IsTrue (may_ask rule roots ts m)
+may_behind rule roots t ts m none may =
+    ⊎_elim (λ here. absurd (false≢true (subst (λ names. IsTrue (is_among names m)) none here))) (λ behind. behind)
+    (or_cases (is_among (rule t) m) (may_ask rule roots ts m) may)
+
+-- the names from which all that may be asked for is reached
+abbrev pub reach : Follows → List (List ℕ) → List Told → List (List ℕ)
+reach follows roots [] = roots
+reach follows roots (t ∷ ts) = follows t ++ reach follows roots ts

@@ -1,22 +1,14 @@
 -- The file of a reference that is read stands before the first `#` of its value.
-use Rattle.std.specs.Prelude.{◌≡◌, ◌+◌, ◌==◌, ◌&&◌, ℕ, suc, Bool, true, false, List, [], ◌∷◌, Result, Ok, Err, length, take, if◌then◌else◌}
-use Rattle.std.specs.List.{after_first, before_first, list_any, position_or_len}
-use Rattle.std.proofs.Common.{refl, sym, ◌∙◌, arith}
-use Rattle.std.proofs.lemmas.Bool.{or_parts}
+use Rattle.std.specs.Prelude.{◌≡◌, ◌==◌, ◌&&◌, ℕ, Bool, true, false, List, [], ◌∷◌, Result, Ok, Err, length, if◌then◌else◌}
+use Rattle.std.specs.List.{after_first, list_any}
+use Rattle.std.proofs.Common.{refl, sym, ◌∙◌}
 use Rattle.dita_doc.specs.Bytes.{has_bytes, is_slash, parts_by}
 use Rattle.dita_doc.specs.declared.plan.Reference.{Reference}
+use Rattle.dita_doc.proofs.CutLaws.{front_alone}
 use Rattle.href_text.specs.Reference.{is_external, is_number_sign, reference_of, reference_to, reference_with}
 use Rattle.href_text.specs.declared.fault.RefFault.{RefFault}
 use Rattle.href_text.specs.declared.fault.RefFault.TheVariants as faults
 use Rattle.map_spec.specs.Target.{file_of}
-
-front_alone : (ends : ℕ → Bool) (value : List ℕ) → list_any ends value ≡ false → before_first ends value ≡ value
-front_alone ends [] e = refl
-front_alone ends (b ∷ value) e =
-    let parts = or_parts (ends b) (list_any ends value) e in
-    let more : take (1 + position_or_len ends value) (b ∷ value) ≡ b ∷ take (position_or_len ends value) value =
-    (let one : 1 + position_or_len ends value ≡ suc (position_or_len ends value) = omega arith in rw one refl) in
-    rw (parts.0, more, front_alone ends value parts.1) refl
 
 read_to : (test : Bool) (file topic element : List ℕ) (reference : Reference)
     → (if test then Ok (record { file = file; topic = topic; element = element }) else Err faults.BadFragment)

@@ -1,5 +1,9 @@
 -- Which names are allowed, and what stays founded.
-use Rattle.std.proofs.Common.{◌≡◌, ℕ, List, [], ◌∷◌, IsTrue, false, sym, subst, refl, bytes_eq}
+use Rattle.std.specs.List.{cons_option}
+use Rattle.std.specs.Option.{option_to_list}
+use Rattle.std.specs.Prelude.{None, Option, Some}
+use Rattle.std.proofs.Common.{◌≡◌, ℕ, List, [], ◌∷◌, IsTrue, false, sym, subst, refl, bytes_eq, arith, get_or, length, suc, zero, ◌<◌, ap, ◌++◌, ◌||◌, ◌∙◌}
+use Rattle.std.proofs.Math.Bool.{or_assoc}
 use Rattle.std.proofs.Math.Logic.{⊎_elim}
 use Rattle.std.proofs.lemmas.Bool.{false≢true, or_cases, or_left, or_right}
 use Rattle.std.proofs.lemmas.Slice.Eq.{bytes_eq-Decides}
@@ -90,3 +94,32 @@ stays_one name names old new among = stays_among (name ∷ []) names old new
 
 -- what closes most claims that what was told stays founded
 pub ruleset founding = (stays_same, stays_told, stays_after, stays_one, among_first, among_behind)
+
+-- a name of a list is among its names
+pub document_among : (documents : List (List ℕ)) (at : ℕ) (name : List ℕ) → at < length documents
+    → name ≡ get_or documents at name → IsTrue (is_among documents name)
+document_among [] at name within is = absurd (omega arith)
+document_among (first ∷ documents) zero name within is =
+    subst (λ n. IsTrue (is_among (first ∷ documents) n)) (sym is) (among_first first documents)
+document_among (first ∷ documents) (suc at) name within is =
+    among_behind first documents name (document_among documents at name (omega arith) is)
+
+pub none_among : (names : List (List ℕ)) (m : List ℕ) → names ≡ [] → IsTrue (is_among names m) → ⊥
+none_among names m none among = false≢true (subst (λ ns. IsTrue (is_among ns m)) none among)
+
+pub among_append : (xs ys : List (List ℕ)) (m : List ℕ) → is_among (xs ++ ys) m ≡ is_among xs m || is_among ys m
+among_append [] ys m = refl
+among_append (x ∷ xs) ys m = ap (λ b. bytes_eq x m || b) (among_append xs ys m)
+    ∙ sym (or_assoc (bytes_eq x m) (is_among xs m) (is_among ys m))
+
+pub cons_behind : (first : Option (List ℕ)) (more : List (List ℕ)) (m : List ℕ) → IsTrue (is_among more m)
+    → IsTrue (is_among (cons_option first more) m)
+cons_behind None more m among = among
+cons_behind (Some name) more m among = or_right (bytes_eq name m) _ among
+
+pub cons_first : (first : Option (List ℕ)) (more : List (List ℕ)) (m : List ℕ)
+    → IsTrue (is_among (option_to_list first) m) → IsTrue (is_among (cons_option first more) m)
+cons_first None more m among = absurd (false≢true among)
+cons_first (Some name) more m among =
+    ⊎_elim (λ here. or_left (bytes_eq name m) _ here) (λ none. absurd (false≢true none))
+    (or_cases (bytes_eq name m) false among)

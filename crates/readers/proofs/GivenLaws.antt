@@ -1,7 +1,7 @@
 -- What documents that were told give: it may be asked about, and what their content references name may be asked for.
 use Rattle.std.proofs.Common.{◌≡◌, ◌++◌, ℕ, Bool, List, [], ◌∷◌, IsTrue, false, true, bytes_eq, codes, refl, ap, ◌∙◌}
 use Rattle.std.specs.Prelude.{Option, Some, None, option_map}
-use Rattle.std.specs.List.{cons_option, filter_map, list_any}
+use Rattle.std.specs.List.{filter_map, list_any}
 use Rattle.std.specs.Option.{option_and_then, option_to_list}
 use Rattle.std.proofs.Math.Logic.{⊎_elim}
 use Rattle.std.proofs.lemmas.Bool.{false≢true, or_cases, or_left, or_right}
@@ -13,9 +13,10 @@ use Rattle.map_spec.specs.Written.{Element, Written, End, Chars, Node, written_i
 use Rattle.readers.specs.Documents.{Covers, Follows, IsGiven, MayAsk, may_ask, of_documents}
 use Rattle.readers.specs.Founded.{AreAllowed, Grows, is_allowed, is_among, names_given}
 use Rattle.readers.specs.Named.{name_joined, name_written, names_in, names_of_element, names_of_found, references, reused_by, reused_in, reused_of_found}
-use Rattle.readers.specs.Told.{Told, document, kind, title, first, key, pushes, page_of, tried, sought}
+use Rattle.readers.specs.Told.{Told, document, kind, title, first, key, pushes, page_of, pending, pending_document}
 use Rattle.readers.proofs.AmongLaws.{among_back, among_either, among_front}
 use Rattle.readers.proofs.DocumentLaws.{all_before, covers_same, follows_may, none_may}
+use Rattle.readers.proofs.FoundedLaws.{cons_behind, cons_first}
 
 -- What may be asked for by what documents give
 
@@ -43,8 +44,8 @@ allowed_by roots (t ∷ ts) m may = ⊎_elim (λ here. or_left (is_among (names_
     given (key nodes scope text answer) among = absurd (false≢true among)
     given (pushes documents name answer) among = absurd (false≢true among)
     given (page_of pages name context answer) among = absurd (false≢true among)
-    given (tried names) among = absurd (false≢true among)
-    given (sought name) among = absurd (false≢true among)
+    given (pending names) among = absurd (false≢true among)
+    given (pending_document name) among = absurd (false≢true among)
 
 -- Content of which documents that were told give all
 
@@ -81,18 +82,6 @@ reused_may rule roots ts found covers given =
     record { each = λ m among. may_by rule (of_documents reused_by) roots ts m covers (given.reused.each m among) }
 
 -- What content references name is among what references do
-
-cons_behind : (h : Option (List ℕ)) (xs : List (List ℕ)) (m : List ℕ) → IsTrue (is_among xs m)
-    → IsTrue (is_among (cons_option h xs) m)
-cons_behind None xs m among = among
-cons_behind (Some name) xs m among = or_right (bytes_eq name m) _ among
-
-cons_first : (h : Option (List ℕ)) (xs : List (List ℕ)) (m : List ℕ) → IsTrue (is_among (option_to_list h) m)
-    → IsTrue (is_among (cons_option h xs) m)
-cons_first None xs m among = absurd (false≢true among)
-cons_first (Some name) xs m among =
-    ⊎_elim (λ here. or_left (bytes_eq name m) _ here) (λ no. absurd (false≢true no))
-    (or_cases (bytes_eq name m) false among)
 
 -- what the first attribute of a name gives is among what all references do
 pub first_among : (name doc : List ℕ) (attributes : List Attribute) (m : List ℕ)

@@ -7,9 +7,9 @@ use Rattle.reader_spec.specs.World.{World}
 use Rattle.readers.specs.Founded.{AreAllowed, Carries, Grows, IsFounded, StaysFounded, is_allowed, is_among, names_asked, names_given}
 use Rattle.readers.specs.Noted.{told_of, told_onto}
 use Rattle.readers.specs.Setting.{Setting}
-use Rattle.readers.specs.Told.{Told, document, tried, Holds, Knows}
+use Rattle.readers.specs.Told.{Told, document, pending, Holds, Knows}
 use Rattle.readers.specs.declared.questions.Note.{Note}
-use Rattle.readers.specs.declared.questions.Note.TheVariants.{Tried}
+use Rattle.readers.specs.declared.questions.Note.TheVariants.{Pending}
 use Rattle.readers.proofs.FoundedLaws.{given_allowed, none_allowed, stays_same, stays_told}
 use Rattle.readers.proofs.GrowthLaws.{agrees_before, allowed_before, grows_equal, grows_one, grows_same, grows_trans, told_answer}
 
@@ -37,7 +37,7 @@ carries_more below below' above carried grows founded = record {
 
 -- a question was put, and then the reader below was asked about its documents
 pub carries_asked : (names : List (List ℕ)) (below below' above above' : List Told) → Carries below above
-    → above' ≡ tried names ∷ above → Grows below below' → StaysFounded names below below' → Carries below' above'
+    → above' ≡ pending names ∷ above → Grows below below' → StaysFounded names below below' → Carries below' above'
 carries_asked names below below' above above' carried put grows stays =
     subst (Carries below') (sym put) (record {
       agrees = λ world a. (tt, carried.agrees world (agrees_before world below below' grows a));
@@ -55,10 +55,10 @@ allowed_with t roots below above m given before allowed =
 
 -- a question that was put gets its answer
 pub carries_settled : (t : Told) (below older above above' : List Told) → Carries below above
-    → above ≡ tried (names_asked t) ∷ older → above' ≡ t ∷ older → Knows below (λ world. Holds world t)
+    → above ≡ pending (names_asked t) ∷ older → above' ≡ t ∷ older → Knows below (λ world. Holds world t)
     → ((roots : List (List ℕ)) → AreAllowed roots below (names_given t)) → Carries below above'
 carries_settled t below older above above' carried was is known given =
-    let before : Carries below (tried (names_asked t) ∷ older) = subst (Carries below) was carried in
+    let before : Carries below (pending (names_asked t) ∷ older) = subst (Carries below) was carried in
     subst (Carries below) (sym is) (record {
       agrees = λ world a. (known world a, (before.agrees world a).1);
       allowed = λ roots m. allowed_with t roots below older m (given roots) (before.allowed roots m);
@@ -125,7 +125,7 @@ module _ (setting : Setting) (start : List Told) where
       ⊎_elim (stays_kept names old new) (stays_put note names old new asked) either
 
   pub note_asked : (put : Note) (names : List (List ℕ)) (below below' : List Told) (notes notes' : List Note)
-      → Carries below (told_onto setting start notes) → told_of setting put ≡ tried names → notes' ≡ put ∷ notes
+      → Carries below (told_onto setting start notes) → told_of setting put ≡ pending names → notes' ≡ put ∷ notes
       → Grows below below' → StaysFounded names below below' → Carries below' (told_onto setting start notes')
   note_asked put names below below' notes notes' carried about is grows stays =
       carries_asked names below below' (told_onto setting start notes) _ carried
@@ -133,16 +133,16 @@ module _ (setting : Setting) (start : List Told) where
 
   -- a document is tried, and then the reader below is asked about it
   pub tried_asked : (name tried_name : List ℕ) (below below' : List Told) (notes notes' : List Note)
-      → Carries below (told_onto setting start notes) → tried_name ≡ name → notes' ≡ Tried tried_name ∷ notes
+      → Carries below (told_onto setting start notes) → tried_name ≡ name → notes' ≡ Pending tried_name ∷ notes
       → Grows below below' → StaysFounded (name ∷ []) below below' → Carries below' (told_onto setting start notes')
   tried_asked name tried_name below below' notes notes' carried same is =
-      note_asked (Tried tried_name) (name ∷ []) below below' notes notes' carried
-      (ap (λ n. tried (n ∷ [])) same) is
+      note_asked (Pending tried_name) (name ∷ []) below below' notes notes' carried
+      (ap (λ n. pending (n ∷ [])) same) is
 
   -- the question that was put gets its answer
   pub note_settled : (t : Told) (put note : Note) (below : List Told) (older notes notes' : List Note)
       → Carries below (told_onto setting start notes) → notes ≡ put ∷ older
-      → told_of setting put ≡ tried (names_asked t) → told_of setting note ≡ t → notes' ≡ note ∷ drop 1 notes
+      → told_of setting put ≡ pending (names_asked t) → told_of setting note ≡ t → notes' ≡ note ∷ drop 1 notes
       → Knows below (λ world. Holds world t) → ((roots : List (List ℕ)) → AreAllowed roots below (names_given t))
       → Carries below (told_onto setting start notes')
   note_settled t put note below older notes notes' carried was about tells is known given =
@@ -153,18 +153,18 @@ module _ (setting : Setting) (start : List Told) where
 
   -- a document is told that the reader below told last
   pub document_settled : (name : List ℕ) (tree : Option Content) (note : Note) (before below : List Told)
-      (older notes notes' : List Note) → Carries below (told_onto setting start notes) → notes ≡ Tried name ∷ older
+      (older notes notes' : List Note) → Carries below (told_onto setting start notes) → notes ≡ Pending name ∷ older
       → told_of setting note ≡ document name tree → notes' ≡ note ∷ drop 1 notes
       → below ≡ document name tree ∷ before → Carries below (told_onto setting start notes')
   document_settled name tree note before below older notes notes' carried was tells is told =
-      note_settled (document name tree) (Tried name) note below older notes notes' carried was refl tells is
+      note_settled (document name tree) (Pending name) note below older notes notes' carried was refl tells is
       (λ world. told_answer world (document name tree) before below told)
       (λ roots. given_allowed roots (document name tree) before below told)
 
   -- an answer that names no document is told: a kind, a title, an id or a page
   pub plain_settled : (t : Told) (put note : Note) (below : List Told) (older notes notes' : List Note)
       → Carries below (told_onto setting start notes) → notes ≡ put ∷ older
-      → told_of setting put ≡ tried (names_asked t) → told_of setting note ≡ t → names_given t ≡ []
+      → told_of setting put ≡ pending (names_asked t) → told_of setting note ≡ t → names_given t ≡ []
       → notes' ≡ note ∷ drop 1 notes → Knows below (λ world. Holds world t)
       → Carries below (told_onto setting start notes')
   plain_settled t put note below older notes notes' carried was about tells plain is known =
@@ -195,3 +195,16 @@ pub ruleset putting = (grows_kept, grows_put, grows_settled, grows_tried)
 
 -- what closes most claims that what was told to a reader with notes stays founded
 pub ruleset keeping = (stays_kept, stays_put, stays_settled, stays_tried)
+
+-- the note that was put is told
+pub told_put : (setting : Setting) (start : List Told) (t : Told) (note : Note) (old new : List Note)
+    → told_of setting note ≡ t → new ≡ note ∷ old → told_onto setting start new ≡ t ∷ told_onto setting start old
+told_put setting start t note old new tells is =
+    ap (told_onto setting start) is ∙ ap (λ t. t ∷ told_onto setting start old) tells
+
+-- the note that was written over the one that was put is told
+pub told_settled : (setting : Setting) (start : List Told) (t : Told) (put note : Note) (old between new : List Note)
+    → told_of setting note ≡ t → between ≡ put ∷ old → new ≡ note ∷ drop 1 between
+    → told_onto setting start new ≡ t ∷ told_onto setting start old
+told_settled setting start t put note old between new tells was is =
+    told_put setting start t note old new tells (is ∙ ap (λ notes. note ∷ drop 1 notes) was)

@@ -10,3 +10,4 @@ pub mod FetchLaws
 pub mod FileLaws
 pub mod AmongLaws
 pub mod GivenLaws
+pub mod Rules

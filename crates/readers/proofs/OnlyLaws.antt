@@ -1,5 +1,5 @@
 -- Which questions are told by calls one after another.
-use Rattle.std.proofs.Common.{◌≡◌, ◌++◌, ◌||◌, ℕ, Bool, false, List, [], ◌∷◌, Option, IsTrue, Result, Ok, Err, IfOk, sym, ap, subst, refl, ◌∙◌, append_assoc}
+use Rattle.std.proofs.Common.{◌≡◌, ◌++◌, ◌||◌, ℕ, Bool, false, List, [], ◌∷◌, Option, IsTrue, Result, Ok, Err, IfOk, map, sym, ap, subst, refl, ◌∙◌, append_assoc}
 use Rattle.std.proofs.Math.Logic.{∥∥₁_elim}
 use Rattle.std.proofs.lemmas.Bool.{and_from, and_parts, false≢true, or_left, or_right}
 use Rattle.std.proofs.lemmas.List.Folds.{list_all-append}
@@ -7,12 +7,16 @@ use Rattle.std.proofs.lemmas.Result.{IfOk-weaker}
 use Rattle.std.proofs.lemmas.Slice.Eq.{bytes_eq-Decides}
 use Rattle.std.specs.List.{list_all}
 use Rattle.dita_doc.specs.Tree.{Content}
+use Rattle.dita_doc.specs.declared.content.Push.{Push}
+use Rattle.dita_doc.specs.declared.content.PushList.{PushList}
 use Rattle.dita_doc.specs.declared.plan.Reference.{Reference}
 use Rattle.dita_doc.specs.declared.plan.Target.{Target}
 use Rattle.dita_doc.specs.declared.plan.Target.TheVariants as targets
+use Rattle.map_spec.specs.Pushes.{pushes_into}
+use Rattle.reader_spec.specs.World.{World}
 use Rattle.readers.specs.Founded.{Grows, is_among}
-use Rattle.readers.specs.Only.{TellsOnly, is_document_of, is_title_at, is_title_of}
-use Rattle.readers.specs.Told.{Told, document, kind, title, first, key, pushes, page_of, tried, sought}
+use Rattle.readers.specs.Only.{TellsOnly, is_document_of, is_of_pushed, is_pushes_of, is_title_at, is_title_of, sources_of}
+use Rattle.readers.specs.Told.{Told, document, kind, title, first, key, pushes, page_of, pending, pending_document}
 use Rattle.readers.proofs.FoundedLaws.{among_first, among_one}
 
 pub only_same : (test : Told → Bool) (old new : List Told) → new ≡ old → TellsOnly test old new
@@ -36,7 +40,8 @@ only_after test a b c before next = record {
   ) ∣₁));
 }
 
-all_weaker : {X : Type 0} (less more : X → Bool) → ((x : X) → IsTrue (less x) → IsTrue (more x)) → (xs : List X)
+-- all pass a test that lets more through
+pub all_weaker : {X : Type 0} (less more : X → Bool) → ((x : X) → IsTrue (less x) → IsTrue (more x)) → (xs : List X)
     → IsTrue (list_all less xs) → IsTrue (list_all more xs)
 all_weaker less more each [] all = refl
 all_weaker less more each (x ∷ xs) all = let parts = and_parts (less x) (list_all less xs) all in
@@ -76,8 +81,8 @@ documents_among some names among (first name id) here = absurd (false≢true her
 documents_among some names among (key nodes scope text answer) here = absurd (false≢true here)
 documents_among some names among (pushes documents name answer) here = absurd (false≢true here)
 documents_among some names among (page_of pages name context answer) here = absurd (false≢true here)
-documents_among some names among (tried about) here = all_weaker (is_among some) (is_among names) among about here
-documents_among some names among (sought name) here = among name here
+documents_among some names among (pending about) here = all_weaker (is_among some) (is_among names) among about here
+documents_among some names among (pending_document name) here = among name here
 
 -- a call that asks for one of the documents
 pub only_one : (name : List ℕ) (names : List (List ℕ)) (old new : List Told) → IsTrue (is_among names name)
@@ -92,6 +97,32 @@ document_is_of name tree = among_first name []
 -- the title of this topic is asked for
 pub title_is_of : (name topic text : List ℕ) → IsTrue (is_title_of name topic (title name topic text))
 title_is_of name topic text = and_from _ _ ((bytes_eq-Decides name name).1 refl) ((bytes_eq-Decides topic topic).1 refl)
+
+-- What a document with the pushes into it asks for
+
+module _ (world : World) (documents : List (List ℕ)) (name : List ℕ) where
+  -- the document
+  pub pushed_document : (tree : Option Content) (old new : List Told) → new ≡ document name tree ∷ old
+      → TellsOnly (is_of_pushed world documents name) old new
+  pushed_document tree old new = only_told _ (document name tree) old new
+      (or_left (is_among (name ∷ sources_of world documents name) name) _
+      (among_first name (sources_of world documents name)))
+
+  -- the pushes into it
+  pub pushed_pushes : (answer : PushList) (old new : List Told) → new ≡ pushes documents name answer ∷ old
+      → TellsOnly (is_of_pushed world documents name) old new
+  pushed_pushes answer old new = only_told _ (pushes documents name answer) old new
+      (or_right false (is_among (name ∷ []) name) (among_first name []))
+
+  -- the documents from which pushes come that are those of the world
+  pub pushed_sources : (answer : PushList) (old new : List Told) → pushes_into world documents name ≡ answer
+      → TellsOnly (is_document_of (name ∷ map (λ (push : Push). push.from) answer.pushes)) old new
+      → TellsOnly (is_of_pushed world documents name) old new
+  pushed_sources answer old new is only =
+      only_weaker (is_document_of (name ∷ sources_of world documents name)) (is_of_pushed world documents name) old new
+      (λ t here. or_left (is_document_of (name ∷ sources_of world documents name) t) (is_pushes_of (name ∷ []) t) here)
+      (subst (λ (list : PushList). TellsOnly (is_document_of (name ∷ map (λ (push : Push). push.from) list.pushes)) old new)
+      (sym is) only)
 
 -- The same of a call that ends with a value, of which the test may speak
 

@@ -4,16 +4,16 @@ use Rattle.dita_doc.specs.Tree.{Content}
 use Rattle.readers.specs.Founded.{Carries, Grows, StaysFounded}
 use Rattle.readers.specs.Noted.{told_of, told_onto}
 use Rattle.readers.specs.Setting.{Setting}
-use Rattle.readers.specs.Told.{Told, document, sought}
+use Rattle.readers.specs.Told.{Told, document, pending_document}
 use Rattle.readers.specs.declared.questions.Note.{Note}
-use Rattle.readers.specs.declared.questions.Note.TheVariants.{Sought}
+use Rattle.readers.specs.declared.questions.Note.TheVariants.{PendingDocument}
 use Rattle.readers.proofs.FoundedLaws.{given_allowed}
 use Rattle.readers.proofs.GrowthLaws.{agrees_before, allowed_before, told_answer}
 use Rattle.readers.proofs.LayerLaws.{allowed_with}
 
 -- it was sought, and then the reader below was asked for it
 pub carries_sought : (name : List ℕ) (below below' above above' : List Told) → Carries below above
-    → above' ≡ sought name ∷ above → Grows below below' → StaysFounded (name ∷ []) below below'
+    → above' ≡ pending_document name ∷ above → Grows below below' → StaysFounded (name ∷ []) below below'
     → Carries below' above'
 carries_sought name below below' above above' carried put grows stays =
     subst (Carries below') (sym put) (record {
@@ -25,11 +25,11 @@ carries_sought name below below' above above' carried put grows stays =
 
 -- it is told that the reader below told last
 pub carries_found : (name : List ℕ) (tree : Option Content) (before below older above above' : List Told)
-    → Carries below above → above ≡ sought name ∷ older → above' ≡ document name tree ∷ older
+    → Carries below above → above ≡ pending_document name ∷ older → above' ≡ document name tree ∷ older
     → below ≡ document name tree ∷ before → Carries below above'
 carries_found name tree before below older above above' carried was is told =
     let t = document name tree in
-    let sought_before : Carries below (sought name ∷ older) = subst (Carries below) was carried in
+    let sought_before : Carries below (pending_document name ∷ older) = subst (Carries below) was carried in
     subst (Carries below) (sym is) (record {
       agrees = λ world a. (told_answer world t before below told a, (sought_before.agrees world a).1);
       allowed = λ roots m. allowed_with t roots below older m (given_allowed roots t before below told)
@@ -39,14 +39,16 @@ carries_found name tree before below older above above' carried was is told =
 
 module _ (setting : Setting) (start : List Told) where
   pub sought_asked : (name sought_name : List ℕ) (below below' : List Told) (notes notes' : List Note)
-      → Carries below (told_onto setting start notes) → sought_name ≡ name → notes' ≡ Sought sought_name ∷ notes
+      → Carries below (told_onto setting start notes) → sought_name ≡ name
+      → notes' ≡ PendingDocument sought_name ∷ notes
       → Grows below below' → StaysFounded (name ∷ []) below below' → Carries below' (told_onto setting start notes')
   sought_asked name sought_name below below' notes notes' carried same is =
       carries_sought name below below' (told_onto setting start notes) _ carried
-      (ap (told_onto setting start) is ∙ ap (λ n. sought n ∷ told_onto setting start notes) same)
+      (ap (told_onto setting start) is ∙ ap (λ n. pending_document n ∷ told_onto setting start notes) same)
 
   pub sought_settled : (name : List ℕ) (tree : Option Content) (note : Note) (before below : List Told)
-      (older notes notes' : List Note) → Carries below (told_onto setting start notes) → notes ≡ Sought name ∷ older
+      (older notes notes' : List Note) → Carries below (told_onto setting start notes)
+      → notes ≡ PendingDocument name ∷ older
       → told_of setting note ≡ document name tree → notes' ≡ note ∷ drop 1 notes
       → below ≡ document name tree ∷ before → Carries below (told_onto setting start notes')
   sought_settled name tree note before below older notes notes' carried was tells is told =

@@ -5,36 +5,27 @@ use Rattle.std.specs.Borrow.{Bor}
 use Rattle.std.specs.Cmp.Lexicographic.{slice_cmp}
 use Rattle.std.specs.Map.{lookup}
 use Rattle.std.specs.Option.{option_copied}
-use Rattle.std.specs.Ordering.{is_eq, match_ordering, nat_cmp, ordering_then}
+use Rattle.std.specs.Ordering.{match_ordering, nat_cmp, ordering_then}
 use Rattle.dita_doc.proofs.NameOrder.{same_from_equal}
+use Rattle.dita_doc.proofs.Orders.{both_equal, equal_test}
 use Rattle.map_spec.specs.Titles.{title_in}
 use Rattle.reader_spec.specs.World.{World}
 use Rattle.readers.specs.Titled.{AreTitles, IsTitle, Titled}
-use Rattle.readers.specs.declared.title_table.TopicAt.{TopicAt}
+use Rattle.readers.specs.declared.title_table.TitleKey.{TitleKey}
 
 -- the order of topics
-abbrev order : TopicAt → TopicAt → Ordering
+abbrev order : TitleKey → TitleKey → Ordering
 order a b = ordering_then (slice_cmp nat_cmp a.name b.name) (slice_cmp nat_cmp a.topic b.topic)
 
-both_equal : (x y : Ordering) → ordering_then x y ≡ Equal → (x ≡ Equal) × (y ≡ Equal)
-both_equal Equal y same = (refl, same)
-both_equal Less y same = cc
-both_equal Greater y same = cc
-
 -- topics that the order takes for one have one title
-title_of_equal : (world : World) (a b : TopicAt) (text : List ℕ) → order a b ≡ Equal → IsTitle world (b, text)
+title_of_equal : (world : World) (a b : TitleKey) (text : List ℕ) → order a b ≡ Equal → IsTitle world (b, text)
     → IsTitle world (a, text)
 title_of_equal world a b text equal title =
     let parts = both_equal (slice_cmp nat_cmp a.name b.name) (slice_cmp nat_cmp a.topic b.topic) equal in
     subst (λ name. title_in world name a.topic ≡ text) (sym (same_from_equal a.name b.name parts.0))
     (subst (λ topic. title_in world b.name topic ≡ text) (sym (same_from_equal a.topic b.topic parts.1)) title)
 
-equal_test : (o : Ordering) → is_eq o ≡ true → o ≡ Equal
-equal_test Equal same = refl
-equal_test Less same = cc
-equal_test Greater same = cc
-
-pub title_found : (world : World) (topic : TopicAt) (all : List Titled) → AreTitles world all
+pub title_found : (world : World) (topic : TitleKey) (all : List Titled) → AreTitles world all
     → IfSome (lookup (is_at (order topic)) all) (λ text. IsTitle world (topic, text))
 title_found world topic [] titles = tt
 title_found world topic (titled ∷ more) titles =
@@ -47,7 +38,7 @@ title_found world topic (titled ∷ more) titles =
         title_of_equal world topic titled.0 titled.1 (equal_test (order topic titled.0) same) titles.0
     by_test behind false same = behind
 
-pub title_put : (world : World) (topic : TopicAt) (text : List ℕ) (all : List Titled) → AreTitles world all
+pub title_put : (world : World) (topic : TitleKey) (text : List ℕ) (all : List Titled) → AreTitles world all
     → IsTitle world (topic, text) → AreTitles world (insert_entry order all topic text)
 title_put world topic text [] titles title = (title, tt)
 title_put world topic text (titled ∷ more) titles title =
@@ -73,13 +64,13 @@ text_found P None text is holds = tt
 text_found P (Some t) text is holds = subst (λ o. IfSome o P) (sym is) holds
 
 -- the title of a topic, said of the same topic
-pub title_moved : (world : World) (at : TopicAt) (name topic text copy : List ℕ) → at.name ≡ name → at.topic ≡ topic
+pub title_moved : (world : World) (at : TitleKey) (name topic text copy : List ℕ) → at.name ≡ name → at.topic ≡ topic
     → copy ≡ text → title_in world at.name at.topic ≡ text → title_in world name topic ≡ copy
 title_moved world at name topic text copy of_name of_topic same title =
     subst (λ n. title_in world n topic ≡ copy) of_name
     (subst (λ t. title_in world at.name t ≡ copy) of_topic (title ∙ sym same))
 
-pub title_at : (world : World) (at : TopicAt) (name topic text copy : List ℕ) → at.name ≡ name → at.topic ≡ topic
+pub title_at : (world : World) (at : TitleKey) (name topic text copy : List ℕ) → at.name ≡ name → at.topic ≡ topic
     → copy ≡ text → title_in world name topic ≡ text → title_in world at.name at.topic ≡ copy
 title_at world at name topic text copy of_name of_topic same title =
     subst (λ n. title_in world n at.topic ≡ copy) (sym of_name)

@@ -5,7 +5,7 @@ use Rattle.dita_doc.specs.declared.content.Push.{Push}
 use Rattle.map_spec.specs.Written.{Element, Written, written_in}
 use Rattle.readers.specs.Founded.{is_among}
 use Rattle.readers.specs.Named.{given_in_found, names_of_element, names_of_found, reused_by, reused_of_found}
-use Rattle.readers.specs.Told.{Told, document, kind, title, first, key, pushes, page_of, tried, sought}
+use Rattle.readers.specs.Told.{Told, document, kind, title, first, key, pushes, page_of, pending, pending_document}
 
 -- the document that a question asks for
 abbrev pub documents_asked : Told → List (List ℕ)
@@ -16,8 +16,8 @@ documents_asked (first name id) = []
 documents_asked (key nodes scope text answer) = []
 documents_asked (pushes documents name answer) = []
 documents_asked (page_of pages name context answer) = []
-documents_asked (tried names) = []
-documents_asked (sought name) = name ∷ []
+documents_asked (pending names) = []
+documents_asked (pending_document name) = name ∷ []
 
 -- the documents that follow from what was told
 abbrev pub Follows : Type 0
@@ -35,8 +35,8 @@ of_pushes (first name id) = []
 of_pushes (key nodes scope text answer) = []
 of_pushes (pushes documents name answer) = map (λ (push : Push). push.from) answer.pushes
 of_pushes (page_of pages name context answer) = []
-of_pushes (tried names) = []
-of_pushes (sought name) = []
+of_pushes (pending names) = []
+of_pushes (pending_document name) = []
 
 -- those that a document gives, each element by itself
 abbrev pub of_documents : (Element → List (List ℕ)) → Follows
@@ -47,8 +47,8 @@ of_documents names (first name id) = []
 of_documents names (key nodes scope text answer) = []
 of_documents names (pushes documents name answer) = []
 of_documents names (page_of pages name context answer) = []
-of_documents names (tried names') = []
-of_documents names (sought name) = []
+of_documents names (pending names') = []
+of_documents names (pending_document name) = []
 
 -- a document may be asked for: it is a root, or follows from an answer
 abbrev pub may_ask : Follows → List (List ℕ) → List Told → List ℕ → Bool

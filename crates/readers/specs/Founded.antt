@@ -8,7 +8,7 @@ use Rattle.map_spec.specs.Pages.{local_name}
 use Rattle.map_spec.specs.Written.{written_in}
 use Rattle.reader_spec.specs.World.{World}
 use Rattle.readers.specs.Named.{names_of_found}
-use Rattle.readers.specs.Told.{Told, document, kind, title, first, key, pushes, page_of, tried, sought, Agrees}
+use Rattle.readers.specs.Told.{Told, document, kind, title, first, key, pushes, page_of, pending, pending_document, Agrees}
 
 -- the documents in which nodes stand
 abbrev pub homes : List PlanNode → List (List ℕ)
@@ -23,8 +23,8 @@ names_asked (first name id) = name ∷ []
 names_asked (key nodes scope text answer) = homes nodes
 names_asked (pushes documents name answer) = name ∷ []
 names_asked (page_of pages name context answer) = name ∷ []
-names_asked (tried names) = names
-names_asked (sought name) = name ∷ []
+names_asked (pending names) = names
+names_asked (pending_document name) = name ∷ []
 
 -- the documents that an answer names
 abbrev pub names_given : Told → List (List ℕ)
@@ -35,8 +35,8 @@ names_given (first name id) = []
 names_given (key nodes scope text answer) = option_to_list (local_name answer.target)
 names_given (pushes documents name answer) = map (λ (push : Push). push.from) answer.pushes
 names_given (page_of pages name context answer) = []
-names_given (tried names) = []
-names_given (sought name) = []
+names_given (pending names) = []
+names_given (pending_document name) = []
 
 abbrev pub is_among : List (List ℕ) → List ℕ → Bool
 is_among [] m = false

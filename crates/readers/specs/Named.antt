@@ -1,11 +1,12 @@
 -- Documents whose nodes were written in several documents (own): each node under the name at its origin's place.
-use Rattle.std.specs.Prelude.{ℕ, List, [], ◌∷◌, ◌++◌, Option, option_map, slice_get, unwrap_or, bytes_eq, codes, if◌then◌else◌, None, Some}
+use Rattle.std.specs.Prelude.{ℕ, List, [], ◌∷◌, ◌++◌, Option, option_map, slice_get, unwrap_or, bytes_eq, codes, if◌then◌else◌, None, Some, ◌≡◌}
 use Rattle.std.specs.List.{filter_map, list_any}
 use Rattle.std.specs.Option.{option_and_then, option_to_list}
 use Rattle.std.specs.declared.alloc.Global.{Global}
 use Rattle.std.specs.declared.sync.Arc.{Arc}
 use Rattle.dita_doc.specs.Tree as tree
 use Rattle.dita_doc.specs.Tree.{Content, tree_of}
+use Rattle.dita_doc.specs.declared.content.Resolved.{Resolved}
 use Rattle.dita_doc.specs.declared.doc.Attribute.{Attribute}
 use Rattle.dita_doc.specs.declared.doc.Doc.{Doc}
 use Rattle.href_text.specs.Joined.{joined}
@@ -18,16 +19,16 @@ use Rattle.readers.specs.Told.{doc_of}
 abbrev pub name_at : List (List ℕ) → ℕ → List ℕ
 name_at names place = unwrap_or (slice_get names place) []
 
-abbrev pub named : List (List ℕ) → Content → Written
-named names tree.End = End
-named names (tree.Chars text origin line rest) = Chars text (name_at names origin) (named names rest)
-named names (tree.Element name attributes origin line inside rest) =
+abbrev pub under_names : List (List ℕ) → Content → Written
+under_names names tree.End = End
+under_names names (tree.Chars text origin line rest) = Chars text (name_at names origin) (under_names names rest)
+under_names names (tree.Element name attributes origin line inside rest) =
     let doc = name_at names origin in
     Node (record { name = name; attributes = attributes; doc = doc; line = line; href_doc = doc })
-    (named names inside) (named names rest)
+    (under_names names inside) (under_names names rest)
 
 abbrev pub named_tree : Doc → Written
-named_tree doc = named doc.origins (tree_of doc.nodes)
+named_tree doc = under_names doc.origins (tree_of doc.nodes)
 
 abbrev pub named_found : Option (Arc Doc Global) → Option Written
 named_found found = option_map named_tree (doc_of found)
@@ -77,9 +78,20 @@ reused_of_found found = given_in_found reused_by found
 
 -- The documents that hrefs are joined to, each seen from the document in which it was written
 
-abbrev pub linked_by : Element → List (List ℕ)
-linked_by element =
+abbrev pub link_names : Element → List (List ℕ)
+link_names element =
     option_to_list (option_and_then (name_joined element.href_doc) (attribute (codes "href") element))
 
 abbrev pub linked_in : Written → List (List ℕ)
-linked_in nodes = given_in linked_by nodes
+linked_in nodes = given_in link_names nodes
+
+-- nodes of which each has its href from its own document
+abbrev pub with_own_hrefs : Written → Written
+with_own_hrefs End = End
+with_own_hrefs (Chars text doc rest) = Chars text doc (with_own_hrefs rest)
+with_own_hrefs (Node element inside rest) =
+    Node (record element { href_doc = element.doc }) (with_own_hrefs inside) (with_own_hrefs rest)
+
+-- these nodes are those of the body, wherever their hrefs were written
+abbrev pub AreNodesOf : Resolved → Written → Type 0
+AreNodesOf body nodes = with_own_hrefs nodes ≡ named_tree body.doc

@@ -12,7 +12,7 @@ use Rattle.readers.specs.declared.questions.Note.{Note}
 use Rattle.readers.specs.declared.questions.Note.TheVariants as notes
 use Rattle.readers.specs.Founded.{homes}
 use Rattle.readers.specs.Setting.{Setting}
-use Rattle.readers.specs.Told.{Told, document, kind, title, first, key, pushes, page_of, tried, sought, tree_found}
+use Rattle.readers.specs.Told.{Told, document, kind, title, first, key, pushes, page_of, pending, pending_document, tree_found}
 
 -- a question with an answer of another kind tells nothing
 abbrev pub told_by : Setting → Question → Answered → Told
@@ -25,7 +25,7 @@ told_by setting (questions.Pushes name) (answers.Pushes made faults) =
     pushes setting.documents name (record { pushes = made; faults = faults })
 told_by setting (questions.PageOf name context) (answers.PageOf place) =
     page_of setting.pages name (arc_value context).page place
-told_by setting question answer = tried []
+told_by setting question answer = pending []
 
 abbrev pub told_of : Setting → Note → Told
 told_of setting (notes.Document name found) = document name (tree_found found)
@@ -33,9 +33,9 @@ told_of setting (notes.Kind name answer) = kind name answer
 told_of setting (notes.Title name topic text) = title name topic text
 told_of setting (notes.First name id) = first name id
 told_of setting (notes.Answer asked) = told_by setting (box_value asked).question (box_value asked).answered
-told_of setting (notes.Tried name) = tried (name ∷ [])
-told_of setting (notes.Sought name) = sought name
-told_of setting notes.TriedKey = tried (homes setting.nodes)
+told_of setting (notes.Pending name) = pending (name ∷ [])
+told_of setting (notes.PendingDocument name) = pending_document name
+told_of setting notes.PendingKey = pending (homes setting.nodes)
 
 abbrev pub told_onto : Setting → List Told → List Note → List Told
 told_onto setting ts [] = ts

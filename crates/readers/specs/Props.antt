@@ -11,9 +11,10 @@ use Rattle.dita_doc.specs.declared.plan.PlanNode.{PlanNode}
 use Rattle.dita_doc.specs.declared.question.DocKind.{DocKind}
 use Rattle.dita_doc.proofs.TreeLaws.{content_of_nodes}
 use Rattle.reader_spec.specs.World.{World}
+use Rattle.readers.specs.Documents.{AskedBy, Follows, MayAsk, documents_asked}
 use Rattle.readers.specs.Founded.{AreAllowed, Carries, IsFounded, names_asked}
 use Rattle.readers.specs.Setting.{Stand}
-use Rattle.readers.specs.Told.{Told, document, kind, title, first, key, pushes, page_of, tried, sought, Holds, Agrees, Knows}
+use Rattle.readers.specs.Told.{Told, document, kind, title, first, key, pushes, page_of, pending, pending_document, Holds, Agrees, Knows}
 
 node_code : Coded Node
 node_code = hlevel codes
@@ -43,8 +44,8 @@ Holds-prop world (first name id) = Coded-set text_code _ _
 Holds-prop world (key nodes scope text answer) = Coded-set key_code _ _
 Holds-prop world (pushes documents name answer) = Coded-set push_code _ _
 Holds-prop world (page_of pages name context answer) = Coded-set (coded_option coded_ℕ) _ _
-Holds-prop world (tried names) = Unit-prop
-Holds-prop world (sought name) = Unit-prop
+Holds-prop world (pending names) = Unit-prop
+Holds-prop world (pending_document name) = Unit-prop
 
 pub Agrees-prop : (world : World) (ts : List Told) → IsProp (Agrees world ts)
 Agrees-prop world [] = Unit-prop
@@ -81,3 +82,11 @@ Carries-prop below above = hlevel (props, Agrees-prop, IsFounded-prop)
 
 pub Knows-prop : (ts : List Told) (P : World → Type 0) → ((world : World) → IsProp (P world)) → IsProp (Knows ts P)
 Knows-prop ts P each = hlevel each
+
+pub AskedBy-prop : (rule : Follows) (roots : List (List ℕ)) (ts : List Told) → IsProp (AskedBy rule roots ts)
+AskedBy-prop rule roots [] = Unit-prop
+AskedBy-prop rule roots (t ∷ ts) = ×_prop (may_prop rule roots ts (documents_asked t)) (AskedBy-prop rule roots ts)
+  where
+    may_prop : (rule : Follows) (roots : List (List ℕ)) (ts : List Told) (names : List (List ℕ))
+        → IsProp (MayAsk rule roots ts names)
+    may_prop rule roots ts names = hlevel props

@@ -3,10 +3,10 @@ use Rattle.std.specs.Prelude.{◌≡◌, ℕ, List, [], ◌∷◌}
 use Rattle.std.specs.Coded.{Coded-set, coded_list, coded_ℕ, ×_prop, Unit-prop}
 use Rattle.map_spec.specs.Titles.{title_in}
 use Rattle.reader_spec.specs.World.{World}
-use Rattle.readers.specs.declared.title_table.TopicAt.{TopicAt}
+use Rattle.readers.specs.declared.title_table.TitleKey.{TitleKey}
 
 abbrev pub Titled : Type 0
-Titled = TopicAt × List ℕ
+Titled = TitleKey × List ℕ
 
 -- the text is the title
 abbrev pub IsTitle : World → Titled → Type 0

@@ -17,7 +17,7 @@ use Rattle.map_spec.specs.Pages.{page_for}
 use Rattle.map_spec.specs.Titles.{first_in, kind_in, title_in}
 use Rattle.map_spec.specs.Pushes.{pushes_into}
 
--- a question with its answer; or one that got none: `tried`, about these documents; `sought`, for this document
+-- a question with its answer; or one that got none: `pending`, about these documents; `pending_document`, for this document
 pub data Told : Type 0 where
   document : (name : List ℕ) (tree : Option Content) → Told
   kind : (name : List ℕ) (answer : DocKind) → Told
@@ -26,8 +26,8 @@ pub data Told : Type 0 where
   key : (nodes : List PlanNode) (scope : ℕ) (key : List ℕ) (answer : KeyAnswer) → Told
   pushes : (documents : List (List ℕ)) (name : List ℕ) (answer : PushList) → Told
   page_of : (pages : List PagePlan) (name : List ℕ) (context : PageId) (answer : Option ℕ) → Told
-  tried : (names : List (List ℕ)) → Told
-  sought : (name : List ℕ) → Told
+  pending : (names : List (List ℕ)) → Told
+  pending_document : (name : List ℕ) → Told
 
 -- the answer is that of the world
 abbrev pub Holds : World → Told → Type 0
@@ -38,8 +38,8 @@ Holds world (first name id) = first_in world name ≡ id
 Holds world (key nodes scope text answer) = key_answer world nodes scope text ≡ answer
 Holds world (pushes documents name answer) = pushes_into world documents name ≡ answer
 Holds world (page_of pages name context answer) = page_for pages name context ≡ answer
-Holds world (tried names) = Unit {0}
-Holds world (sought name) = Unit {0}
+Holds world (pending names) = Unit {0}
+Holds world (pending_document name) = Unit {0}
 
 -- a world agrees with what was told: each answer is its own
 abbrev pub Agrees : World → List Told → Type 0

@@ -1,7 +1,7 @@
 //! The traits of readers: each call answers a question, and tells it with its answer.
 
 ghost use Rattle.std.specs.Arc.{arc_value};
-ghost use Rattle.std.specs.Prelude.{◌≡◌, [], ◌∷◌, List, IfOk, IfSome};
+ghost use Rattle.std.specs.Prelude.{◌≡◌, [], ◌∷◌, List, IfOk, IfSome, OnOk};
 ghost use Rattle.map_spec.specs.Pushes.{pushed};
 ghost use Rattle.reader_spec.specs.World.{World};
 ghost use Rattle.readers.specs.Documents as documents_spec;
@@ -9,6 +9,8 @@ ghost use Rattle.readers.specs.Documents.{AsksOnly, IsGiven};
 ghost use Rattle.readers.specs.Founded as founded_spec;
 ghost use Rattle.readers.specs.Founded.{Grows, StaysFounded};
 ghost use Rattle.readers.specs.Named as named_spec;
+ghost use Rattle.readers.specs.Only as only_spec;
+ghost use Rattle.readers.specs.Only.{TellsOnly};
 ghost use Rattle.readers.specs.Setting.{Stand};
 ghost use Rattle.readers.specs.Told as told_spec;
 ghost use Rattle.readers.specs.Told.{Told, Agrees};
@@ -98,7 +100,8 @@ pub trait Asker: Keys {
             (Self.told self.new) }
         ensures grows { Grows (Self.told self.old) (Self.told self.new) };
 
-    /// The document with the pushes into it, if it stands there. Several questions are told.
+    /// The document with the pushes into it, if it stands there. Several questions are told: for it,
+    /// for the pushes into it, and for the documents from which these come.
     fn pushed(&mut self, alloc: Global, name: &Name) -> Result<Option<Arc<Doc>>, NoMemory>
         ensures stand { Self.stand self.new ≡ Self.stand self.old }
         ensures known { (world : World) → Agrees world (Self.told self.new)
@@ -109,6 +112,10 @@ pub trait Asker: Keys {
         ensures founded { StaysFounded (name.now ∷ []) (Self.told self.old) (Self.told self.new) }
         ensures asks { AsksOnly documents_spec.of_pushes (name.now ∷ []) (Self.told self.old)
             (Self.told self.new) }
+        ensures only { (world : World) → Agrees world (Self.told self.new)
+            → OnOk result (TellsOnly (only_spec.is_of_pushed world
+            (Self.stand self.old).setting.documents name.now) (Self.told self.old)
+            (Self.told self.new)) }
         ensures grows { Grows (Self.told self.old) (Self.told self.new) };
 
     /// The page of a document for a context: that of the same context, else the document's first.

@@ -4,11 +4,11 @@
 #![tactic(auto)]
 
 mod asker;
+mod log_start;
 mod questions;
-mod since;
 mod title_table;
 
 pub use asker::{Asker, Keys, Reader, Titles};
+pub use log_start::LogStart;
 pub use questions::{Note, Questions, share};
-pub use since::Since;
-pub use title_table::{TitleTable, TopicAt};
+pub use title_table::{TitleKey, TitleTable};

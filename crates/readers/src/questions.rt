@@ -25,11 +25,11 @@ pub enum Note {
     /// Another question, which has its answer.
     Answer(Box<Asked>),
     /// It is about this document, and has no answer yet.
-    Tried(Name),
+    Pending(Name),
     /// It asks for this document as a whole, and has no answer yet.
-    Sought(Name),
+    PendingDocument(Name),
     /// It is about a key, for which the documents of all nodes may be asked, and has no answer yet.
-    TriedKey,
+    PendingKey,
 }
 
 impl Note {
@@ -84,7 +84,7 @@ impl Note {
             Note::Title(name, topic, text) => (Question::Title(name, topic), Answered::Title(text)),
             Note::First(name, id) => (Question::First(name), Answered::First(id)),
             Note::Answer(asked) => return Some(Box::into_inner(asked)),
-            Note::Tried(_) | Note::Sought(_) | Note::TriedKey => return None,
+            Note::Pending(_) | Note::PendingDocument(_) | Note::PendingKey => return None,
         };
         Some(Asked { question, answered })
     }

@@ -12,17 +12,17 @@ use std::marker::Model;
 
 /// A topic of a document; the empty text names no topic.
 #[derive(PartialEq, Eq, PartialOrd, Ord, Drop)]
-pub struct TopicAt {
+pub struct TitleKey {
     pub name: Name,
     pub topic: Text,
 }
 
-impl TopicAt {
-    pub fn new(name: &Name, topic: &Text) -> Result<TopicAt, NoMemory>
+impl TitleKey {
+    pub fn new(name: &Name, topic: &Text) -> Result<TitleKey, NoMemory>
         ensures name { IfOk result (λ at. at.name ≡ name.now) }
         ensures topic { IfOk result (λ at. at.topic ≡ topic.now) }
     {
-        Ok(TopicAt {
+        Ok(TitleKey {
             name: name.clone()?,
             topic: topic.clone()?,
         })
@@ -32,7 +32,7 @@ impl TopicAt {
 /// Titles, by their topics.
 #[derive(Drop)]
 pub struct TitleTable {
-    titles: BTreeMap<TopicAt, Text>,
+    titles: BTreeMap<TitleKey, Text>,
 }
 
 impl Model for TitleTable {
@@ -54,7 +54,7 @@ impl TitleTable {
     }
 
     /// The title of a topic, if it is there.
-    pub fn find(&self, topic: &TopicAt) -> Option<&Text>
+    pub fn find(&self, topic: &TitleKey) -> Option<&Text>
         ensures { (world : World) → spec.AreTitles world self.now → IfSome result (λ text.
             titles_spec.title_in world topic.now.name topic.now.topic ≡ text.now) }
     {
@@ -62,7 +62,7 @@ impl TitleTable {
     }
 
     /// Puts the title of a topic. Without memory the table stays as it was.
-    pub fn put(&mut self, topic: TopicAt, text: Text) -> Result<(), NoMemory>
+    pub fn put(&mut self, topic: TitleKey, text: Text) -> Result<(), NoMemory>
         ensures titles { (world : World) → spec.AreTitles world self.old
             → titles_spec.title_in world topic.name topic.topic ≡ text
             → spec.AreTitles world self.new }

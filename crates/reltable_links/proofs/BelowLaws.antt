@@ -3,15 +3,18 @@ use Rattle.std.specs.Prelude.{◌≡◌, ◌+◌, ◌<◌, ◌≤◌, ◌&&◌, 
 use Rattle.std.specs.List.{filter_map}
 use Rattle.std.specs.List.Sorted.{IsNonDecreasingBy, IsPartitionPoint, IsPartitionedBy}
 use Rattle.std.proofs.Common.{refl, sym, ap, ◌∙◌, arith, get_or}
+use Rattle.std.proofs.lemmas.Bool.{and_from, and_right as and_none, lt-ltb, not-false, not-true}
 use Rattle.std.proofs.lemmas.Bool.Decides.{nat_tests}
+use Rattle.std.proofs.lemmas.Map.Keys.{any_passes_from_place}
 use Rattle.std.proofs.lemmas.Option.{get_or_from_slice_get}
 use Rattle.dita_doc.specs.declared.plan.PlanNode.{PlanNode}
+use Rattle.dita_doc.proofs.Tests.{first_holds, less_before, second_holds}
 use Rattle.map_spec.specs.Scopes.{places_from}
 use Rattle.reltable_links.specs.Below.{ends_behind_one, is_behind, is_below_one, is_new, new_below}
 use Rattle.reltable_links.specs.CellTable.{contains}
-use Rattle.reltable_links.specs.declared.cells.Cell.{Cell}
-use Rattle.reltable_links.proofs.CellLaws.{is_less, less_is}
-use Rattle.reltable_links.proofs.ListLaws.{and_both, and_left, and_right, any_here, any_where, take_is}
+use Rattle.reltable_links.specs.declared.cells.RowCell.{RowCell}
+use Rattle.reltable_links.proofs.CellLaws.{less_is}
+use Rattle.reltable_links.proofs.ListLaws.{any_where, take_is}
 use Rattle.reltable_links.proofs.LoopLaws.{any_next}
 
 -- Each element stands at or behind the one before it
@@ -83,18 +86,6 @@ kept_from q from (node ∷ nodes) least low =
 
 -- What passes two tests is cut out, where one parts the list in two, and the other the rest
 
-not_so : (b : Bool) → not b ≡ true → b ≡ false
-not_so false is = refl
-not_so true is = cc
-
-so : (b : Bool) → not b ≡ false → b ≡ true
-so true is = refl
-so false is = cc
-
-pub and_none : (a b : Bool) → b ≡ false → (a && b) ≡ false
-and_none true b is = is
-and_none false b is = refl
-
 module _ {X : Type 0} (p q : X → Bool) where
   abbrev both : X → Bool
   both x = p x && q x
@@ -105,7 +96,7 @@ module _ {X : Type 0} (p q : X → Bool) where
   front_cut [] (suc at) before = refl
   front_cut (x ∷ xs) zero before = refl
   front_cut (x ∷ xs) (suc at) before =
-      rw (not_so (p x) (before 0 x (omega arith) (omega arith)))
+      rw (not-true (p x) (before 0 x (omega arith) (omega arith)))
       (front_cut xs at (λ k d low high. before (suc k) d (omega arith) (omega arith)))
 
   none_kept : (xs : List X) → ((k : ℕ) (d : X) → 0 ≤ k → k < length xs → q (get_or xs k d) ≡ false)
@@ -124,7 +115,7 @@ module _ {X : Type 0} (p q : X → Bool) where
   front_kept [] (suc at) all within out = refl
   front_kept (x ∷ xs) zero all within out = none_kept (x ∷ xs) out
   front_kept (x ∷ xs) (suc at) all within out =
-      rw (and_both (p x) (q x) (so (p x) (all 0 x (omega arith) (omega arith))) (within 0 x (omega arith) (omega arith)))
+      rw (and_from (p x) (q x) (not-false (p x) (all 0 x (omega arith) (omega arith))) (within 0 x (omega arith) (omega arith)))
       (ap (λ more. x ∷ more) (front_kept xs at (λ k d low high. all (suc k) d (omega arith) (omega arith))
       (λ k d low high. within (suc k) d (omega arith) (omega arith))
       (λ k d low high. out (suc k) d (omega arith) (omega arith))))
@@ -152,17 +143,14 @@ behind_back : (at done i j : ℕ) → i ≤ j → not (nat_lt at j && not (nat_l
     → not (nat_lt at i && not (nat_lt i done)) ≡ true
 behind_back at done i j less is = grind (arith, nat_tests)
 
-within_back : (end i j : ℕ) → i ≤ j → nat_lt j end ≡ true → nat_lt i end ≡ true
-within_back end i j less is = grind (arith, nat_tests)
-
 module _ {X : Type 0} (place : X → ℕ) (xs : List X) (order : IsNonDecreasingBy place xs) where
-  pub behind_parted : (cell : Cell) (done : ℕ) → IsPartitionedBy (λ x. not (is_behind cell done (place x))) xs
+  pub behind_parted : (cell : RowCell) (done : ℕ) → IsPartitionedBy (λ x. not (is_behind cell done (place x))) xs
   behind_parted cell done = λ i j d low within is.
       behind_back cell.at done (place (get_or xs i d)) (place (get_or xs j d)) (order i j d low within) is
 
   pub within_parted : (end : ℕ) → IsPartitionedBy (λ x. nat_lt (place x) end) xs
   within_parted end = λ i j d low within is.
-      within_back end (place (get_or xs i d)) (place (get_or xs j d)) (order i j d low within) is
+      less_before end (place (get_or xs i d)) (place (get_or xs j d)) (order i j d low within) is
 
 -- What is below a bound stands before what is not
 
@@ -199,10 +187,6 @@ module _ {X : Type 0} (place : X → ℕ) (p q r : X → Bool) (bound : ℕ)
 
 -- Nothing stands below no cell
 
-pub none_passes : {X : Type 0} (q : X → Bool) → ((x : X) → q x ≡ false) → (xs : List X) → filter q xs ≡ []
-none_passes q none [] = refl
-none_passes q none (x ∷ xs) = rw (none x) (none_passes q none xs)
-
 pub none_before : (at : ℕ) → nat_lt at 0 ≡ false
 none_before at = grind (arith, nat_tests)
 
@@ -214,32 +198,32 @@ both_ends k one other = grind (arith, nat_tests)
 not_before : (at done : ℕ) → not (nat_lt at done) ≡ true → done ≤ at
 not_before at done is = grind (arith, nat_tests)
 
-module _ (cells : List Cell) (index : ℕ) (d : Cell) (done : ℕ) (within : index < length cells)
+module _ (cells : List RowCell) (index : ℕ) (d : RowCell) (done : ℕ) (within : index < length cells)
     (ends : (at : ℕ) → nat_lt at done ≡ ends_behind_one (take index cells) at) where
-  abbrev so_far : List Cell
+  abbrev so_far : List RowCell
   so_far = take index cells
 
-  abbrev cell : Cell
+  abbrev cell : RowCell
   cell = get_or cells index d
 
   pub done_more : (k : ℕ) → nat_lt k (max done cell.end) ≡ ends_behind_one (take (index + 1) cells) k
   done_more k =
       both_ends k done cell.end ∙ ap (λ b. b || nat_lt k cell.end) (ends k)
-      ∙ sym (any_next (λ (c : Cell). nat_lt k c.end) cells index d within)
+      ∙ sym (any_next (λ (c : RowCell). nat_lt k c.end) cells index d within)
 
-  module _ (order : IsNonDecreasingBy (λ (c : Cell). c.at) cells) where
+  module _ (order : IsNonDecreasingBy (λ (c : RowCell). c.at) cells) where
     -- what stands below it, and before where one of those before it ends, stands below that one
     earlier : (at : ℕ) → nat_lt at done ≡ true → nat_lt cell.at at ≡ true → is_below_one so_far at ≡ true
     earlier at before behind =
-        let here = any_where (λ (c : Cell). nat_lt at c.end) so_far (sym (ends at) ∙ before) in
+        let here = any_where (λ (c : RowCell). nat_lt at c.end) so_far (sym (ends at) ∙ before) in
         let taken = take_is index here.at cells here.item here.is in
         let same = get_or_from_slice_get cells here.at here.item d taken.1 in
         let least = order here.at index d (let near = taken.0 in omega (arith, near)) within in
-        let starts = ap (λ (c : Cell). c.at) same in
+        let starts = ap (λ (c : RowCell). c.at) same in
         let far = less_is cell.at at behind in
-        any_here (contains at) so_far here.at here.item here.is
-        (and_both (nat_lt here.item.at at) (nat_lt at here.item.end)
-        (is_less here.item.at at (omega (arith, least, starts, far))) here.holds)
+        any_passes_from_place (contains at) so_far here.at here.item here.is
+        (and_from (nat_lt here.item.at at) (nat_lt at here.item.end)
+        (lt-ltb here.item.at at (omega (arith, least, starts, far))) here.holds)
 
     one_more : (at : ℕ) → (is_below_one so_far at || contains at cell)
         ≡ (is_below_one so_far at || is_new cell done at)
@@ -256,12 +240,12 @@ module _ (cells : List Cell) (index : ℕ) (d : Cell) (done : ℕ) (within : ind
     ended : (at : ℕ) → is_below_one so_far at ≡ true → at < done
     ended at is =
         let here = any_where (contains at) so_far is in
-        less_is at done (ends at ∙ any_here (λ (c : Cell). nat_lt at c.end) so_far here.at here.item here.is
-        (and_right (nat_lt here.item.at at) (nat_lt at here.item.end) here.holds))
+        less_is at done (ends at ∙ any_passes_from_place (λ (c : RowCell). nat_lt at c.end) so_far here.at here.item here.is
+        (second_holds (nat_lt here.item.at at) (nat_lt at here.item.end) here.holds))
 
     begun : (at : ℕ) → is_new cell done at ≡ true → done ≤ at
-    begun at is = not_before at done (and_right (nat_lt cell.at at) (not (nat_lt at done))
-        (and_left (is_behind cell done at) (nat_lt at cell.end) is))
+    begun at is = not_before at done (second_holds (nat_lt cell.at at) (not (nat_lt at done))
+        (first_holds (is_behind cell done at) (nat_lt at cell.end) is))
 
     pub below_more : {X : Type 0} (place : X → ℕ) (xs : List X) → IsNonDecreasingBy place xs
         → filter (λ x. is_below_one (take (index + 1) cells) (place x)) xs

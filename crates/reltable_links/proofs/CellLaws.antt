@@ -4,18 +4,20 @@ use Rattle.std.specs.List.{filter_map, list_any}
 use Rattle.std.specs.Option.{option_and_then, option_map_or}
 use Rattle.std.proofs.Common.{refl, sym, ap, subst, ◌∙◌, arith}
 use Rattle.std.proofs.Math.Logic.{⊎_elim}
-use Rattle.std.proofs.lemmas.Bool.{cases_lt}
+use Rattle.std.proofs.lemmas.Bool.{and_from, cases_lt, eq-eqb, eqb-true, lt-ltb}
 use Rattle.std.proofs.lemmas.Bool.Decides.{nat_tests}
+use Rattle.std.proofs.lemmas.Map.Keys.{any_passes_from_place}
 use Rattle.std.proofs.lemmas.Option.{same_Some}
 use Rattle.dita_doc.specs.declared.plan.Plan.{Plan}
 use Rattle.dita_doc.specs.declared.plan.PlanNode.{PlanNode}
+use Rattle.dita_doc.proofs.Tests.{first_holds, second_holds}
 use Rattle.map_spec.specs.Scopes.{places}
 use Rattle.link_spec.specs.Links.{cell_of, is_cell, is_child, is_kind_at, is_row, rows}
 use Rattle.plan_nodes.specs.Preorder.{IsTree}
 use Rattle.reader_spec.specs.World.{World}
 use Rattle.reltable_links.specs.CellTable.{cell_at, cell_for, cell_made, contains, is_row_cell}
-use Rattle.reltable_links.specs.declared.cells.Cell.{Cell}
-use Rattle.reltable_links.proofs.ListLaws.{and_both, and_left, and_right, any_filter, any_filter_map, any_here, any_where, place_there}
+use Rattle.reltable_links.specs.declared.cells.RowCell.{RowCell}
+use Rattle.reltable_links.proofs.ListLaws.{any_filter, any_filter_map, any_where, place_there}
 use Rattle.reltable_links.proofs.SpanLaws.{tree_span}
 use Rattle.reltable_links.proofs.UpLaws.{found_up, tree_before, up_found}
 
@@ -31,17 +33,8 @@ differs n k less = grind (arith, nat_tests)
 zero_not : (n : ℕ) → 0 < n → not (n == 0) ≡ true
 zero_not n less = grind (arith, nat_tests)
 
-same : (n k : ℕ) → (n == k) ≡ true → n ≡ k
-same n k is = grind (arith, nat_tests)
-
-itself : (n k : ℕ) → n ≡ k → (n == k) ≡ true
-itself n k is = grind (arith, nat_tests)
-
 pub less_is : (n k : ℕ) → nat_lt n k ≡ true → n < k
 less_is n k is = grind (arith, nat_tests)
-
-pub is_less : (n k : ℕ) → n < k → nat_lt n k ≡ true
-is_less n k less = grind (arith, nat_tests)
 
 module _ (plan : Plan) where
   -- a cell of this row has a node below it
@@ -82,19 +75,19 @@ module _ (plan : Plan) where
         → cell_of plan row at ≡ Some cell → IsCellOver row at cell
     cell_is row at cell node is found =
         let up = found_up plan.nodes tree (cell_test row at) (at + 1) at cell node (omega arith) is found in
-        let first = and_left (not (cell == at) && is_child plan row cell) (is_kind_at plan is_cell cell) up.holds in
-        let other = not_same cell at (and_left (not (cell == at)) (is_child plan row cell) first) in
-        let child = and_right (not (cell == at)) (is_child plan row cell) first in
-        let parent = has_node (λ (n : PlanNode). n.parent == row) cell (and_right (not (cell == 0)) _ child) in
+        let first = first_holds (not (cell == at) && is_child plan row cell) (is_kind_at plan is_cell cell) up.holds in
+        let other = not_same cell at (first_holds (not (cell == at)) (is_child plan row cell) first) in
+        let child = second_holds (not (cell == at)) (is_child plan row cell) first in
+        let parent = has_node (λ (n : PlanNode). n.parent == row) cell (second_holds (not (cell == 0)) _ child) in
         let kind = has_node (λ (n : PlanNode). is_cell n.kind) cell
-        (and_right (not (cell == at) && is_child plan row cell) (is_kind_at plan is_cell cell) up.holds) in
+        (second_holds (not (cell == at) && is_child plan row cell) (is_kind_at plan is_cell cell) up.holds) in
         let less : cell < at = let low = up.over.behind in omega (arith, low, other) in
         let one : kind.node ≡ parent.node = same_Some kind.node parent.node (sym kind.there ∙ parent.there) in
         record {
           node = parent.node;
           there = parent.there;
-          some = above_zero cell (and_left (not (cell == 0)) _ child);
-          parent = same parent.node.parent row parent.holds;
+          some = above_zero cell (first_holds (not (cell == 0)) _ child);
+          parent = eqb-true parent.node.parent row parent.holds;
           kind = sym (ap (λ (n : PlanNode). is_cell n.kind) one) ∙ kind.holds;
           behind = less;
           within = up.over.within less parent.node parent.there;
@@ -121,14 +114,14 @@ module _ (plan : Plan) where
     pub is_cell_of : (row at cell : ℕ) (node : PlanNode) → slice_get plan.nodes at ≡ Some node
         → IsCellOver row at cell → cell_of plan row at ≡ Some cell
     is_cell_of row at cell node is over =
-        let child : is_child plan row cell ≡ true = and_both (not (cell == 0)) _ (zero_not cell over.some)
+        let child : is_child plan row cell ≡ true = and_from (not (cell == 0)) _ (zero_not cell over.some)
         (node_has (λ (n : PlanNode). n.parent == row) cell over.node over.there
-        (itself over.node.parent row over.parent)) in
+        (eq-eqb over.node.parent row over.parent)) in
         let kind : is_kind_at plan is_cell cell ≡ true =
         node_has (λ (n : PlanNode). is_cell n.kind) cell over.node over.there over.kind in
-        let holds : cell_test row at cell ≡ true = and_both (not (cell == at) && is_child plan row cell)
+        let holds : cell_test row at cell ≡ true = and_from (not (cell == at) && is_child plan row cell)
         (is_kind_at plan is_cell cell)
-        (and_both (not (cell == at)) (is_child plan row cell) (differs cell at over.behind) child) kind in
+        (and_from (not (cell == at)) (is_child plan row cell) (differs cell at over.behind) child) kind in
         let found = up_found plan.nodes tree (cell_test row at) (at + 1) at cell node over.node (omega arith) is over.there
         over.behind over.within holds in
         found.1 ∙ ap (λ c. Some c)
@@ -136,16 +129,16 @@ module _ (plan : Plan) where
 
   -- The cells of rows, as they are kept
 
-  pub record IsRowCell (world : World) (cell : Cell) : Type 0 where
+  pub record IsRowCell (world : World) (cell : RowCell) : Type 0 where
     pub node : PlanNode
     pub there : slice_get plan.nodes cell.at ≡ Some node
     pub is : cell ≡ cell_for world plan cell.at node
     pub test : is_row_cell plan.nodes cell.at node ≡ true
 
-  abbrev pub all_cells : World → List Cell
+  abbrev pub all_cells : World → List RowCell
   all_cells world = filter_map (cell_at world plan) (places plan.nodes)
 
-  pub cell_found : (world : World) (at : ℕ) (cell : Cell) → cell_at world plan at ≡ Some cell
+  pub cell_found : (world : World) (at : ℕ) (cell : RowCell) → cell_at world plan at ≡ Some cell
       → (cell.at ≡ at) × IsRowCell world cell
   cell_found world at cell is = by_case (slice_get plan.nodes at) refl is
     where
@@ -154,7 +147,7 @@ module _ (plan : Plan) where
           → (cell.at ≡ at) × IsRowCell world cell
       by_test node e true f same_cell =
           let one : cell ≡ cell_for world plan at node = sym (same_Some (cell_for world plan at node) cell same_cell) in
-          let place : cell.at ≡ at = ap (λ (c : Cell). c.at) one in (
+          let place : cell.at ≡ at = ap (λ (c : RowCell). c.at) one in (
             place,
             record {
               node = node;
@@ -170,35 +163,36 @@ module _ (plan : Plan) where
       by_case None e same_cell = cc
       by_case (Some node) e same_cell = by_test node e (is_row_cell plan.nodes at node) refl same_cell
 
-  pub found_cell : (world : World) (cell : Cell) → IsRowCell world cell → cell_at world plan cell.at ≡ Some cell
+  pub found_cell : (world : World) (cell : RowCell) → IsRowCell world cell → cell_at world plan cell.at ≡ Some cell
   found_cell world cell row_cell =
       ap (option_and_then (cell_made world plan cell.at)) row_cell.there
       ∙ ap (λ b. if b then Some (cell_for world plan cell.at row_cell.node) else None) row_cell.test
       ∙ ap (λ c. Some c) (sym row_cell.is)
 
   -- one of the cells
-  pub record HasCell (world : World) (test : Cell → Bool) : Type 0 where
-    pub cell : Cell
+  pub record HasCell (world : World) (test : RowCell → Bool) : Type 0 where
+    pub cell : RowCell
     pub row_cell : IsRowCell world cell
     pub holds : test cell ≡ true
 
-  pub cell_where : (world : World) (test : Cell → Bool) → list_any test (all_cells world) ≡ true → HasCell world test
+  pub cell_where : (world : World) (test : RowCell → Bool) → list_any test (all_cells world) ≡ true → HasCell world test
   cell_where world test some =
       let here = any_where (λ at. option_map_or test (cell_at world plan at) false) (places plan.nodes)
       (sym (any_filter_map (cell_at world plan) test (places plan.nodes)) ∙ some) in
       by_case here.item (cell_at world plan here.item) refl here.holds
     where
-      by_case : (at : ℕ) (found : Option Cell) → cell_at world plan at ≡ found → option_map_or test found false ≡ true
+      by_case : (at : ℕ) (found : Option RowCell) → cell_at world plan at ≡ found
+          → option_map_or test found false ≡ true
           → HasCell world test
       by_case at None e holds = cc
       by_case at (Some cell) e holds =
           record { cell = cell; row_cell = (cell_found world at cell e).1; holds = holds }
 
-  pub cell_here : (world : World) (test : Cell → Bool) (cell : Cell) → IsRowCell world cell → test cell ≡ true
+  pub cell_here : (world : World) (test : RowCell → Bool) (cell : RowCell) → IsRowCell world cell → test cell ≡ true
       → list_any test (all_cells world) ≡ true
   cell_here world test cell row_cell holds =
       any_filter_map (cell_at world plan) test (places plan.nodes)
-      ∙ any_here (λ at. option_map_or test (cell_at world plan at) false) (places plan.nodes) cell.at cell.at
+      ∙ any_passes_from_place (λ at. option_map_or test (cell_at world plan at) false) (places plan.nodes) cell.at cell.at
       (place_there 0 cell.at plan.nodes row_cell.node row_cell.there ∙ zeroth cell.at)
       (ap (λ found. option_map_or test found false) (found_cell world cell row_cell) ∙ holds)
     where
@@ -206,27 +200,27 @@ module _ (plan : Plan) where
       zeroth n = let e : 0 + n ≡ n = omega arith in ap (λ k. Some k) e
 
   -- a kept cell has the nodes below it that it contains
-  pub cell_over : (world : World) (cell : Cell) (at : ℕ) → IsRowCell world cell → contains at cell ≡ true
+  pub cell_over : (world : World) (cell : RowCell) (at : ℕ) → IsRowCell world cell → contains at cell ≡ true
       → IsCellOver cell.row at cell.at
   cell_over world cell at row_cell holds = record {
     node = row_cell.node;
     there = row_cell.there;
-    some = above_zero cell.at (and_left (not (cell.at == 0)) (is_cell row_cell.node.kind)
-        (and_left (not (cell.at == 0) && is_cell row_cell.node.kind) (is_kind_at plan is_row row_cell.node.parent)
+    some = above_zero cell.at (first_holds (not (cell.at == 0)) (is_cell row_cell.node.kind)
+        (first_holds (not (cell.at == 0) && is_cell row_cell.node.kind) (is_kind_at plan is_row row_cell.node.parent)
         row_cell.test));
-    parent = sym (ap (λ (c : Cell). c.row) row_cell.is);
-    kind = and_right (not (cell.at == 0)) (is_cell row_cell.node.kind)
-        (and_left (not (cell.at == 0) && is_cell row_cell.node.kind) (is_kind_at plan is_row row_cell.node.parent)
+    parent = sym (ap (λ (c : RowCell). c.row) row_cell.is);
+    kind = second_holds (not (cell.at == 0)) (is_cell row_cell.node.kind)
+        (first_holds (not (cell.at == 0) && is_cell row_cell.node.kind) (is_kind_at plan is_row row_cell.node.parent)
         row_cell.test);
-    behind = less_is cell.at at (and_left (nat_lt cell.at at) (nat_lt at cell.end) holds);
-    within = subst (λ n. at < n) (ap (λ (c : Cell). c.end) row_cell.is)
-        (less_is at cell.end (and_right (nat_lt cell.at at) (nat_lt at cell.end) holds));
+    behind = less_is cell.at at (first_holds (nat_lt cell.at at) (nat_lt at cell.end) holds);
+    within = subst (λ n. at < n) (ap (λ (c : RowCell). c.end) row_cell.is)
+        (less_is at cell.end (second_holds (nat_lt cell.at at) (nat_lt at cell.end) holds));
   }
 
-  pub cell_row : (world : World) (cell : Cell) → IsRowCell world cell → is_kind_at plan is_row cell.row ≡ true
+  pub cell_row : (world : World) (cell : RowCell) → IsRowCell world cell → is_kind_at plan is_row cell.row ≡ true
   cell_row world cell row_cell =
-      ap (λ n. is_kind_at plan is_row n) (ap (λ (c : Cell). c.row) row_cell.is)
-      ∙ and_right (not (cell.at == 0) && is_cell row_cell.node.kind) (is_kind_at plan is_row row_cell.node.parent)
+      ap (λ n. is_kind_at plan is_row n) (ap (λ (c : RowCell). c.row) row_cell.is)
+      ∙ second_holds (not (cell.at == 0) && is_cell row_cell.node.kind) (is_kind_at plan is_row row_cell.node.parent)
       row_cell.test
 
   -- and the cell of a row that has a node below it is kept
@@ -238,12 +232,12 @@ module _ (plan : Plan) where
       node = over.node;
       there = over.there;
       is = refl;
-      test = and_both (not (place == 0) && is_cell over.node.kind) (is_kind_at plan is_row over.node.parent)
-          (and_both (not (place == 0)) (is_cell over.node.kind) (zero_not place over.some) over.kind)
+      test = and_from (not (place == 0) && is_cell over.node.kind) (is_kind_at plan is_row over.node.parent)
+          (and_from (not (place == 0)) (is_cell over.node.kind) (zero_not place over.some) over.kind)
           (ap (is_kind_at plan is_row) over.parent ∙ kind);
     },
-    and_both (nat_lt place at) (nat_lt at over.node.end) (is_less place at over.behind)
-        (is_less at over.node.end over.within),
+    and_from (nat_lt place at) (nat_lt at over.node.end) (lt-ltb place at over.behind)
+        (lt-ltb at over.node.end over.within),
   )
 
   -- Rows
@@ -253,9 +247,9 @@ module _ (plan : Plan) where
   row_here test row kind holds =
       let found = has_node (λ (n : PlanNode). is_row n.kind) row kind in
       any_filter (is_kind_at plan is_row) test (places plan.nodes)
-      ∙ any_here (λ r. is_kind_at plan is_row r && test r) (places plan.nodes) row row
+      ∙ any_passes_from_place (λ r. is_kind_at plan is_row r && test r) (places plan.nodes) row row
       (place_there 0 row plan.nodes found.node found.there ∙ zeroth row)
-      (and_both (is_kind_at plan is_row row) (test row) kind holds)
+      (and_from (is_kind_at plan is_row row) (test row) kind holds)
     where
       zeroth : (n : ℕ) → Some (0 + n) ≡ Some n
       zeroth n = let e : 0 + n ≡ n = omega arith in ap (λ k. Some k) e
@@ -270,6 +264,6 @@ module _ (plan : Plan) where
       let here = any_where (λ r. is_kind_at plan is_row r && test r) (places plan.nodes)
       (sym (any_filter (is_kind_at plan is_row) test (places plan.nodes)) ∙ some) in record {
         row = here.item;
-        kind = and_left (is_kind_at plan is_row here.item) (test here.item) here.holds;
-        holds = and_right (is_kind_at plan is_row here.item) (test here.item) here.holds;
+        kind = first_holds (is_kind_at plan is_row here.item) (test here.item) here.holds;
+        holds = second_holds (is_kind_at plan is_row here.item) (test here.item) here.holds;
       }

@@ -1,4 +1,3 @@
-pub mod Walking
 pub mod ListLaws
 pub mod SpanLaws
 pub mod UpLaws

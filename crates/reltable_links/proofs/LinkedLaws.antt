@@ -1,16 +1,19 @@
 -- The nodes to which a page is linked are those of the definition.
-use Rattle.std.specs.Prelude.{◌≡◌, ◌+◌, ◌==◌, ◌&&◌, ◌||◌, ℕ, Bool, true, false, not, List, Option, Some, None, is_some, option_map, slice_get, codes}
+use Rattle.std.specs.Prelude.{◌≡◌, ◌==◌, ◌&&◌, ◌||◌, ℕ, Bool, true, false, not, List, Option, Some, None, is_some, option_map, slice_get, codes}
 use Rattle.std.specs.List.{filter_map, list_any}
 use Rattle.std.specs.Option.{option_and_then, option_map_or}
 use Rattle.std.proofs.Common.{refl, sym, ap, ◌∙◌, arith}
+use Rattle.std.proofs.lemmas.Bool.{and_from, eq-eqb, eqb-true}
 use Rattle.std.proofs.lemmas.Bool.Decides.{nat_tests}
+use Rattle.std.proofs.lemmas.Map.Keys.{any_passes_from_place}
 use Rattle.std.proofs.lemmas.Option.{same_Some}
 use Rattle.dita_doc.specs.declared.content.LinkKind.TheVariants as links
 use Rattle.dita_doc.specs.declared.plan.Plan.{Plan}
 use Rattle.dita_doc.specs.declared.plan.PlanNode.{PlanNode}
+use Rattle.dita_doc.proofs.Tests.{by_truth, first_holds, second_holds, zeroth}
 use Rattle.map_spec.specs.Pages.{local_name, page_for}
 use Rattle.map_spec.specs.Scopes.{places}
-use Rattle.link_spec.specs.Links.{are_in_cells, are_related_in, cell_of, context_of, has_node_value, is_kind_at, is_page_at, is_row, links_as, may_link, page_of_node, target_of}
+use Rattle.link_spec.specs.Links.{are_in_cells, are_related_in, cell_of, context_of, has_node_value, is_kind_at, is_page_at, is_row, links_as, may_link, page_of_node, plan_target}
 use Rattle.plan_nodes.specs.Preorder.{IsTree}
 use Rattle.reader_spec.specs.World.{World}
 use Rattle.link_groups.specs.LinkNodes.{is_source_at, is_target_at, with_page}
@@ -18,21 +21,12 @@ use Rattle.link_groups.specs.declared.link_nodes.LinkNode.{LinkNode}
 use Rattle.link_groups.proofs.OrderLaws.{is_linked, links_from}
 use Rattle.reltable_links.specs.CellTable.{cell_for, contains, is_below, node_at, node_below, relates}
 use Rattle.reltable_links.specs.Linked.{is_from, is_linked_at, links_into}
-use Rattle.reltable_links.specs.declared.cells.Cell.{Cell}
+use Rattle.reltable_links.specs.declared.cells.RowCell.{RowCell}
 use Rattle.reltable_links.proofs.CellLaws.{IsRowCell, all_cells, cell_here, cell_is, cell_over, cell_row, cell_where, is_cell_of, over_cell, row_here, row_where}
-use Rattle.reltable_links.proofs.ListLaws.{and_both, and_left, and_right, any_filter_map, any_here, any_where, by_truth, place_there}
-
-same : (n k : ℕ) → (n == k) ≡ true → n ≡ k
-same n k is = grind (arith, nat_tests)
-
-itself : (n k : ℕ) → n ≡ k → (n == k) ≡ true
-itself n k is = grind (arith, nat_tests)
+use Rattle.reltable_links.proofs.ListLaws.{any_filter_map, any_where, place_there}
 
 apart : (n k : ℕ) → (n ≡ k → ⊥) → not (n == k) ≡ true
 apart n k other = grind (arith, nat_tests)
-
-zeroth : (n : ℕ) → Some (0 + n) ≡ Some n
-zeroth n = let e : 0 + n ≡ n = omega arith in ap (λ k. Some k) e
 
 module _ (world : World) (plan : Plan) where
   abbrev pub all_nodes : List LinkNode
@@ -47,7 +41,7 @@ module _ (world : World) (plan : Plan) where
   -- a node with a page is one
   pub paged : (at page : ℕ) → page_of_node plan at ≡ Some page
       → (node : PlanNode) × (slice_get plan.nodes at ≡ Some node)
-  paged at page is = by_name (local_name (target_of plan at)) is
+  paged at page is = by_name (local_name (plan_target plan at)) is
     where
       by_node : (name : List ℕ) (found : Option PlanNode) → slice_get plan.nodes at ≡ found
           → option_and_then (λ (node : PlanNode). page_for plan.pages name (context_of node name)) found ≡ Some page
@@ -109,7 +103,7 @@ module _ (world : World) (plan : Plan) where
   kept_here test at page below is holds =
       let there = paged at page is in
       any_filter_map (node_at world plan) test (places plan.nodes)
-      ∙ any_here (λ k. option_map_or test (node_at world plan k) false) (places plan.nodes) at at
+      ∙ any_passes_from_place (λ k. option_map_or test (node_at world plan k) false) (places plan.nodes) at at
       (place_there 0 at plan.nodes there.0 there.1 ∙ zeroth at)
       (ap (λ found. option_map_or test found false) (found_kept at page below is) ∙ holds)
 
@@ -119,15 +113,15 @@ module _ (world : World) (plan : Plan) where
 
   module _ (tree : IsTree plan.nodes) (page to other : ℕ) (to_page : page_of_node plan to ≡ Some other)
       (another : (other == page) ≡ false) where
-    abbrev cells : List Cell
+    abbrev cells : List RowCell
     cells = all_cells plan world
 
     not_itself : (from : ℕ) → page_of_node plan from ≡ Some page → not (from == to) ≡ true
     not_itself from is = apart from to (λ e.
         let one : other ≡ page = same_Some other page (sym to_page ∙ ap (page_of_node plan) (sym e) ∙ is) in
-        let two = itself other page one in cc)
+        let two = eq-eqb other page one in cc)
 
-    family_or : (own cell : Cell) → (not (own.at == cell.at) || cell.is_family) ≡ true → IsRowCell plan world cell
+    family_or : (own cell : RowCell) → (not (own.at == cell.at) || cell.is_family) ≡ true → IsRowCell plan world cell
         → (not (own.at == cell.at) || has_node_value world plan (codes "collection-type") (codes "family") own.at) ≡ true
     family_or own cell is row_cell = by_test (own.at == cell.at) refl is
       where
@@ -136,8 +130,8 @@ module _ (world : World) (plan : Plan) where
             ≡ true
         by_test false e there = rw e refl
         by_test true e there = rw e (
-            ap (has_node_value world plan (codes "collection-type") (codes "family")) (same own.at cell.at e)
-            ∙ sym (ap (λ (c : Cell). c.is_family) row_cell.is) ∙ there)
+            ap (has_node_value world plan (codes "collection-type") (codes "family")) (eqb-true own.at cell.at e)
+            ∙ sym (ap (λ (c : RowCell). c.is_family) row_cell.is) ∙ there)
 
     -- what the kept cells link is linked
     forth : is_target_at world plan to ≡ true → is_linked_at page cells all_nodes to ≡ true
@@ -147,42 +141,42 @@ module _ (world : World) (plan : Plan) where
         let cell = into.cell in
         let linking = kept_where (λ node. is_from page node
         && list_any (λ own. contains node.at own && relates own cell) cells)
-        (and_left (links_into page cells all_nodes cell) (contains to cell) into.holds) in
+        (first_holds (links_into page cells all_nodes cell) (contains to cell) into.holds) in
         let node = linking.node in
-        let is_own = and_left (is_from page node) _ linking.holds in
+        let is_own = first_holds (is_from page node) _ linking.holds in
         let from_page : page_of_node plan node.at ≡ Some page =
-        linking.kept.page ∙ ap (λ p. Some p) (same node.page page (and_left (node.page == page) node.is_source is_own)) in
+        linking.kept.page ∙ ap (λ p. Some p) (eqb-true node.page page (first_holds (node.page == page) node.is_source is_own)) in
         let source : is_source_at world plan node.at ≡ true =
         sym (ap (λ (n : LinkNode). n.is_source) linking.kept.is)
-        ∙ and_right (node.page == page) node.is_source is_own in
+        ∙ second_holds (node.page == page) node.is_source is_own in
         let stands = cell_where plan world (λ own. contains node.at own && relates own cell)
-        (and_right (is_from page node) _ linking.holds) in
+        (second_holds (is_from page node) _ linking.holds) in
         let own = stands.cell in
-        let related = and_right (contains node.at own) (relates own cell) stands.holds in
-        let row : own.row ≡ cell.row = same own.row cell.row (and_left (own.row == cell.row) _ related) in
+        let related = second_holds (contains node.at own) (relates own cell) stands.holds in
+        let row : own.row ≡ cell.row = eqb-true own.row cell.row (first_holds (own.row == cell.row) _ related) in
         let from_node = paged node.at page from_page in
         let to_node = paged to other to_page in
         let from_cell : cell_of plan own.row node.at ≡ Some own.at =
         is_cell_of plan tree own.row node.at own.at from_node.0 from_node.1
-        (cell_over plan world own node.at stands.row_cell (and_left (contains node.at own) _ stands.holds)) in
+        (cell_over plan world own node.at stands.row_cell (first_holds (contains node.at own) _ stands.holds)) in
         let to_cell : cell_of plan own.row to ≡ Some cell.at =
         ap (λ r. cell_of plan r to) row
         ∙ is_cell_of plan tree cell.row to cell.at to_node.0 to_node.1
         (cell_over plan world cell to into.row_cell
-        (and_right (links_into page cells all_nodes cell) (contains to cell) into.holds)) in
+        (second_holds (links_into page cells all_nodes cell) (contains to cell) into.holds)) in
         let between : are_related_in world plan node.at to own.row ≡ true =
-        and_both (not (node.at == to)) _ (not_itself node.at from_page)
+        and_from (not (node.at == to)) _ (not_itself node.at from_page)
         ((λ i. are_in_cells world plan (from_cell i) (to_cell i))
-        ∙ family_or own cell (and_right (own.row == cell.row) _ related) into.row_cell) in
+        ∙ family_or own cell (second_holds (own.row == cell.row) _ related) into.row_cell) in
         let as_related : links_as world plan links.Related node.at to ≡ true =
         row_here plan (are_related_in world plan node.at to) own.row (cell_row plan world own stands.row_cell) between in
-        any_here (links_from world plan page links.Related to) (places plan.nodes) node.at node.at
+        any_passes_from_place (links_from world plan page links.Related to) (places plan.nodes) node.at node.at
         (place_there 0 node.at plan.nodes from_node.0 from_node.1 ∙ zeroth node.at)
-        (and_both (is_page_at plan page node.at && links_as world plan links.Related node.at to)
+        (and_from (is_page_at plan page node.at && links_as world plan links.Related node.at to)
         (may_link world plan node.at to)
-        (and_both (is_page_at plan page node.at) (links_as world plan links.Related node.at to)
-        (ap (λ p. option_map_or (λ own_page. own_page == page) p false) from_page ∙ itself page page refl) as_related)
-        (and_both (is_source_at world plan node.at) (is_target_at world plan to) source target))
+        (and_from (is_page_at plan page node.at) (links_as world plan links.Related node.at to)
+        (ap (λ p. option_map_or (λ own_page. own_page == page) p false) from_page ∙ eq-eqb page page refl) as_related)
+        (and_from (is_source_at world plan node.at) (is_target_at world plan to) source target))
 
     is_page : (from : ℕ) → is_page_at plan page from ≡ true → page_of_node plan from ≡ Some page
     is_page from is = by_case (page_of_node plan from) refl is
@@ -190,7 +184,7 @@ module _ (world : World) (plan : Plan) where
         by_case : (found : Option ℕ) → page_of_node plan from ≡ found
             → option_map_or (λ own_page. own_page == page) found false ≡ true → page_of_node plan from ≡ Some page
         by_case None e holds = cc
-        by_case (Some own_page) e holds = e ∙ ap (λ p. Some p) (same own_page page holds)
+        by_case (Some own_page) e holds = e ∙ ap (λ p. Some p) (eqb-true own_page page holds)
 
     -- two nodes that are related stand below cells of the row
     record InCells (from row : ℕ) : Type 0 where
@@ -217,18 +211,18 @@ module _ (world : World) (plan : Plan) where
     back linked =
         let here = any_where (links_from world plan page links.Related to) (places plan.nodes) linked in
         let from = here.item in
-        let first = and_left (is_page_at plan page from && links_as world plan links.Related from to)
+        let first = first_holds (is_page_at plan page from && links_as world plan links.Related from to)
         (may_link world plan from to) here.holds in
         let from_page = is_page from
-        (and_left (is_page_at plan page from) (links_as world plan links.Related from to) first) in
-        let may = and_right (is_page_at plan page from && links_as world plan links.Related from to)
+        (first_holds (is_page_at plan page from) (links_as world plan links.Related from to) first) in
+        let may = second_holds (is_page_at plan page from && links_as world plan links.Related from to)
         (may_link world plan from to) here.holds in
-        let source = and_left (is_source_at world plan from) (is_target_at world plan to) may in
-        let target = and_right (is_source_at world plan from) (is_target_at world plan to) may in
+        let source = first_holds (is_source_at world plan from) (is_target_at world plan to) may in
+        let target = second_holds (is_source_at world plan from) (is_target_at world plan to) may in
         let found = row_where plan (are_related_in world plan from to)
-        (and_right (is_page_at plan page from) (links_as world plan links.Related from to) first) in
+        (second_holds (is_page_at plan page from) (links_as world plan links.Related from to) first) in
         let row = found.row in
-        let in_row = in_cells from row (and_right (not (from == to)) _ found.holds) in
+        let in_row = in_cells from row (second_holds (not (from == to)) _ found.holds) in
         let from_node = paged from page from_page in
         let to_node = paged to other to_page in
         let over_from = cell_is plan tree row from in_row.one from_node.0 from_node.1 in_row.first in
@@ -238,21 +232,21 @@ module _ (world : World) (plan : Plan) where
         let own_cell = cell_for world plan in_row.one over_from.node in
         let other_cell = cell_for world plan in_row.two over_to.node in
         let rows_same : (own_cell.row == other_cell.row) ≡ true =
-        itself own_cell.row other_cell.row (over_from.parent ∙ sym over_to.parent) in
+        eq-eqb own_cell.row other_cell.row (over_from.parent ∙ sym over_to.parent) in
         let related : relates own_cell other_cell ≡ true =
-        and_both (own_cell.row == other_cell.row) _ rows_same
+        and_from (own_cell.row == other_cell.row) _ rows_same
         (family_back in_row.one in_row.two in_row.relate) in
         let into : links_into page cells all_nodes other_cell ≡ true =
         kept_here (λ node. is_from page node && list_any (λ c. contains node.at c && relates c other_cell) cells)
         from page (below_by row from in_row.one found.kind in_row.first) from_page
-        (and_both (is_from page (with_page world plan from page)) _
-        (and_both (page == page) (is_source_at world plan from) (itself page page refl) source)
+        (and_from (is_from page (with_page world plan from page)) _
+        (and_from (page == page) (is_source_at world plan from) (eq-eqb page page refl) source)
         (cell_here plan world (λ c. contains from c && relates c other_cell) own_cell own.0
-        (and_both (contains from own_cell) (relates own_cell other_cell) own.1 related))) in
-        and_both (is_below plan to) _ (below_by row to in_row.two found.kind in_row.second)
-        (and_both (is_target_at world plan to) (is_linked_at page cells all_nodes to) target
+        (and_from (contains from own_cell) (relates own_cell other_cell) own.1 related))) in
+        and_from (is_below plan to) _ (below_by row to in_row.two found.kind in_row.second)
+        (and_from (is_target_at world plan to) (is_linked_at page cells all_nodes to) target
         (cell_here plan world (λ c. links_into page cells all_nodes c && contains to c) other_cell cell.0
-        (and_both (links_into page cells all_nodes other_cell) (contains to other_cell) into cell.1)))
+        (and_from (links_into page cells all_nodes other_cell) (contains to other_cell) into cell.1)))
       where
         family_back : (one two : ℕ)
             → (not (one == two) || has_node_value world plan (codes "collection-type") (codes "family") one) ≡ true
@@ -264,11 +258,11 @@ module _ (world : World) (plan : Plan) where
                 → (not (one == two) || has_node_value world plan (codes "collection-type") (codes "family") two) ≡ true
             by_test false e there = rw e refl
             by_test true e there = rw e (
-                ap (has_node_value world plan (codes "collection-type") (codes "family")) (sym (same one two e)) ∙ there)
+                ap (has_node_value world plan (codes "collection-type") (codes "family")) (sym (eqb-true one two e)) ∙ there)
 
     pub linked_same : (is_below plan to && (is_target_at world plan to && is_linked_at page cells all_nodes to))
         ≡ is_linked world plan page links.Related to
     linked_same = by_truth _ _ (λ all.
-        let rest = and_right (is_below plan to) (is_target_at world plan to && is_linked_at page cells all_nodes to) all in
-        forth (and_left (is_target_at world plan to) (is_linked_at page cells all_nodes to) rest)
-        (and_right (is_target_at world plan to) (is_linked_at page cells all_nodes to) rest)) back
+        let rest = second_holds (is_below plan to) (is_target_at world plan to && is_linked_at page cells all_nodes to) all in
+        forth (first_holds (is_target_at world plan to) (is_linked_at page cells all_nodes to) rest)
+        (second_holds (is_target_at world plan to) (is_linked_at page cells all_nodes to) rest)) back

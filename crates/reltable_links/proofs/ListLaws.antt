@@ -5,24 +5,8 @@ use Rattle.std.specs.Option.{option_map_or}
 use Rattle.std.proofs.Common.{refl, sym, ap, ◌∙◌, arith}
 use Rattle.std.proofs.lemmas.Option.{same_Some}
 use Rattle.dita_doc.specs.declared.plan.PlanNode.{PlanNode}
+use Rattle.dita_doc.proofs.Tests.{one_further}
 use Rattle.map_spec.specs.Scopes.{places_from}
-
-pub by_truth : (a b : Bool) → (a ≡ true → b ≡ true) → (b ≡ true → a ≡ true) → a ≡ b
-by_truth true b there back = sym (there refl)
-by_truth false true there back = back refl
-by_truth false false there back = refl
-
-pub and_left : (a b : Bool) → (a && b) ≡ true → a ≡ true
-and_left true b both = refl
-and_left false b both = cc
-
-pub and_right : (a b : Bool) → (a && b) ≡ true → b ≡ true
-and_right true b both = both
-and_right false b both = cc
-
-pub and_both : (a b : Bool) → a ≡ true → b ≡ true → (a && b) ≡ true
-and_both true b one two = two
-and_both false b one two = cc
 
 -- an element at a place
 pub record IsHere {X : Type 0} (p : X → Bool) (xs : List X) : Type 0 where
@@ -30,18 +14,6 @@ pub record IsHere {X : Type 0} (p : X → Bool) (xs : List X) : Type 0 where
   pub item : X
   pub is : slice_get xs at ≡ Some item
   pub holds : p item ≡ true
-
-pub any_here : {X : Type 0} (p : X → Bool) (xs : List X) (at : ℕ) (x : X) → slice_get xs at ≡ Some x → p x ≡ true
-    → list_any p xs ≡ true
-any_here p [] zero x is holds = cc
-any_here p [] (suc at) x is holds = cc
-any_here p (first ∷ xs) zero x is holds =
-    let same : p first ≡ true = ap p (same_Some first x is) ∙ holds in rw same refl
-any_here p (first ∷ xs) (suc at) x is holds = or_true (p first) (any_here p xs at x is holds)
-  where
-    or_true : (a : Bool) → list_any p xs ≡ true → (a || list_any p xs) ≡ true
-    or_true true behind = refl
-    or_true false behind = behind
 
 pub any_where : {X : Type 0} (p : X → Bool) (xs : List X) → list_any p xs ≡ true → IsHere p xs
 any_where p [] holds = cc
@@ -76,9 +48,6 @@ any_filter {X} q p (x ∷ xs) = by_case (any_filter q p xs) (q x) refl
 
 -- Places
 
-next : (from at : ℕ) → from + 1 + at ≡ from + suc at
-next from at = omega arith
-
 pub place_there : (from at : ℕ) (nodes : List PlanNode) (node : PlanNode) → slice_get nodes at ≡ Some node
     → slice_get (places_from from nodes) at ≡ Some (from + at)
 place_there from zero [] node is = cc
@@ -86,7 +55,7 @@ place_there from (suc at) [] node is = cc
 place_there from zero (first ∷ nodes) node is =
     let same : from ≡ from + 0 = omega arith in ap (λ n. Some n) same
 place_there from (suc at) (first ∷ nodes) node is =
-    place_there (from + 1) at nodes node is ∙ ap (λ n. Some n) (next from at)
+    place_there (from + 1) at nodes node is ∙ ap (λ n. Some n) (one_further from at)
 
 -- what stands at a place of the places is that place, and a node is there
 pub record IsPlace (from at place : ℕ) (nodes : List PlanNode) : Type 0 where
@@ -103,7 +72,7 @@ place_is from zero place (first ∷ nodes) is =
     record { is = sym (same_Some from place is) ∙ zeroth; node = first; there = refl }
 place_is from (suc at) place (first ∷ nodes) is =
     let behind = place_is (from + 1) at place nodes is in
-    record { is = behind.is ∙ next from at; node = behind.node; there = behind.there }
+    record { is = behind.is ∙ one_further from at; node = behind.node; there = behind.there }
 
 pub take_there : {X : Type 0} (n at : ℕ) (xs : List X) (x : X) → at < n → slice_get xs at ≡ Some x
     → slice_get (take n xs) at ≡ Some x

@@ -7,6 +7,7 @@ use Rattle.std.proofs.lemmas.List.{take_more}
 use Rattle.std.proofs.lemmas.List.Elements.{filter_map-append}
 use Rattle.std.proofs.lemmas.List.Folds.{list_any-append}
 use Rattle.dita_doc.specs.declared.content.LinkKind.TheVariants as links
+use Rattle.dita_doc.proofs.Tests.{or_assoc, or_false}
 use Rattle.link_groups.specs.LinkLists.{HoldsLinks, link_beside, links_to_nodes, with_link}
 use Rattle.link_groups.specs.declared.link_list.LinkList.{LinkList}
 use Rattle.link_groups.specs.declared.link_nodes.LinkNode.{LinkNode}
@@ -14,25 +15,17 @@ use Rattle.link_groups.proofs.OnceLaws.{filter_both}
 use Rattle.link_spec.specs.Links.{LinkTo}
 use Rattle.reltable_links.specs.Linked.{if_target, is_target}
 
-pub or_more : (a b c : Bool) → ((a || b) || c) ≡ (a || (b || c))
-or_more true b c = refl
-or_more false b c = refl
-
-pub or_none : (b : Bool) → (b || false) ≡ b
-or_none true = refl
-or_none false = refl
-
 module _ {X : Type 0} (q : X → Bool) (xs : List X) (index : ℕ) (d : X) (within : index < length xs) where
   pub any_next : list_any q (take (index + 1) xs) ≡ (list_any q (take index xs) || q (get_or xs index d))
   any_next = ap (list_any q) (take_more xs index d within)
       ∙ list_any-append q (take index xs) (get_or xs index d ∷ [])
-      ∙ ap (λ b. list_any q (take index xs) || b) (or_none (q (get_or xs index d)))
+      ∙ ap (λ b. list_any q (take index xs) || b) (or_false (q (get_or xs index d)))
 
   pub any_more : (old mid new : Bool) → new ≡ (mid || q (get_or xs index d)) → mid ≡ (old || list_any q (take index xs))
       → new ≡ (old || list_any q (take (index + 1) xs))
   any_more old mid new put before =
       put ∙ ap (λ b. b || q (get_or xs index d)) before
-      ∙ or_more old (list_any q (take index xs)) (q (get_or xs index d))
+      ∙ or_assoc old (list_any q (take index xs)) (q (get_or xs index d))
       ∙ ap (λ b. old || b) (sym any_next)
 
   pub any_alone : (mid new : Bool) → new ≡ (mid || q (get_or xs index d)) → mid ≡ list_any q (take index xs)

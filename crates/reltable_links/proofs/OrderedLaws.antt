@@ -3,11 +3,13 @@ use Rattle.std.specs.Prelude.{◌≡◌, ◌+◌, ◌≤◌, ◌==◌, ◌&&◌,
 use Rattle.std.specs.List.{filter_map, list_any}
 use Rattle.std.specs.Option.{option_and_then, option_map_or}
 use Rattle.std.proofs.Common.{refl, sym, ap, ◌∙◌, arith}
-use Rattle.std.proofs.lemmas.Bool.Decides.{nat_tests}
+use Rattle.std.proofs.lemmas.Bool.{and_from, eqb-true}
+use Rattle.std.proofs.lemmas.Map.Keys.{any_passes_from_place}
 use Rattle.std.proofs.lemmas.Option.{same_Some}
 use Rattle.dita_doc.specs.declared.content.LinkKind.TheVariants as links
 use Rattle.dita_doc.specs.declared.plan.Plan.{Plan}
 use Rattle.dita_doc.specs.declared.plan.PlanNode.{PlanNode}
+use Rattle.dita_doc.proofs.Tests.{by_truth, first_holds, number_itself, second_holds, zeroth}
 use Rattle.map_spec.specs.Scopes.{places, places_from}
 use Rattle.link_spec.specs.Links.{LinkTo, links_of_kind, page_of_node, to_each_once}
 use Rattle.plan_nodes.specs.Preorder.{IsTree}
@@ -20,7 +22,7 @@ use Rattle.reltable_links.specs.CellTable.{is_below, node_at, node_below}
 use Rattle.reltable_links.specs.Linked.{is_linked_at, is_linked_node, linked_nodes}
 use Rattle.reltable_links.proofs.CellLaws.{all_cells}
 use Rattle.reltable_links.proofs.LinkedLaws.{all_nodes, linked_same, paged}
-use Rattle.reltable_links.proofs.ListLaws.{and_left, and_right, and_both, any_filter, any_here, any_where, by_truth, place_there}
+use Rattle.reltable_links.proofs.ListLaws.{any_filter, any_where, place_there}
 
 -- Places that are kept
 
@@ -45,25 +47,16 @@ below_kept q from (node ∷ nodes) end fits = by_test (below_kept q (from + 1) n
     by_test behind true e = rw e (omega (arith, fits), behind)
     by_test behind false e = rw e behind
 
-same : (n k : ℕ) → (n == k) ≡ true → n ≡ k
-same n k is = grind (arith, nat_tests)
-
-itself : (n : ℕ) → (n == n) ≡ true
-itself n = grind (arith, nat_tests)
-
-zeroth : (n : ℕ) → Some (0 + n) ≡ Some n
-zeroth n = let e : 0 + n ≡ n = omega arith in ap (λ k. Some k) e
-
 among_kept : (q : ℕ → Bool) (nodes : List PlanNode) (at : ℕ) (node : PlanNode) → slice_get nodes at ≡ Some node
     → among (filter q (places nodes)) at ≡ q at
 among_kept q nodes at node is =
     any_filter q (λ other. other == at) (places nodes)
     ∙ by_truth (list_any (λ k. q k && (k == at)) (places nodes)) (q at)
     (λ some. let here = any_where (λ k. q k && (k == at)) (places nodes) some in
-    ap q (sym (same here.item at (and_right (q here.item) (here.item == at) here.holds)))
-    ∙ and_left (q here.item) (here.item == at) here.holds)
-    (λ holds. any_here (λ k. q k && (k == at)) (places nodes) at at (place_there 0 at nodes node is ∙ zeroth at)
-    (and_both (q at) (at == at) holds (itself at)))
+    ap q (sym (eqb-true here.item at (second_holds (q here.item) (here.item == at) here.holds)))
+    ∙ first_holds (q here.item) (here.item == at) here.holds)
+    (λ holds. any_passes_from_place (λ k. q k && (k == at)) (places nodes) at at (place_there 0 at nodes node is ∙ zeroth at)
+    (and_from (q at) (at == at) holds (number_itself at)))
 
 -- Elements that are found, kept and led to, by their places
 

@@ -5,9 +5,10 @@ use Rattle.std.proofs.Math.Logic.{◌⊎◌, inl, inr, ⊎_elim}
 use Rattle.std.proofs.lemmas.List.{length-map, map-append}
 use Rattle.std.proofs.lemmas.Option.{same_Some}
 use Rattle.dita_doc.specs.declared.plan.PlanNode.{PlanNode}
+use Rattle.dita_doc.proofs.Tests.{nothing_more, place_next}
 use Rattle.map_spec.specs.MapTree.{MapTree, MapNode, NoNodes, count, nodes_below, plan_nodes}
+use Rattle.map_lemmas.proofs.TreeLaws.{length_below}
 use Rattle.plan_nodes.specs.Preorder.{HasOneRoot, IsTree, shape}
-use Rattle.plan_nodes.proofs.EndLaws.{length_below}
 
 abbrev pub Shape : Type 0
 Shape = ℕ × ℕ
@@ -39,19 +40,13 @@ EndsWithin end (node ∷ nodes) = (node.1 ≤ end) × EndsWithin end nodes
 
 -- One list behind the other
 
-further : (at n : ℕ) → at + suc n ≡ at + 1 + n
-further at n = omega arith
-
-nothing_more : (at : ℕ) → at + 0 ≡ at
-nothing_more at = omega arith
-
 beside_both : (first end at : ℕ) (nodes more : List Shape) → AreBeside first end at nodes
     → AreBeside first end (at + length nodes) more → AreBeside first end at (nodes ++ more)
 beside_both first end at [] more one two = subst (λ n. AreBeside first end n more) (nothing_more at) two
 beside_both first end at (node ∷ nodes) more one two = (
   one.0,
   beside_both first end (at + 1) nodes more one.1
-      (subst (λ n. AreBeside first end n more) (further at (length nodes)) two),
+      (subst (λ n. AreBeside first end n more) (place_next at (length nodes)) two),
 )
 
 parents_both : (parent from at : ℕ) (nodes more : List Shape) → ParentsAre parent from at nodes
@@ -61,7 +56,7 @@ parents_both parent from at (node ∷ nodes) more one two = (
   one.0,
   one.1,
   parents_both parent from (at + 1) nodes more one.2
-      (subst (λ n. ParentsAre parent from n more) (further at (length nodes)) two),
+      (subst (λ n. ParentsAre parent from n more) (place_next at (length nodes)) two),
 )
 
 ends_both : (end : ℕ) (nodes more : List Shape) → EndsWithin end nodes → EndsWithin end more
@@ -215,7 +210,7 @@ beside_at first end from zero (one ∷ nodes) node are is =
     subst (λ n. IsBeside first end n node) (sym (nothing_more from))
     (subst (IsBeside first end from) (same_Some one node is) are.0)
 beside_at first end from (suc at) (one ∷ nodes) node are is =
-    subst (λ n. IsBeside first end n node) (sym (further from at))
+    subst (λ n. IsBeside first end n node) (sym (place_next from at))
     (beside_at first end (from + 1) at nodes node are.1 is)
 
 -- what is known of a node, and of one behind it
@@ -240,7 +235,7 @@ spans_at from zero at (here ∷ nodes) node other are one two =
     subst (λ n. IsSpan n node (n + 1 + at) other) (sym (nothing_more from)) span
 spans_at from (suc first) at (here ∷ nodes) node other are one two =
     let place : suc first + 1 + at ≡ suc (first + 1 + at) = omega arith in
-    subst (λ n. IsSpan n node (n + 1 + at) other) (sym (further from first))
+    subst (λ n. IsSpan n node (n + 1 + at) other) (sym (place_next from first))
     (spans_at (from + 1) first at nodes node other are.2 one (ap (slice_get (here ∷ nodes)) (sym place) ∙ two))
 
 tree_are : (nodes : List PlanNode) → IsTree nodes → AreSpans 0 (map shape nodes)

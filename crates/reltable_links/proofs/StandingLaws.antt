@@ -3,20 +3,21 @@ use Rattle.std.specs.Prelude.{◌≡◌, ◌&&◌, ◌||◌, ℕ, Bool, true, fa
 use Rattle.std.specs.List.{list_any}
 use Rattle.std.proofs.Common.{refl, sym, ◌∙◌, arith}
 use Rattle.std.proofs.lemmas.Bool.Decides.{nat_tests}
+use Rattle.dita_doc.proofs.Lists.{any_swap}
 use Rattle.link_groups.specs.declared.link_nodes.LinkNode.{LinkNode}
 use Rattle.reltable_links.specs.Below.{is_new, new_below}
 use Rattle.reltable_links.specs.CellTable.{contains, relates}
 use Rattle.reltable_links.specs.Linked.{is_from, links_into}
 use Rattle.reltable_links.specs.Standings.{leads_from, stands_in}
-use Rattle.reltable_links.specs.declared.cells.Cell.{Cell}
-use Rattle.reltable_links.proofs.ListLaws.{any_filter, any_here, any_where, by_truth}
+use Rattle.reltable_links.specs.declared.cells.RowCell.{RowCell}
+use Rattle.reltable_links.proofs.ListLaws.{any_filter}
 
 -- A page that stands in a cell by one of the nodes below it
 
 first_new : (at : ℕ) → not (nat_lt at 0) ≡ true
 first_new at = grind (arith, nat_tests)
 
-pub led_below : (page : ℕ) (own cell : Cell) (nodes : List LinkNode)
+pub led_below : (page : ℕ) (own cell : RowCell) (nodes : List LinkNode)
     → list_any (leads_from page own cell) (new_below (λ (node : LinkNode). node.at) own 0 nodes)
     ≡ stands_in page nodes cell own
 led_below page own cell nodes =
@@ -32,19 +33,6 @@ led_below page own cell nodes =
     new_contains at = by_tests (nat_lt own.at at) (not (nat_lt at 0)) (nat_lt at own.end) (first_new at)
 
 -- Some of one list, and some of another
-
-swap_forth : {X Y : Type 0} (r : X → Y → Bool) (xs : List X) (ys : List Y)
-    → list_any (λ x. list_any (r x) ys) xs ≡ true → list_any (λ y. list_any (λ x. r x y) xs) ys ≡ true
-swap_forth r xs ys some =
-    let here = any_where (λ x. list_any (r x) ys) xs some in
-    let there = any_where (r here.item) ys here.holds in
-    any_here (λ y. list_any (λ x. r x y) xs) ys there.at there.item there.is
-    (any_here (λ x. r x there.item) xs here.at here.item here.is there.holds)
-
-pub any_swap : {X Y : Type 0} (r : X → Y → Bool) (xs : List X) (ys : List Y)
-    → list_any (λ x. list_any (r x) ys) xs ≡ list_any (λ y. list_any (λ x. r x y) xs) ys
-any_swap r xs ys = by_truth (list_any (λ x. list_any (r x) ys) xs) (list_any (λ y. list_any (λ x. r x y) xs) ys)
-    (swap_forth r xs ys) (swap_forth (λ y x. r x y) ys xs)
 
 none_any : {Y : Type 0} (a : Y → Bool) (ys : List Y) → list_any (λ y. a y && false) ys ≡ false
 none_any a [] = refl
@@ -74,9 +62,9 @@ any_back false a ys = none_any a ys ∙ sym (with_false (list_any a ys))
     with_false false = refl
 
 -- the cells that have a node of the page below them are those into which it leads
-pub stood_in : (page : ℕ) (cells : List Cell) (nodes : List LinkNode) (cell : Cell)
+pub stood_in : (page : ℕ) (cells : List RowCell) (nodes : List LinkNode) (cell : RowCell)
     → list_any (stands_in page nodes cell) cells ≡ links_into page cells nodes cell
 stood_in page cells nodes cell =
-    any_swap (λ (own : Cell) (node : LinkNode). contains node.at own && leads_from page own cell node) cells nodes
+    any_swap (λ (own : RowCell) (node : LinkNode). contains node.at own && leads_from page own cell node) cells nodes
     ∙ (λ i. list_any (λ (node : LinkNode). any_front (is_from page node) (contains node.at)
-    (λ (own : Cell). relates own cell) cells i) nodes)
+    (λ (own : RowCell). relates own cell) cells i) nodes)

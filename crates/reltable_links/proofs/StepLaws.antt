@@ -3,13 +3,15 @@ use Rattle.std.specs.Prelude.{◌≡◌, ◌+◌, ◌<◌, ◌≤◌, ◌||◌, 
 use Rattle.std.specs.List.{filter_map, list_any}
 use Rattle.std.specs.Option.{option_and_then, option_map_or, option_to_list}
 use Rattle.std.proofs.Common.{refl, sym, ap, subst, ◌∙◌, arith, get_or}
+use Rattle.std.proofs.lemmas.Bool.{and_from, lt-ltb}
 use Rattle.std.proofs.lemmas.Bool.Decides.{nat_tests}
-use Rattle.std.proofs.lemmas.List.{take_more}
 use Rattle.std.proofs.lemmas.List.Elements.{filter_map-append}
 use Rattle.std.proofs.lemmas.List.Folds.{list_any-append}
+use Rattle.std.proofs.lemmas.Map.Keys.{any_passes_from_place}
 use Rattle.std.proofs.lemmas.Option.{same_Some, slice_get_read}
 use Rattle.dita_doc.specs.declared.plan.Plan.{Plan}
 use Rattle.dita_doc.specs.declared.plan.PlanNode.{PlanNode}
+use Rattle.dita_doc.proofs.Tests.{by_truth}
 use Rattle.map_spec.specs.Cascade.{attribute_at, whole_at}
 use Rattle.map_spec.specs.Elements.{attribute}
 use Rattle.map_spec.specs.Scopes.{places, places_from}
@@ -18,34 +20,19 @@ use Rattle.link_spec.specs.Links.{cell_of, has_node_value, is_kind_at, is_row}
 use Rattle.plan_nodes.specs.Home.{value_at}
 use Rattle.plan_nodes.specs.Preorder.{IsTree}
 use Rattle.reader_spec.specs.World.{World}
+use Rattle.map_lemmas.proofs.ListedLaws.{places_more}
 use Rattle.link_groups.proofs.OnceLaws.{filter_both}
 use Rattle.reltable_links.specs.CellTable.{AreCellsOf, PutsCell, PutsNode, cell_at, cell_by, cell_for, cell_made, contains, end_with, ends_behind, if_row, is_family_by, is_below, is_lost_below, lost_below, node_at, node_below, row_put}
-use Rattle.reltable_links.specs.declared.cells.Cell.{Cell}
+use Rattle.reltable_links.specs.declared.cells.RowCell.{RowCell}
 use Rattle.reltable_links.specs.declared.cells.Cells.{Cells}
-use Rattle.reltable_links.proofs.CellLaws.{cell_found, found_cell, cell_is, cell_over, cell_row, is_cell_of, is_less, over_cell, row_here, row_where}
-use Rattle.reltable_links.proofs.ListLaws.{and_both, any_filter_map, any_here, any_where, by_truth, place_is, place_there, take_is, take_there}
+use Rattle.reltable_links.proofs.CellLaws.{cell_found, found_cell, cell_is, cell_over, cell_row, is_cell_of, over_cell, row_here, row_where}
+use Rattle.reltable_links.proofs.ListLaws.{any_filter_map, any_where, place_is, place_there, take_is, take_there}
 
 -- The places before one
-
-get_place : (from at : ℕ) (nodes : List PlanNode) (d : ℕ) → at < length nodes
-    → get_or (places_from from nodes) at d ≡ from + at
-get_place from at [] d within = absurd (omega (arith, within))
-get_place from zero (node ∷ nodes) d within = omega arith
-get_place from (suc at) (node ∷ nodes) d within =
-    let same : from + 1 + at ≡ from + suc at = omega arith in
-    get_place (from + 1) at nodes d (omega (arith, within)) ∙ same
 
 long_places : (from : ℕ) (nodes : List PlanNode) → length (places_from from nodes) ≡ length nodes
 long_places from [] = refl
 long_places from (node ∷ nodes) = let behind = long_places (from + 1) nodes in omega (arith, behind)
-
-pub places_more : (nodes : List PlanNode) (at : ℕ) → at < length nodes
-    → take (at + 1) (places nodes) ≡ take at (places nodes) ++ at ∷ []
-places_more nodes at within =
-    let long = long_places 0 nodes in
-    let zeroth : 0 + at ≡ at = omega arith in
-    take_more (places nodes) at 0 (omega (arith, within, long))
-    ∙ ap (λ n. take at (places nodes) ++ n ∷ []) (get_place 0 at nodes 0 within ∙ zeroth)
 
 pub take_places : (nodes : List PlanNode) (at : ℕ) → length nodes ≤ at → take at (places nodes) ≡ places nodes
 take_places nodes at past = every at (places nodes) (let long = long_places 0 nodes in omega (arith, past, long))
@@ -59,56 +46,56 @@ take_places nodes at past = every at (places nodes) (let long = long_places 0 no
 -- A node stands below a cell exactly if it stands before where one of those before it ends
 
 module _ (world : World) (plan : Plan) (tree : IsTree plan.nodes) where
-  abbrev cells_before : ℕ → List Cell
+  abbrev cells_before : ℕ → List RowCell
   cells_before at = filter_map (cell_at world plan) (take at (places plan.nodes))
 
   below_there : (at : ℕ) (node : PlanNode) → slice_get plan.nodes at ≡ Some node → is_below plan at ≡ true
-      → list_any (λ (cell : Cell). nat_lt at cell.end) (cells_before at) ≡ true
+      → list_any (λ (cell : RowCell). nat_lt at cell.end) (cells_before at) ≡ true
   below_there at node there below =
       let found = row_where plan (λ row. is_some (cell_of plan row at)) below in
       by_cell found.row found.kind (cell_of plan found.row at) refl found.holds
     where
       by_cell : (row : ℕ) → is_kind_at plan is_row row ≡ true → (cell : Option ℕ) → cell_of plan row at ≡ cell
-          → is_some cell ≡ true → list_any (λ (c : Cell). nat_lt at c.end) (cells_before at) ≡ true
+          → is_some cell ≡ true → list_any (λ (c : RowCell). nat_lt at c.end) (cells_before at) ≡ true
       by_cell row kind None e holds = cc
       by_cell row kind (Some cell) e holds =
           let over = cell_is plan tree row at cell node there e in
           let kept = over_cell plan world row at cell over kind in
           let zeroth : 0 + cell ≡ cell = omega arith in
-          any_filter_map (cell_at world plan) (λ (c : Cell). nat_lt at c.end) (take at (places plan.nodes))
-          ∙ any_here (λ k. option_map_or (λ (c : Cell). nat_lt at c.end) (cell_at world plan k) false)
+          any_filter_map (cell_at world plan) (λ (c : RowCell). nat_lt at c.end) (take at (places plan.nodes))
+          ∙ any_passes_from_place (λ k. option_map_or (λ (c : RowCell). nat_lt at c.end) (cell_at world plan k) false)
           (take at (places plan.nodes)) cell cell
           (take_there at cell (places plan.nodes) cell over.behind
           (place_there 0 cell plan.nodes over.node over.there ∙ ap (λ k. Some k) zeroth))
-          (ap (λ f. option_map_or (λ (c : Cell). nat_lt at c.end) f false)
+          (ap (λ f. option_map_or (λ (c : RowCell). nat_lt at c.end) f false)
           (found_cell plan world (cell_for world plan cell over.node) kept.0)
-          ∙ is_less at over.node.end over.within)
+          ∙ lt-ltb at over.node.end over.within)
 
   below_back : (at : ℕ) (node : PlanNode) → slice_get plan.nodes at ≡ Some node
-      → list_any (λ (cell : Cell). nat_lt at cell.end) (cells_before at) ≡ true → is_below plan at ≡ true
+      → list_any (λ (cell : RowCell). nat_lt at cell.end) (cells_before at) ≡ true → is_below plan at ≡ true
   below_back at node there some =
-      let here = any_where (λ k. option_map_or (λ (c : Cell). nat_lt at c.end) (cell_at world plan k) false)
-      (take at (places plan.nodes)) (sym (any_filter_map (cell_at world plan) (λ (c : Cell). nat_lt at c.end)
+      let here = any_where (λ k. option_map_or (λ (c : RowCell). nat_lt at c.end) (cell_at world plan k) false)
+      (take at (places plan.nodes)) (sym (any_filter_map (cell_at world plan) (λ (c : RowCell). nat_lt at c.end)
       (take at (places plan.nodes))) ∙ some) in
       let taken = take_is at here.at (places plan.nodes) here.item here.is in
       let place = place_is 0 here.at here.item plan.nodes taken.1 in
       let before : here.item < at = let near = taken.0 in let same = place.is in omega (arith, near, same) in
       by_cell here.item before (cell_at world plan here.item) refl here.holds
     where
-      by_cell : (k : ℕ) → k < at → (cell : Option Cell) → cell_at world plan k ≡ cell
-          → option_map_or (λ (c : Cell). nat_lt at c.end) cell false ≡ true → is_below plan at ≡ true
+      by_cell : (k : ℕ) → k < at → (cell : Option RowCell) → cell_at world plan k ≡ cell
+          → option_map_or (λ (c : RowCell). nat_lt at c.end) cell false ≡ true → is_below plan at ≡ true
       by_cell k before None e holds = cc
       by_cell k before (Some cell) e holds =
           let row_cell = cell_found plan world k cell e in
-          let within : contains at cell ≡ true = and_both (nat_lt cell.at at) (nat_lt at cell.end)
-          (is_less cell.at at (let same = row_cell.0 in omega (arith, before, same))) holds in
+          let within : contains at cell ≡ true = and_from (nat_lt cell.at at) (nat_lt at cell.end)
+          (lt-ltb cell.at at (let same = row_cell.0 in omega (arith, before, same))) holds in
           row_here plan (λ row. is_some (cell_of plan row at)) cell.row (cell_row plan world cell row_cell.1)
           (ap is_some (is_cell_of plan tree cell.row at cell.at node there
           (cell_over plan world cell at row_cell.1 within)))
 
   pub below_is : (at : ℕ) (node : PlanNode) → slice_get plan.nodes at ≡ Some node
-      → is_below plan at ≡ list_any (λ (cell : Cell). nat_lt at cell.end) (cells_before at)
-  below_is at node there = by_truth (is_below plan at) (list_any (λ (cell : Cell). nat_lt at cell.end) (cells_before at))
+      → is_below plan at ≡ list_any (λ (cell : RowCell). nat_lt at cell.end) (cells_before at)
+  below_is at node there = by_truth (is_below plan at) (list_any (λ (cell : RowCell). nat_lt at cell.end) (cells_before at))
       (below_there at node there) (below_back at node there)
 
   -- What is known behind one node more
@@ -127,8 +114,8 @@ module _ (world : World) (plan : Plan) (tree : IsTree plan.nodes) where
       by_found None e = rw e refl
       by_found (Some y) e = rw e refl
 
-  end_one : (at : ℕ) (cell : Option Cell) → ends_behind at cell
-      ≡ list_any (λ (c : Cell). nat_lt at c.end) (option_to_list cell)
+  end_one : (at : ℕ) (cell : Option RowCell) → ends_behind at cell
+      ≡ list_any (λ (c : RowCell). nat_lt at c.end) (option_to_list cell)
   end_one at None = refl
   end_one at (Some cell) = or_none (nat_lt at cell.end)
     where
@@ -143,7 +130,7 @@ module _ (world : World) (plan : Plan) (tree : IsTree plan.nodes) where
   cells_more at node old mid new there within are one two =
       let so_far = take at (places plan.nodes) in
       let below : nat_lt at old.end ≡ is_below plan at =
-      are.end at ∙ ap (list_any (λ (c : Cell). nat_lt at c.end)) are.cells ∙ sym (below_is at node there) in
+      are.end at ∙ ap (list_any (λ (c : RowCell). nat_lt at c.end)) are.cells ∙ sym (below_is at node there) in
       let cells_are : new.cells.items ≡ old.cells.items ++ option_to_list (cell_at world plan at) =
       two.cells ∙ ap (λ c. c ++ option_to_list (cell_at world plan at)) one.cells in
       subst (λ some. AreCellsOf world plan some new) (sym (places_more plan.nodes at within)) (record {
@@ -165,8 +152,8 @@ module _ (world : World) (plan : Plan) (tree : IsTree plan.nodes) where
         end = λ k.
             two.end k ∙ ap (λ e. nat_lt k e || ends_behind k (cell_at world plan at)) one.end
             ∙ (λ i. are.end k i || end_one k (cell_at world plan at) i)
-            ∙ sym (list_any-append (λ (c : Cell). nat_lt k c.end) old.cells.items (option_to_list (cell_at world plan at)))
-            ∙ ap (list_any (λ (c : Cell). nat_lt k c.end)) (sym cells_are);
+            ∙ sym (list_any-append (λ (c : RowCell). nat_lt k c.end) old.cells.items (option_to_list (cell_at world plan at)))
+            ∙ ap (list_any (λ (c : RowCell). nat_lt k c.end)) (sym cells_are);
       })
 
 -- A row or a cell was put
@@ -188,7 +175,7 @@ family_is world plan homes at node are there =
     (option_and_then (λ (whole : Option Whole). whole) found))) (mapped_there world plan.nodes at node there)
     ∙ sym (ap (λ found. is_family_by (option_and_then (attribute_at world (codes "collection-type")) found)) there)
 
-ends_with : (k end : ℕ) (cell : Option Cell) → nat_lt k (end_with end cell) ≡ (nat_lt k end || ends_behind k cell)
+ends_with : (k end : ℕ) (cell : Option RowCell) → nat_lt k (end_with end cell) ≡ (nat_lt k end || ends_behind k cell)
 ends_with k end None = or_none (nat_lt k end)
   where
     or_none : (b : Bool) → b ≡ (b || false)
@@ -197,7 +184,7 @@ ends_with k end None = or_none (nat_lt k end)
 ends_with k end (Some cell) = grind (arith, nat_tests)
 
 pub cell_put : (world : World) (plan : Plan) (homes : List (Option Whole)) (at place : ℕ) (node : PlanNode)
-    (cell : Option Cell) (old mid new : Cells) → slice_get plan.nodes at ≡ Some node → place ≡ at
+    (cell : Option RowCell) (old mid new : Cells) → slice_get plan.nodes at ≡ Some node → place ≡ at
     → homes ≡ map (whole_at world) plan.nodes
     → mid.rows.items ≡ old.rows.items ++ if_row place node → mid.cells.items ≡ old.cells.items
     → mid.nodes.items ≡ old.nodes.items → mid.lost.items ≡ old.lost.items → mid.end ≡ old.end
@@ -226,9 +213,3 @@ pub read_at : (nodes all : List PlanNode) (at : ℕ) (node : PlanNode) → nodes
 read_at nodes all at node same within item =
     let fits : at < length nodes = subst (λ ns. at < length ns) (sym same) within in
     sym (ap (λ ns. slice_get ns at) same) ∙ slice_get_read nodes (length nodes) at node refl fits item
-
-pub node_within : (nodes : List PlanNode) (at : ℕ) → at < length nodes
-    → (node : PlanNode) × (slice_get nodes at ≡ Some node)
-node_within [] at within = absurd (omega (arith, within))
-node_within (node ∷ nodes) zero within = (node, refl)
-node_within (node ∷ nodes) (suc at) within = node_within nodes at (omega (arith, within))

@@ -18,7 +18,7 @@ use Rattle.reader_spec.specs.World.{World}
 use Rattle.reltable_links.specs.CellTable.{cell_at, is_lost_below, node_at}
 use Rattle.reltable_links.specs.Linked.{linked_nodes}
 use Rattle.reltable_links.specs.Standings.{is_in}
-use Rattle.reltable_links.specs.declared.cells.Cell.{Cell}
+use Rattle.reltable_links.specs.declared.cells.RowCell.{RowCell}
 use Rattle.reltable_links.proofs.BelowLaws.{AreFromBy, found_from, from_start, in_order, kept_from}
 use Rattle.reltable_links.proofs.CellLaws.{all_cells, cell_found}
 use Rattle.reltable_links.proofs.LinkedLaws.{all_nodes, kept_found}
@@ -37,9 +37,9 @@ some_from {X} place q (x ∷ xs) from least low are =
     by_test false e one two = rw e two
 
 module _ (world : World) (plan : Plan) where
-  pub cells_rise : IsNonDecreasingBy (λ (cell : Cell). cell.at) (all_cells plan world)
-  cells_rise = in_order (λ (cell : Cell). cell.at) 0 (all_cells plan world)
-      (found_from (cell_at world plan) (λ (cell : Cell). cell.at)
+  pub cells_rise : IsNonDecreasingBy (λ (cell : RowCell). cell.at) (all_cells plan world)
+  cells_rise = in_order (λ (cell : RowCell). cell.at) 0 (all_cells plan world)
+      (found_from (cell_at world plan) (λ (cell : RowCell). cell.at)
       (λ at cell is. (cell_found plan world at cell is).0) 0 plan.nodes 0 (omega arith))
 
   pub nodes_rise : IsNonDecreasingBy (λ (node : LinkNode). node.at) (all_nodes world plan)
@@ -51,14 +51,15 @@ module _ (world : World) (plan : Plan) where
   lost_rise = in_order (λ (at : ℕ). at) 0 (filter (is_lost_below plan) (places plan.nodes))
       (kept_from (is_lost_below plan) 0 plan.nodes 0 (omega arith))
 
-pub row_rises : (row : ℕ) (cells : List Cell) → IsNonDecreasingBy (λ (cell : Cell). cell.at) cells
-    → IsNonDecreasingBy (λ (cell : Cell). cell.at) (filter (is_in row) cells)
-row_rises row cells rise = in_order (λ (cell : Cell). cell.at) 0 (filter (is_in row) cells)
-    (some_from (λ (cell : Cell). cell.at) (is_in row) cells 0 0 (omega arith)
-    (from_start (λ (cell : Cell). cell.at) cells rise))
+pub row_rises : (row : ℕ) (cells : List RowCell) → IsNonDecreasingBy (λ (cell : RowCell). cell.at) cells
+    → IsNonDecreasingBy (λ (cell : RowCell). cell.at) (filter (is_in row) cells)
+row_rises row cells rise = in_order (λ (cell : RowCell). cell.at) 0 (filter (is_in row) cells)
+    (some_from (λ (cell : RowCell). cell.at) (is_in row) cells 0 0 (omega arith)
+    (from_start (λ (cell : RowCell). cell.at) cells rise))
 
 -- behind what a list holds, the links to those of the kept nodes are those of the definition
-pub appended : (world : World) (plan : Plan) (page : ℕ) (all : List LinkTo) (cells : List Cell) (nodes : List LinkNode)
+pub appended : (world : World) (plan : Plan) (page : ℕ) (all : List LinkTo) (cells : List RowCell)
+    (nodes : List LinkNode)
     (list : LinkList) → IsTree plan.nodes → cells ≡ all_cells plan world → nodes ≡ all_nodes world plan
     → HoldsLinks page (all ++ links_to_nodes page links.Related (linked_nodes page cells nodes)) list
     → HoldsLinks page (all ++ links_of_kind world plan page links.Related) list

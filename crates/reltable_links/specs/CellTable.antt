@@ -12,21 +12,21 @@ use Rattle.map_spec.specs.Pages.{local_name}
 use Rattle.map_spec.specs.Scopes.{places}
 use Rattle.map_spec.specs.Cascade.{whole_at}
 use Rattle.map_spec.specs.Written.{Whole}
-use Rattle.link_spec.specs.Links.{cell_of, has_node_value, has_page, is_cell, is_kind_at, is_row, rows, target_of}
+use Rattle.link_spec.specs.Links.{cell_of, has_node_value, has_page, is_cell, is_kind_at, is_row, rows, plan_target}
 use Rattle.plan_nodes.specs.Carried.{CarryValues}
 use Rattle.plan_nodes.specs.Preorder.{IsTree}
 use Rattle.reader_spec.specs.World.{World}
-use Rattle.reltable_links.specs.declared.cells.Cell.{Cell}
+use Rattle.reltable_links.specs.declared.cells.RowCell.{RowCell}
 use Rattle.reltable_links.specs.declared.cells.Cells.{Cells}
 
 -- One cell and another
 
 -- a node stands below a cell
-abbrev pub contains : ℕ → Cell → Bool
+abbrev pub contains : ℕ → RowCell → Bool
 contains at cell = nat_lt cell.at at && nat_lt at cell.end
 
 -- the nodes below one cell are related to those below another: of the same row, and another cell or a family
-abbrev pub relates : Cell → Cell → Bool
+abbrev pub relates : RowCell → RowCell → Bool
 relates one other = (one.row == other.row) && (not (one.at == other.at) || other.is_family)
 
 -- The cells of a plan
@@ -36,7 +36,7 @@ abbrev pub is_row_cell : List PlanNode → ℕ → PlanNode → Bool
 is_row_cell nodes at node = not (at == 0) && is_cell node.kind
     && option_map_or (λ (parent : PlanNode). is_row parent.kind) (slice_get nodes node.parent) false
 
-abbrev pub cell_for : World → Plan → ℕ → PlanNode → Cell
+abbrev pub cell_for : World → Plan → ℕ → PlanNode → RowCell
 cell_for world plan at node = record {
   row = node.parent;
   at = at;
@@ -44,10 +44,10 @@ cell_for world plan at node = record {
   is_family = has_node_value world plan (codes "collection-type") (codes "family") at;
 }
 
-abbrev pub cell_made : World → Plan → ℕ → PlanNode → Option Cell
+abbrev pub cell_made : World → Plan → ℕ → PlanNode → Option RowCell
 cell_made world plan at node = if is_row_cell plan.nodes at node then Some (cell_for world plan at node) else None
 
-abbrev pub cell_at : World → Plan → ℕ → Option Cell
+abbrev pub cell_at : World → Plan → ℕ → Option RowCell
 cell_at world plan at = option_and_then (cell_made world plan at) (slice_get plan.nodes at)
 
 -- The nodes below cells
@@ -58,7 +58,7 @@ is_below plan at = list_any (λ row. is_some (cell_of plan row at)) (rows plan)
 
 -- it leads to a DITA document without a page
 abbrev pub is_lost : Plan → ℕ → Bool
-is_lost plan at = is_some (local_name (target_of plan at)) && not (has_page plan at)
+is_lost plan at = is_some (local_name (plan_target plan at)) && not (has_page plan at)
 
 abbrev pub node_below : World → Plan → Bool → ℕ → Option LinkNode
 node_below world plan below at = if below then link_node_at world plan at else None
@@ -78,7 +78,7 @@ pub record AreCellsOf (world : World) (plan : Plan) (places : List ℕ) (table :
   pub cells : table.cells.items ≡ filter_map (cell_at world plan) places
   pub nodes : table.nodes.items ≡ filter_map (node_at world plan) places
   pub lost : table.lost.items ≡ filter (is_lost_below plan) places
-  pub end : (at : ℕ) → nat_lt at table.end ≡ list_any (λ (cell : Cell). nat_lt at cell.end) table.cells.items
+  pub end : (at : ℕ) → nat_lt at table.end ≡ list_any (λ (cell : RowCell). nat_lt at cell.end) table.cells.items
 
 abbrev pub AreCells : World → Plan → Cells → Type 0
 AreCells world plan cells = AreCellsOf world plan (places plan.nodes) cells
@@ -102,8 +102,8 @@ pub record PutsNode (world : World) (plan : Plan) (at : ℕ) (old new : Cells) :
 abbrev pub row_put : Plan → ℕ → List ℕ
 row_put plan at = if is_kind_at plan is_row at then at ∷ [] else []
 
-abbrev pub ends_behind : ℕ → Option Cell → Bool
-ends_behind at cell = option_map_or (λ (c : Cell). nat_lt at c.end) cell false
+abbrev pub ends_behind : ℕ → Option RowCell → Bool
+ends_behind at cell = option_map_or (λ (c : RowCell). nat_lt at c.end) cell false
 
 -- a row or a cell was put behind the others
 pub record PutsCell (world : World) (plan : Plan) (at : ℕ) (old new : Cells) : Type 0 where
@@ -118,13 +118,13 @@ pub record PutsCell (world : World) (plan : Plan) (at : ℕ) (old new : Cells) :
 abbrev pub if_row : ℕ → PlanNode → List ℕ
 if_row at node = if is_row node.kind then at ∷ [] else []
 
-abbrev pub end_with : ℕ → Option Cell → ℕ
+abbrev pub end_with : ℕ → Option RowCell → ℕ
 end_with end None = end
 end_with end (Some cell) = max end cell.end
 
 abbrev pub is_family_by : Option (List ℕ) → Bool
 is_family_by value = is_value (codes "family") value
 
-abbrev pub cell_by : List PlanNode → Bool → ℕ → ℕ → PlanNode → Option Cell
+abbrev pub cell_by : List PlanNode → Bool → ℕ → ℕ → PlanNode → Option RowCell
 cell_by nodes is_family at place node = if is_row_cell nodes at node
     then Some (record { row = node.parent; at = place; end = node.end; is_family = is_family }) else None

@@ -11,13 +11,13 @@ use Rattle.link_groups.specs.declared.link_list.LinksMade.{LinksMade}
 use Rattle.link_groups.specs.declared.link_nodes.LinkNodes.{LinkNodes}
 use Rattle.map_spec.specs.Pages.{local_name}
 use Rattle.map_spec.specs.Scopes.{node_fault, places}
-use Rattle.link_spec.specs.Links.{row_faults, row_links, target_of}
+use Rattle.link_spec.specs.Links.{row_faults, row_links, plan_target}
 use Rattle.plan_nodes.specs.Carried.{CarryValues}
 use Rattle.plan_nodes.specs.Preorder.{IsTree}
 use Rattle.reader_spec.specs.World.{World}
 use Rattle.reltable_links.specs.CellTable.{AreCells, contains, is_lost_below}
 use Rattle.reltable_links.specs.Standings.{AreStandings, is_in}
-use Rattle.reltable_links.specs.declared.cells.Cell.{Cell}
+use Rattle.reltable_links.specs.declared.cells.RowCell.{RowCell}
 use Rattle.reltable_links.specs.declared.table.Rows.{Rows}
 
 -- what a plan must be: its nodes are those of a tree, and carry their values, and the asker knows its pages
@@ -45,21 +45,21 @@ pub record AreRowLinks (world : World) (plan : Plan) (page : ℕ) (made : LinksM
 
 abbrev pub lost_fault : Plan → ℕ → List Fault
 lost_fault plan at = option_to_list (option_and_then (λ name. option_map
-    (λ node. node_fault node faults.LinkNoPage name) (slice_get plan.nodes at)) (local_name (target_of plan at)))
+    (λ node. node_fault node faults.LinkNoPage name) (slice_get plan.nodes at)) (local_name (plan_target plan at)))
 
 -- of each node below a cell that leads to a DITA document without a page, once
 abbrev pub cell_faults : Plan → List Fault
 cell_faults plan = flat_map (lost_fault plan) (filter (is_lost_below plan) (places plan.nodes))
 
 -- a node stands below one of these cells that is a cell of the row
-abbrev pub is_in_row : List Cell → ℕ → ℕ → Bool
-is_in_row cells row at = list_any (λ (cell : Cell). is_in row cell && contains at cell) cells
+abbrev pub is_in_row : List RowCell → ℕ → ℕ → Bool
+is_in_row cells row at = list_any (λ (cell : RowCell). is_in row cell && contains at cell) cells
 
-abbrev pub lost_in_row : Plan → List Cell → ℕ → ℕ → List Fault
+abbrev pub lost_in_row : Plan → List RowCell → ℕ → ℕ → List Fault
 lost_in_row plan cells row at = if is_in_row cells row at then lost_fault plan at else []
 
-abbrev pub faults_of_row : Plan → List Cell → List ℕ → ℕ → List Fault
+abbrev pub faults_of_row : Plan → List RowCell → List ℕ → ℕ → List Fault
 faults_of_row plan cells lost row = flat_map (lost_in_row plan cells row) lost
 
-abbrev pub faults_of_rows : Plan → List Cell → List ℕ → List ℕ → List Fault
+abbrev pub faults_of_rows : Plan → List RowCell → List ℕ → List ℕ → List Fault
 faults_of_rows plan cells rows lost = flat_map (faults_of_row plan cells lost) rows

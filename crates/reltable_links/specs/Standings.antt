@@ -10,8 +10,8 @@ use Rattle.std.specs.declared.vec.Vec.{Vec}
 use Rattle.link_groups.specs.declared.link_nodes.LinkNode.{LinkNode}
 use Rattle.reltable_links.specs.CellTable.{contains, relates}
 use Rattle.reltable_links.specs.Linked.{is_from, links_into}
-use Rattle.reltable_links.specs.declared.cells.Cell.{Cell}
-use Rattle.reltable_links.specs.declared.standings.Standing.{Standing}
+use Rattle.reltable_links.specs.declared.cells.RowCell.{RowCell}
+use Rattle.reltable_links.specs.declared.standings.RowStanding.{RowStanding}
 use Rattle.reltable_links.specs.declared.standings.Standings.{Standings}
 
 -- what is kept by a number
@@ -21,56 +21,56 @@ listed {X} number entries =
 
 -- The cells of a row
 
-abbrev pub is_in : ℕ → Cell → Bool
+abbrev pub is_in : ℕ → RowCell → Bool
 is_in row cell = row == cell.row
 
-abbrev pub if_in : ℕ → Cell → List Cell
+abbrev pub if_in : ℕ → RowCell → List RowCell
 if_in row cell = if row == cell.row then cell ∷ [] else []
 
 -- Where a page stands in a row
 
 -- a page that stands so is linked to the nodes below a cell
-abbrev pub reaches : Cell → Standing → Bool
+abbrev pub reaches : RowCell → RowStanding → Bool
 reaches cell standing =
     (standing.row == cell.row) && (standing.is_several || (not (standing.cell == cell.at) || cell.is_family))
 
 -- in one cell
-abbrev pub alone : Cell → Standing
+abbrev pub alone : RowCell → RowStanding
 alone own = record { row = own.row; cell = own.at; is_several = false }
 
 -- in one cell more of the row
-abbrev pub joined : Standing → Cell → Standing
-joined last own = record {
+abbrev pub in_one_cell_more : RowStanding → RowCell → RowStanding
+in_one_cell_more last own = record {
   row = last.row;
   cell = last.cell;
   is_several = last.is_several || not (last.cell == own.at);
 }
 
 -- a page is linked to the nodes below a cell as one that stands so
-abbrev pub reaches_at : ℕ → List (ℕ × Vec Standing Global) → Cell → Bool
+abbrev pub reaches_at : ℕ → List (ℕ × Vec RowStanding Global) → RowCell → Bool
 reaches_at page entries cell = list_any (reaches cell) (listed page entries)
 
 -- because one of the nodes below a cell is the page's
-abbrev pub leads_from : ℕ → Cell → Cell → LinkNode → Bool
+abbrev pub leads_from : ℕ → RowCell → RowCell → LinkNode → Bool
 leads_from page own cell node = is_from page node && relates own cell
 
-abbrev pub stands_in : ℕ → List LinkNode → Cell → Cell → Bool
+abbrev pub stands_in : ℕ → List LinkNode → RowCell → RowCell → Bool
 stands_in page nodes cell own = list_any (λ node. contains node.at own && leads_from page own cell node) nodes
 
 -- What is kept
 
-abbrev pub AreRows : List Cell → List (ℕ × Vec Cell Global) → Type 0
+abbrev pub AreRows : List RowCell → List (ℕ × Vec RowCell Global) → Type 0
 AreRows cells entries = (row : ℕ) → listed row entries ≡ filter (is_in row) cells
 
-abbrev pub ArePages : List Cell → List LinkNode → List (ℕ × Vec Standing Global) → Type 0
-ArePages cells nodes entries = (page : ℕ) (cell : Cell) → reaches_at page entries cell ≡ links_into page cells nodes cell
+abbrev pub ArePages : List RowCell → List LinkNode → List (ℕ × Vec RowStanding Global) → Type 0
+ArePages cells nodes entries = (page : ℕ) (cell : RowCell) → reaches_at page entries cell ≡ links_into page cells nodes cell
 
-pub record AreStandings (cells : List Cell) (nodes : List LinkNode) (standings : Standings) : Type 0 where
+pub record AreStandings (cells : List RowCell) (nodes : List LinkNode) (standings : Standings) : Type 0 where
   pub rows : AreRows cells standings.rows.entries
   pub pages : ArePages cells nodes standings.pages.entries
 
 -- What standings reach
 
 -- a cell of a row that a page reaches passes a test
-abbrev pub reached : (Cell → Bool) → List (ℕ × Vec Cell Global) → Standing → Bool
+abbrev pub reached : (RowCell → Bool) → List (ℕ × Vec RowCell Global) → RowStanding → Bool
 reached test rows standing = list_any (λ cell. reaches cell standing && test cell) (listed standing.row rows)

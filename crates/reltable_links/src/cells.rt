@@ -19,21 +19,21 @@ ghost use Rattle.reltable_links.specs.CellTable as spec;
 
 use dita_doc::{NoMemory, Plan, PlanKind, PlanNode, Target};
 use link_groups::{LinkNode, LinkNodes};
-use plan_nodes::{Homes, place_of};
+use plan_nodes::{NodeElements, place_of};
 use readers::Asker;
 use std::alloc::Global;
 
 // A cell of a row: where it and its row stand, where the nodes below it end, and whether those
 // are a family.
 #[derive(Clone, Copy)]
-pub(crate) struct Cell {
+pub(crate) struct RowCell {
     pub row: u32,
     pub at: u32,
     pub end: u32,
     pub is_family: bool,
 }
 
-impl Cell {
+impl RowCell {
     // Whether a place stands behind that of the cell, and not before where others end.
     pub(crate) fn is_behind(&self, at: u32, done: u32) -> bool
         ensures { result ≡ below_spec.is_behind self.now done at }
@@ -46,7 +46,7 @@ impl Cell {
 #[derive(Drop)]
 pub(crate) struct Cells {
     pub rows: Vec<u32>,
-    pub cells: Vec<Cell>,
+    pub cells: Vec<RowCell>,
     // The nodes that have pages.
     pub nodes: Vec<LinkNode>,
     // The places of those that have none.
@@ -69,12 +69,12 @@ impl Cells {
     }
 
     // Goes over all nodes in order.
-    #[tactic(auto, using(crate::proofs::Walking::walking))]
+    #[tactic(auto, using(readers::proofs::Rules::walking))]
     pub(crate) fn of<A: Asker>(
         alloc: Global,
         asker: &mut A,
         plan: &Plan,
-        homes: &Homes,
+        homes: &NodeElements,
         link_nodes: &mut LinkNodes,
     ) -> Result<Cells, NoMemory>
         ensures known { (world : World) → Agrees world (A.told asker.new)
@@ -97,7 +97,7 @@ impl Cells {
     }
 
     // Puts a node that stands below a cell behind the others, with its page or as lost.
-    #[tactic(auto, using(crate::proofs::Walking::walking))]
+    #[tactic(auto, using(readers::proofs::Rules::walking))]
     fn put_node<A: Asker>(
         &mut self,
         alloc: Global,
@@ -143,7 +143,7 @@ impl Cells {
     }
 
     // Puts a row or a cell behind the others.
-    fn put_cell(&mut self, plan: &Plan, homes: &Homes, at: usize) -> Result<(), NoMemory>
+    fn put_cell(&mut self, plan: &Plan, homes: &NodeElements, at: usize) -> Result<(), NoMemory>
         requires { at < length plan.now.nodes }
         ensures { (world : World)
             → homes.now ≡ map (cascade_spec.whole_at world) plan.now.nodes
@@ -172,7 +172,7 @@ impl Cells {
         Ok(())
     }
 
-    fn put_made(&mut self, cell: Option<Cell>) -> Result<(), NoMemory>
+    fn put_made(&mut self, cell: Option<RowCell>) -> Result<(), NoMemory>
         ensures rows { OnOk result (self.new.rows.items ≡ self.old.rows.items) }
         ensures cells { OnOk result (self.new.cells.items
             ≡ self.old.cells.items ++ option_to_list cell) }
@@ -192,11 +192,11 @@ impl Cells {
 // The cell that a node is, if it is one of a row.
 fn cell_for(
     nodes: &[PlanNode],
-    homes: &Homes,
+    homes: &NodeElements,
     at: usize,
     place: u32,
     node: &PlanNode,
-) -> Option<Cell>
+) -> Option<RowCell>
     ensures { result ≡ spec.cell_by nodes.now
         (spec.is_family_by (home_spec.value_at homes.now at (codes "collection-type"))) at place
         node.now }
@@ -204,7 +204,7 @@ fn cell_for(
     if !is_row_cell(nodes, at, node) {
         return None;
     }
-    Some(Cell {
+    Some(RowCell {
         row: node.parent,
         at: place,
         end: node.end,
@@ -223,7 +223,7 @@ fn is_family(value: Option<&str>) -> bool
 
 // Whether a node leads to a DITA document.
 fn is_local(plan: &Plan, at: usize) -> bool
-    ensures { result ≡ is_some (local_name (links_spec.target_of plan.now at)) }
+    ensures { result ≡ is_some (local_name (links_spec.plan_target plan.now at)) }
 {
     matches!(plan.targets.as_slice().get(at), Some(Target::Local(_, _)))
 }

@@ -5,9 +5,9 @@ ghost use Rattle.std.specs.List.{flat_map};
 ghost use Rattle.std.specs.List.Sorted.{IsNonDecreasingBy};
 ghost use Rattle.reltable_links.specs.Below as below_spec;
 ghost use Rattle.reltable_links.specs.RowTable as spec;
-ghost use Rattle.reltable_links.specs.declared.cells.Cell as cell_spec;
+ghost use Rattle.reltable_links.specs.declared.cells.RowCell as cell_spec;
 
-use crate::cells::Cell;
+use crate::cells::RowCell;
 use crate::placed::below;
 use dita_doc::{Fault, FaultCode, List, NoMemory, Plan};
 use link_groups::{name_at, node_at};
@@ -18,11 +18,11 @@ use std::alloc::Global;
 pub(crate) fn append_below(
     alloc: Global,
     plan: &Plan,
-    cells: &[Cell],
+    cells: &[RowCell],
     lost: &[u32],
     faults: &mut List<Fault>,
 ) -> Result<(), NoMemory>
-    ensures { IsNonDecreasingBy (λ (cell : cell_spec.Cell). cell.at) cells.now
+    ensures { IsNonDecreasingBy (λ (cell : cell_spec.RowCell). cell.at) cells.now
         → IsNonDecreasingBy (λ (at : ℕ). at) lost.now
         → OnOk result (faults.new ≡ faults.old ++ flat_map (spec.lost_fault plan.now)
         (filter (below_spec.is_below_one cells.now) lost.now)) }

@@ -8,11 +8,11 @@ ghost use Rattle.link_groups.specs.LinkLists as link_lists_spec;
 ghost use Rattle.link_groups.specs.declared.link_nodes.LinkNode as link_node_spec;
 ghost use Rattle.reltable_links.specs.Linked as spec;
 ghost use Rattle.reltable_links.specs.Standings as standings_spec;
-ghost use Rattle.reltable_links.specs.declared.cells.Cell as cell_spec;
+ghost use Rattle.reltable_links.specs.declared.cells.RowCell as cell_spec;
 
-use crate::cells::Cell;
+use crate::cells::RowCell;
 use crate::placed::below;
-use crate::standings::{Standing, Standings};
+use crate::standings::{RowStanding, Standings};
 use dita_doc::{LinkKind, NoMemory};
 use link_groups::{LinkList, LinkNode};
 use std::alloc::{AllocError, Global};
@@ -26,7 +26,7 @@ impl Standings {
         page: u32,
         links: &mut LinkList,
     ) -> Result<(), NoMemory>
-        ensures { (cells : List cell_spec.Cell) (all : link_lists_spec.Links)
+        ensures { (cells : List cell_spec.RowCell) (all : link_lists_spec.Links)
             → standings_spec.AreStandings cells nodes.now self.now
             → IsNonDecreasingBy (λ (node : link_node_spec.LinkNode). node.at) nodes.now
             → link_lists_spec.HoldsLinks page all links.old
@@ -41,8 +41,8 @@ impl Standings {
     }
 
     // The cells whose nodes a page is linked to.
-    fn linked_cells(&self, alloc: Global, page: u32) -> Result<Vec<Cell>, AllocError>
-        ensures { (test : cell_spec.Cell → Bool) → IfOk result (λ linked.
+    fn linked_cells(&self, alloc: Global, page: u32) -> Result<Vec<RowCell>, AllocError>
+        ensures { (test : cell_spec.RowCell → Bool) → IfOk result (λ linked.
             list_any test linked.items ≡ list_any
             (standings_spec.reached test self.now.rows.entries)
             (standings_spec.listed page self.now.pages.entries)) }
@@ -52,8 +52,12 @@ impl Standings {
         Ok(linked)
     }
 
-    fn append_all(&self, standings: &[Standing], linked: &mut Vec<Cell>) -> Result<(), AllocError>
-        ensures { (test : cell_spec.Cell → Bool) → OnOk result (list_any test linked.new.items
+    fn append_all(
+        &self,
+        standings: &[RowStanding],
+        linked: &mut Vec<RowCell>,
+    ) -> Result<(), AllocError>
+        ensures { (test : cell_spec.RowCell → Bool) → OnOk result (list_any test linked.new.items
             ≡ (list_any test linked.old.items || list_any
             (standings_spec.reached test self.now.rows.entries) standings.now)) }
     {
@@ -64,8 +68,12 @@ impl Standings {
     }
 
     // Appends the cells of its row that a standing reaches.
-    fn append_row(&self, standing: &Standing, linked: &mut Vec<Cell>) -> Result<(), AllocError>
-        ensures { (test : cell_spec.Cell → Bool) → OnOk result (list_any test linked.new.items
+    fn append_row(
+        &self,
+        standing: &RowStanding,
+        linked: &mut Vec<RowCell>,
+    ) -> Result<(), AllocError>
+        ensures { (test : cell_spec.RowCell → Bool) → OnOk result (list_any test linked.new.items
             ≡ (list_any test linked.old.items
             || standings_spec.reached test self.now.rows.entries standing.now)) }
     {
@@ -76,12 +84,12 @@ impl Standings {
 
 // Appends those of some cells that a standing reaches.
 fn append_cells(
-    cells: &[Cell],
-    standing: &Standing,
-    linked: &mut Vec<Cell>,
+    cells: &[RowCell],
+    standing: &RowStanding,
+    linked: &mut Vec<RowCell>,
 ) -> Result<(), AllocError>
-    ensures { (test : cell_spec.Cell → Bool) → OnOk result (list_any test linked.new.items
-        ≡ (list_any test linked.old.items || list_any (λ (cell : cell_spec.Cell).
+    ensures { (test : cell_spec.RowCell → Bool) → OnOk result (list_any test linked.new.items
+        ≡ (list_any test linked.old.items || list_any (λ (cell : cell_spec.RowCell).
         standings_spec.reaches cell standing.now && test cell) cells.now)) }
 {
     for cell in cells {
@@ -90,8 +98,12 @@ fn append_cells(
     Ok(())
 }
 
-fn append_cell(cell: &Cell, standing: &Standing, linked: &mut Vec<Cell>) -> Result<(), AllocError>
-    ensures { (test : cell_spec.Cell → Bool) → OnOk result (list_any test linked.new.items
+fn append_cell(
+    cell: &RowCell,
+    standing: &RowStanding,
+    linked: &mut Vec<RowCell>,
+) -> Result<(), AllocError>
+    ensures { (test : cell_spec.RowCell → Bool) → OnOk result (list_any test linked.new.items
         ≡ (list_any test linked.old.items
         || (standings_spec.reaches cell.now standing.now && test cell.now))) }
 {
@@ -103,10 +115,10 @@ fn append_cell(cell: &Cell, standing: &Standing, linked: &mut Vec<Cell>) -> Resu
 
 // Appends links to the nodes below cells in order. Cells may stand within one another, so each node
 // is gone over once.
-fn append_below(nodes: &[LinkNode], cells: &[Cell], links: &mut LinkList) -> Result<(), NoMemory>
+fn append_below(nodes: &[LinkNode], cells: &[RowCell], links: &mut LinkList) -> Result<(), NoMemory>
     ensures { (own : ℕ) (all : link_lists_spec.Links)
         → IsNonDecreasingBy (λ (node : link_node_spec.LinkNode). node.at) nodes.now
-        → IsNonDecreasingBy (λ (cell : cell_spec.Cell). cell.at) cells.now
+        → IsNonDecreasingBy (λ (cell : cell_spec.RowCell). cell.at) cells.now
         → link_lists_spec.HoldsLinks own all links.old
         → OnOk result (link_lists_spec.HoldsLinks own
         (all ++ link_lists_spec.links_to_nodes own links_spec.Related

@@ -4,7 +4,7 @@ ghost use Rattle.std.specs.Prelude.{◌≡◌, ℕ, drop, false, nat_lt, not, ta
 ghost use Rattle.std.specs.List.Sorted.{IsNonDecreasingBy, IsPartitionPoint};
 ghost use Rattle.reltable_links.specs.Below as spec;
 
-use crate::cells::Cell;
+use crate::cells::RowCell;
 use link_groups::LinkNode;
 
 // What has a place in the plan.
@@ -32,7 +32,7 @@ impl Placed for u32 {
 }
 
 // Those that stand below a cell, and not before a place.
-pub(crate) fn below<'a, T: Placed>(items: &'a [T], cell: &Cell, done: u32) -> &'a [T]
+pub(crate) fn below<'a, T: Placed>(items: &'a [T], cell: &RowCell, done: u32) -> &'a [T]
     ensures { IsNonDecreasingBy T.place items.now
         → result.now ≡ spec.new_below T.place cell.now done items.now }
 {
@@ -43,7 +43,7 @@ pub(crate) fn below<'a, T: Placed>(items: &'a [T], cell: &Cell, done: u32) -> &'
 }
 
 // How many stand before the others.
-fn count_before<T: Placed>(items: &[T], cell: &Cell, done: u32) -> usize
+fn count_before<T: Placed>(items: &[T], cell: &RowCell, done: u32) -> usize
     ensures { IsNonDecreasingBy T.place items.now → IsPartitionPoint
         (λ x. not (spec.is_behind cell.now done (T.place x)) ≡ true)
         (λ x. not (spec.is_behind cell.now done (T.place x)) ≡ false) items.now result }

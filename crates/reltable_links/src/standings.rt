@@ -6,9 +6,9 @@ ghost use Rattle.std.specs.List.Sorted.{IsNonDecreasingBy};
 ghost use Rattle.link_groups.specs.declared.link_nodes.LinkNode as link_node_spec;
 ghost use Rattle.reltable_links.specs.CellTable as cell_table_spec;
 ghost use Rattle.reltable_links.specs.Standings as spec;
-ghost use Rattle.reltable_links.specs.declared.cells.Cell as cell_spec;
+ghost use Rattle.reltable_links.specs.declared.cells.RowCell as cell_spec;
 
-use crate::cells::Cell;
+use crate::cells::RowCell;
 use crate::placed::below;
 use dita_doc::NoMemory;
 use link_groups::LinkNode;
@@ -17,17 +17,17 @@ use std::collections::BTreeMap;
 
 // Where a page stands in a row: one of its cells, and whether it stands in others too.
 #[derive(Clone, Copy)]
-pub(crate) struct Standing {
+pub(crate) struct RowStanding {
     pub row: u32,
     pub cell: u32,
     pub is_several: bool,
 }
 
-impl Standing {
-    fn alone(own: &Cell) -> Standing
+impl RowStanding {
+    fn alone(own: &RowCell) -> RowStanding
         ensures { result ≡ spec.alone own.now }
     {
-        Standing {
+        RowStanding {
             row: own.row,
             cell: own.at,
             is_several: false,
@@ -35,10 +35,10 @@ impl Standing {
     }
 
     // With one cell more of the row.
-    fn joined(&self, own: &Cell) -> Standing
-        ensures { result ≡ spec.joined self.now own.now }
+    fn joined(&self, own: &RowCell) -> RowStanding
+        ensures { result ≡ spec.in_one_cell_more self.now own.now }
     {
-        Standing {
+        RowStanding {
             row: self.row,
             cell: self.cell,
             is_several: self.is_several || self.cell != own.at,
@@ -46,7 +46,7 @@ impl Standing {
     }
 
     // Whether a page that stands so is linked to the nodes below a cell.
-    pub(crate) fn reaches(&self, cell: &Cell) -> bool
+    pub(crate) fn reaches(&self, cell: &RowCell) -> bool
         ensures { result ≡ spec.reaches cell.now self.now }
     {
         self.row == cell.row && (self.is_several || self.cell != cell.at || cell.is_family)
@@ -57,15 +57,15 @@ impl Standing {
 #[derive(Drop)]
 pub(crate) struct Standings {
     // The cells of each row, in order.
-    rows: BTreeMap<u32, Vec<Cell>>,
+    rows: BTreeMap<u32, Vec<RowCell>>,
     // The rows in which the nodes of each page may link.
-    pages: BTreeMap<u32, Vec<Standing>>,
+    pages: BTreeMap<u32, Vec<RowStanding>>,
 }
 
 impl Standings {
     pub(crate) fn of(
         alloc: Global,
-        cells: &[Cell],
+        cells: &[RowCell],
         nodes: &[LinkNode],
     ) -> Result<Standings, NoMemory>
         ensures { IsNonDecreasingBy (λ (node : link_node_spec.LinkNode). node.at) nodes.now
@@ -77,7 +77,7 @@ impl Standings {
     }
 
     // The cells of a row.
-    pub(crate) fn cells_of(&self, row: u32) -> &[Cell]
+    pub(crate) fn cells_of(&self, row: u32) -> &[RowCell]
         ensures { result.now ≡ spec.listed row self.now.rows.entries }
     {
         match self.rows.get(&row) {
@@ -87,7 +87,7 @@ impl Standings {
     }
 
     // Where a page stands.
-    pub(crate) fn of_page(&self, page: u32) -> &[Standing]
+    pub(crate) fn of_page(&self, page: u32) -> &[RowStanding]
         ensures { result.now ≡ spec.listed page self.now.pages.entries }
     {
         match self.pages.get(&page) {
@@ -97,7 +97,7 @@ impl Standings {
     }
 }
 
-fn rows_of(alloc: Global, cells: &[Cell]) -> Result<BTreeMap<u32, Vec<Cell>>, NoMemory>
+fn rows_of(alloc: Global, cells: &[RowCell]) -> Result<BTreeMap<u32, Vec<RowCell>>, NoMemory>
     ensures { IfOk result (λ rows. spec.AreRows cells.now rows.entries) }
 {
     let mut rows = BTreeMap::new(alloc);
@@ -108,7 +108,11 @@ fn rows_of(alloc: Global, cells: &[Cell]) -> Result<BTreeMap<u32, Vec<Cell>>, No
 }
 
 // Puts a cell behind those of its row.
-fn put_cell(alloc: Global, rows: &mut BTreeMap<u32, Vec<Cell>>, cell: &Cell) -> Result<(), NoMemory>
+fn put_cell(
+    alloc: Global,
+    rows: &mut BTreeMap<u32, Vec<RowCell>>,
+    cell: &RowCell,
+) -> Result<(), NoMemory>
     ensures { OnOk result ((row : ℕ) → spec.listed row rows.new.entries
         ≡ spec.listed row rows.old.entries ++ spec.if_in row cell.now) }
 {
@@ -120,9 +124,9 @@ fn put_cell(alloc: Global, rows: &mut BTreeMap<u32, Vec<Cell>>, cell: &Cell) -> 
 // Goes over the cells row by row, so that the cells of a page's row stand together.
 fn pages_of(
     alloc: Global,
-    cells: &[Cell],
+    cells: &[RowCell],
     nodes: &[LinkNode],
-) -> Result<BTreeMap<u32, Vec<Standing>>, NoMemory>
+) -> Result<BTreeMap<u32, Vec<RowStanding>>, NoMemory>
     ensures { IsNonDecreasingBy (λ (node : link_node_spec.LinkNode). node.at) nodes.now
         → IfOk result (λ pages. spec.ArePages cells.now nodes.now pages.entries) }
 {
@@ -134,11 +138,11 @@ fn pages_of(
 
 fn pages_from(
     alloc: Global,
-    cells: &[Cell],
+    cells: &[RowCell],
     nodes: &[LinkNode],
-) -> Result<BTreeMap<u32, Vec<Standing>>, NoMemory>
+) -> Result<BTreeMap<u32, Vec<RowStanding>>, NoMemory>
     ensures { IsNonDecreasingBy (λ (node : link_node_spec.LinkNode). node.at) nodes.now
-        → IfOk result (λ pages. (page : ℕ) (cell : cell_spec.Cell)
+        → IfOk result (λ pages. (page : ℕ) (cell : cell_spec.RowCell)
         → spec.reaches_at page pages.entries cell
         ≡ list_any (spec.stands_in page nodes.now cell) cells.now) }
 {
@@ -152,12 +156,12 @@ fn pages_from(
 // Puts a cell to the pages of the nodes below it.
 fn put_pages(
     alloc: Global,
-    pages: &mut BTreeMap<u32, Vec<Standing>>,
+    pages: &mut BTreeMap<u32, Vec<RowStanding>>,
     nodes: &[LinkNode],
-    own: &Cell,
+    own: &RowCell,
 ) -> Result<(), NoMemory>
     ensures { IsNonDecreasingBy (λ (node : link_node_spec.LinkNode). node.at) nodes.now
-        → OnOk result ((page : ℕ) (cell : cell_spec.Cell)
+        → OnOk result ((page : ℕ) (cell : cell_spec.RowCell)
         → spec.reaches_at page pages.new.entries cell
         ≡ (spec.reaches_at page pages.old.entries cell
         || spec.stands_in page nodes.now cell own.now)) }
@@ -168,11 +172,11 @@ fn put_pages(
 
 fn put_nodes(
     alloc: Global,
-    pages: &mut BTreeMap<u32, Vec<Standing>>,
+    pages: &mut BTreeMap<u32, Vec<RowStanding>>,
     nodes: &[LinkNode],
-    own: &Cell,
+    own: &RowCell,
 ) -> Result<(), NoMemory>
-    ensures { OnOk result ((page : ℕ) (cell : cell_spec.Cell)
+    ensures { OnOk result ((page : ℕ) (cell : cell_spec.RowCell)
         → spec.reaches_at page pages.new.entries cell
         ≡ (spec.reaches_at page pages.old.entries cell
         || list_any (spec.leads_from page own.now cell) nodes.now)) }
@@ -186,11 +190,11 @@ fn put_nodes(
 // Puts a cell to the page of a node, if links may go from it.
 fn put_node(
     alloc: Global,
-    pages: &mut BTreeMap<u32, Vec<Standing>>,
+    pages: &mut BTreeMap<u32, Vec<RowStanding>>,
     node: &LinkNode,
-    own: &Cell,
+    own: &RowCell,
 ) -> Result<(), NoMemory>
-    ensures { OnOk result ((page : ℕ) (cell : cell_spec.Cell)
+    ensures { OnOk result ((page : ℕ) (cell : cell_spec.RowCell)
         → spec.reaches_at page pages.new.entries cell
         ≡ (spec.reaches_at page pages.old.entries cell
         || spec.leads_from page own.now cell node.now)) }
@@ -203,11 +207,11 @@ fn put_node(
 
 fn put_standing(
     alloc: Global,
-    pages: &mut BTreeMap<u32, Vec<Standing>>,
+    pages: &mut BTreeMap<u32, Vec<RowStanding>>,
     page: u32,
-    own: &Cell,
+    own: &RowCell,
 ) -> Result<(), NoMemory>
-    ensures { OnOk result ((other : ℕ) (cell : cell_spec.Cell)
+    ensures { OnOk result ((other : ℕ) (cell : cell_spec.RowCell)
         → spec.reaches_at other pages.new.entries cell
         ≡ (spec.reaches_at other pages.old.entries cell
         || ((page == other) && cell_table_spec.relates own.now cell))) }
@@ -218,13 +222,13 @@ fn put_standing(
 }
 
 // Adds a cell to the last standing, if that is of the same row, or behind the others.
-fn add(list: &mut Vec<Standing>, own: &Cell) -> Result<(), AllocError>
-    ensures { (cell : cell_spec.Cell) → OnOk result (list_any (spec.reaches cell) list.new.items
+fn add(list: &mut Vec<RowStanding>, own: &RowCell) -> Result<(), AllocError>
+    ensures { (cell : cell_spec.RowCell) → OnOk result (list_any (spec.reaches cell) list.new.items
         ≡ (list_any (spec.reaches cell) list.old.items
         || cell_table_spec.relates own.now cell)) }
 {
     let Some(last) = list.pop() else {
-        list.push(Standing::alone(own))?;
+        list.push(RowStanding::alone(own))?;
         return Ok(());
     };
     if last.row == own.row {
@@ -232,6 +236,6 @@ fn add(list: &mut Vec<Standing>, own: &Cell) -> Result<(), AllocError>
         return Ok(());
     }
     list.push(last)?;
-    list.push(Standing::alone(own))?;
+    list.push(RowStanding::alone(own))?;
     Ok(())
 }

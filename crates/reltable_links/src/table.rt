@@ -20,7 +20,7 @@ use crate::faults::{append_below, append_faults};
 use crate::standings::Standings;
 use dita_doc::{Fault, List, NoMemory, Plan};
 use link_groups::{LinkList, LinkNodes, LinksMade};
-use plan_nodes::Homes;
+use plan_nodes::NodeElements;
 use readers::Asker;
 use std::alloc::Global;
 
@@ -33,12 +33,12 @@ pub struct Rows {
 
 impl Rows {
     /// Finds the rows of a plan.
-    #[tactic(auto, using(crate::proofs::Walking::walking))]
+    #[tactic(auto, using(readers::proofs::Rules::walking))]
     pub fn of<A: Asker>(
         alloc: Global,
         asker: &mut A,
         plan: &Plan,
-        homes: &Homes,
+        homes: &NodeElements,
         link_nodes: &mut LinkNodes,
     ) -> Result<Rows, NoMemory>
         ensures known { (world : World) → Agrees world (A.told asker.new)
@@ -158,7 +158,7 @@ pub fn by_rows<A: Asker>(
 }
 
 // What `by_rows` says, but of the reader's own world.
-#[tactic(auto, using(crate::proofs::Walking::walking))]
+#[tactic(auto, using(readers::proofs::Rules::walking))]
 fn rows_linked<A: Asker>(
     alloc: Global,
     asker: &mut A,
@@ -175,7 +175,7 @@ fn rows_linked<A: Asker>(
         (A.told asker.old) (A.told asker.new) }
     ensures grows { Grows (A.told asker.old) (A.told asker.new) }
 {
-    let homes = Homes::of(alloc, asker, plan.nodes.as_slice())?;
+    let homes = NodeElements::of(alloc, asker, plan.nodes.as_slice())?;
     let mut link_nodes = LinkNodes::new(alloc);
     let rows = Rows::of(alloc, asker, plan, &homes, &mut link_nodes)?;
     let mut links = LinkList::new(alloc, page);

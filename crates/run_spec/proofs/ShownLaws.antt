@@ -1,6 +1,6 @@
 -- What is shown of answers: each answer of a desk is shown.
 use Rattle.std.proofs.Common.{◌≡◌, ◌+◌, ◌==◌, ◌&&◌, ℕ, Bool, true, false, not, List, [], ◌∷◌, Option, Some, None, Result, Ok, Err, if◌then◌else◌, length, option_map, is_some, nat_le, refl, sym, ◌∙◌, arith}
-use Rattle.dita_doc.specs.Desk.{State, Stored, Halt, Reply, IsStored, IsRemoved, Bytes, NameList, IsRefused, Conflict, Absent, TooManyNames, Begun, IsGrouped, IsStopped, reply, next, found, store_reply, unless_refused, get_reply, remove_reply, edit_reply, halt_of, group_reply, version_at, stored_limit}
+use Rattle.dita_doc.specs.Desk.{State, Stored, Halt, Reply, IsStored, IsRemoved, Bytes, NameList, IsRefused, Conflict, Absent, TooManyNames, Begun, IsGrouped, IsStopped, reply, next, stored_under, store_reply, unless_refused, get_reply, remove_reply, edit_reply, halt_of, group_reply, version_at, stored_limit}
 use Rattle.dita_doc.specs.Pyx.{document_of}
 use Rattle.dita_doc.specs.Request.{Edit, Put, PutIf, Remove, Request, Single, Get, Names, Build, Group}
 use Rattle.dita_doc.specs.Tree.{Content}
@@ -32,7 +32,7 @@ remove_not_begun (Some stored) = refl
 
 store_not_begun : (state : State) (place : ℕ) (name : List ℕ) → is_begun (store_reply state place name) ≡ false
 store_not_begun state place name = if_not_begun
-    (nat_le stored_limit (length state) && not (is_some (found state name))) (TooManyNames stored_limit)
+    (nat_le stored_limit (length state) && not (is_some (stored_under state name))) (TooManyNames stored_limit)
     (IsStored (place + 1)) refl refl
 
 edit_not_begun : (state : State) (place : ℕ) (edit : Edit) → is_begun (edit_reply state place edit) ≡ false
@@ -42,7 +42,7 @@ edit_not_begun state place (PutIf version name body) =
     refused_not_begun (document_of body) _
     (if_not_begun (version_at state name == version) (store_reply state place name)
     (Conflict (version_at state name)) (store_not_begun state place name) refl)
-edit_not_begun state place (Remove name) = remove_not_begun (found state name)
+edit_not_begun state place (Remove name) = remove_not_begun (stored_under state name)
 
 group_not_begun : (count : ℕ) (halt : Option Halt) → is_begun (group_reply count halt) ≡ false
 group_not_begun count None = refl
@@ -52,7 +52,7 @@ group_not_begun count (Some halt) = refl
 pub begun_built : (state : State) (place : ℕ) (request : Request)
     → is_some (built_by state request) ≡ is_begun (reply state place request)
 begun_built state place (Single edit) = sym (edit_not_begun state place edit)
-begun_built state place (Get name) = sym (get_not_begun (found state name))
+begun_built state place (Get name) = sym (get_not_begun (stored_under state name))
 begun_built state place Names = refl
 begun_built state place (Build root val) = refl
 begun_built state place (Group edits) = sym (group_not_begun (length edits) (halt_of state place edits))

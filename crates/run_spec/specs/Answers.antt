@@ -3,7 +3,7 @@ use Rattle.std.specs.Prelude.{◌+◌, ℕ, Bool, true, false, List, [], ◌∷�
 use Rattle.std.specs.Fmt.{decimal}
 use Rattle.std.specs.List.{flat_map}
 use Rattle.std.specs.Option.{option_to_list}
-use Rattle.build_spec.specs.Built.{Built, Page, Done, Stopped, TooLarge, pages_of}
+use Rattle.build_spec.specs.Built.{BuildOutcome, Page, Done, Stopped, TooLarge, built_pages}
 use Rattle.dita_doc.specs.Desk.{State, reply, next}
 use Rattle.dita_doc.specs.History.{Entry}
 use Rattle.dita_doc.specs.Request.{Request, Single, Get, Names, Build, Group}
@@ -15,7 +15,7 @@ use Rattle.script_text.specs.Script.{Step}
 use Rattle.transcript_text.specs.Transcript.{BuildShown, PageShown, BuiltPages, StoppedBy, PagesTooLarge, InOutlet, EntryShown, Transcript, entry_shown, fault_shown}
 
 -- what a request builds over what is stored, if it is a build
-abbrev pub built_by : State → Request → Option Built
+abbrev pub built_by : State → Request → Option BuildOutcome
 built_by state (Single edit) = None
 built_by state (Get name) = None
 built_by state Names = None
@@ -37,7 +37,7 @@ terms_for state (Group edits) = None
 -- an entry, what it built, and the page of its terms
 pub record Answer : Type 0 where
   pub entry : Entry
-  pub built : Option Built
+  pub built : Option BuildOutcome
   pub terms : Option Page
 
 -- the answer to the request of a number at a place
@@ -70,7 +70,7 @@ answers_to steps = answers_from [] 0 steps
 abbrev pub page_put : Page → PageShown
 page_put page = record { name = page.0; mark = InOutlet (length page.1) }
 
-abbrev pub build_shown : Built → BuildShown
+abbrev pub build_shown : BuildOutcome → BuildShown
 build_shown (Done pages faults) = BuiltPages (map page_put pages) (map fault_shown faults)
 build_shown (Stopped stop) = StoppedBy stop
 build_shown (TooLarge total) = PagesTooLarge total
@@ -101,12 +101,12 @@ transcript_of answers = record {
 abbrev pub delivered : ℕ → Page → Page
 delivered number page = (codes "b" ++ decimal number ++ codes "/" ++ page.0, page.1)
 
-abbrev pub pages_built : Option Built → List Page
+abbrev pub pages_built : Option BuildOutcome → List Page
 pages_built None = []
-pages_built (Some built) = pages_of built
+pages_built (Some built) = built_pages built
 
 -- behind them, if the run wants it, the page of terms
-abbrev pub pages_wanted : Bool → Option Built → Option Page → List Page
+abbrev pub pages_wanted : Bool → Option BuildOutcome → Option Page → List Page
 pages_wanted false built terms = pages_built built
 pages_wanted true built terms = pages_built built ++ option_to_list terms
 

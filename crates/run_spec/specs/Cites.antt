@@ -1,7 +1,7 @@
 -- What a transcript shows of a build that cites rows (own): what the clean build over what is stored gives, each page
 -- by a row line that has its bytes.
 use Rattle.std.specs.Prelude.{◌≡◌, ◌+◌, ℕ, List, [], ◌∷◌, Option, Contains, flat_map, map}
-use Rattle.build_spec.specs.Built.{Built, Page, Done, Stopped, TooLarge}
+use Rattle.build_spec.specs.Built.{BuildOutcome, Page, Done, Stopped, TooLarge}
 use Rattle.dita_doc.specs.Lines.{line}
 use Rattle.transcript_text.specs.Transcript.{BuiltPages, StoppedBy, PagesTooLarge, OfBuild, InRow, PageShown, PartShown, IsPage, IsContents, RowShown, Shown, fault_shown}
 
@@ -28,7 +28,7 @@ CitePages rows root val index (page ∷ next ∷ pages) (told ∷ more) =
 
 -- a build of this map and DITAVAL is shown: why it is stopped; how large it is; or its pages, and behind them its
 -- faults
-abbrev pub ShowsBuilt : List RowShown → List ℕ → Option (List ℕ) → Built → Shown → Type 0
+abbrev pub ShowsBuilt : List RowShown → List ℕ → Option (List ℕ) → BuildOutcome → Shown → Type 0
 ShowsBuilt rows root val (Stopped stop) shown = shown ≡ OfBuild (StoppedBy stop)
 ShowsBuilt rows root val (TooLarge total) shown = shown ≡ OfBuild (PagesTooLarge total)
 ShowsBuilt rows root val (Done pages faults) shown = (told : List PageShown)

@@ -1,69 +1,61 @@
 -- How a run of the mode `serve` ends, by its status, over what its sink and its door tell. Each connection that was
 -- accepted is a session, the first of them session 1; all of them are served on one desk, and are handed back in the
 -- order in which they came.
-use Rattle.std.specs.Prelude.{◌≡◌, ◌≤◌, ◌⊎◌, ◌+◌, ◌++◌, ℕ, List, [], ◌∷◌, Option, Some, None, ⊤, All, codes, length}
+use Rattle.std.specs.Prelude.{◌≡◌, ◌≢◌, ◌<◌, ◌≤◌, ◌⊎◌, ◌+◌, ◌++◌, ℕ, List, [], ◌∷◌, ⊤, All, AllPairs, codes, length}
 use Rattle.std.specs.Fmt.{decimal}
 use Rattle.std.specs.Io.KnownBytes.{Appends, Keeps}
-use Rattle.dita_doc.specs.Bytes.{Bytes}
 use Rattle.dita_doc.specs.History.{Entry, IsLegal}
 use Rattle.dita_doc.specs.Lines.{line}
 use Rattle.dita_outside.specs.Cause.{Rose}
+use Rattle.dita_outside.specs.Links.{DoorTold, HasMore, LinkTold, Links}
 use Rattle.run_spec.specs.Written.{AppendsFront, Sunk}
 use Rattle.run_spec.specs.declared.status.Status.{Status}
 use Rattle.run_spec.specs.declared.status.Status.TheVariants as statuses
+use Rattle.transcript_text.specs.Transcript.{RowShown}
 
--- what a link tells at one moment: the messages that are still to come and those that were sent on it, if it tells
--- them, and its count of faults
-pub record LinkTold : Type 0 where
-  pub left : Option (List Bytes)
-  pub sent : Option (List Bytes)
-  pub faults : ℕ
-
-abbrev pub Links : Type 0
-Links = List LinkTold
-
--- what a door tells at one moment: the connections as they were accepted and as they were taken back, both in order, if
--- it tells them, and its count of faults
-pub record DoorTold : Type 0 where
-  pub accepted : Option Links
-  pub returned : Option Links
-  pub faults : ℕ
-
--- the door counts these connections more
-abbrev pub CountsLinks : Option Links → Option Links → Links → Type 0
-CountsLinks None new links = ⊤
-CountsLinks (Some old) None links = ⊥
-CountsLinks (Some old) (Some new) links = new ≡ old ++ links
-
--- what a session over a link did: its entries in the history, what it received, and what it sent
+-- what a session of this number did over a link: its entries in the history, which of these rows it sent the texts of,
+-- what it received, and what it sent
 abbrev pub SessionRelation : Type 1
-SessionRelation = List Entry → ℕ → LinkTold → LinkTold → Type 0
+SessionRelation = List Entry → List RowShown → ℕ → LinkTold → LinkTold → Type 0
 
--- links, each as it came and as it went, are served one after the other, from the one of this session on
-abbrev pub ServesEach : SessionRelation → List Entry → ℕ → Links → Links → Type 0
-ServesEach serves history session [] [] = ⊤
-ServesEach serves history session (link ∷ came) [] = ⊥
-ServesEach serves history session [] (link ∷ went) = ⊥
-ServesEach serves history session (old ∷ came) (new ∷ went) =
-    serves history session old new × ServesEach serves history (session + 1) came went
+-- links, each as it came and as it went, are those of one session after the other, from this one on
+abbrev pub ServesEach : SessionRelation → List Entry → List RowShown → ℕ → Links → Links → Type 0
+ServesEach serves history rows session [] [] = ⊤
+ServesEach serves history rows session (link ∷ came) [] = ⊥
+ServesEach serves history rows session [] (link ∷ went) = ⊥
+ServesEach serves history rows session (old ∷ came) (new ∷ went) =
+    serves history rows session old new × ServesEach serves history rows (session + 1) came went
 
 -- Connections were accepted and all of them taken back, in order. There is one legal history, each entry of which is of
--- one of their sessions, and each session is served in it.
+-- one of their sessions. The rows that the sessions show are of one table: no two have one serial.
 pub record ServesThese (serves : SessionRelation) (old new : DoorTold) : Type 0 where
   pub came : Links
   pub went : Links
-  pub accepted : CountsLinks old.accepted new.accepted came
-  pub returned : CountsLinks old.returned new.returned went
+  pub accepted : HasMore old.accepted new.accepted came
+  pub returned : HasMore old.returned new.returned went
   pub history : List Entry
+  pub rows : List RowShown
   pub legal : IsLegal history
   pub sessions : All (λ (entry : Entry). (1 ≤ entry.session) × (entry.session ≤ length came)) history
-  pub served : ServesEach serves history 1 came went
+  pub different : AllPairs (λ (row other : RowShown). row.serial ≢ other.serial) rows
+  pub served : ServesEach serves history rows 1 came went
 
 -- as many connections as were to be accepted, and no call of the door failed
 pub record ServesAll (serves : SessionRelation) (connections : ℕ) (old new : DoorTold) : Type 0 where
   pub these : ServesThese serves old new
   pub all : length these.came ≡ connections
   pub sure : new.faults ≡ old.faults
+
+-- no more connections than were to be accepted
+pub record ServesSome (serves : SessionRelation) (connections : ℕ) (old new : DoorTold) : Type 0 where
+  pub these : ServesThese serves old new
+  pub within : length these.came ≤ connections
+
+-- a call of the door failed, and then no more were accepted
+pub record ServesFewer (serves : SessionRelation) (connections : ℕ) (old new : DoorTold) : Type 0 where
+  pub these : ServesThese serves old new
+  pub fewer : length these.came < connections
+  pub failed : Rose old.faults new.faults
 
 -- how many connections were served, and how many entries the history has
 abbrev pub served_line : ℕ → List Entry → List ℕ
@@ -90,9 +82,9 @@ EndsServe serves breaks connections old new statuses.Done =
 EndsServe serves breaks connections old new statuses.WriteFault =
     BeginsLine serves connections old new × Rose old.sink.faults new.sink.faults
 EndsServe serves breaks connections old new statuses.Port =
-    ServesThese serves old.door new.door × Keeps old.sink.taken new.sink.taken × Rose old.door.faults new.door.faults
+    ServesFewer serves connections old.door new.door × Keeps old.sink.taken new.sink.taken
 EndsServe serves breaks connections old new statuses.NoMemory =
-    (ServesThese breaks old.door new.door × Keeps old.sink.taken new.sink.taken)
+    (ServesSome breaks connections old.door new.door × Keeps old.sink.taken new.sink.taken)
     ⊎ BeginsLine serves connections old new
 EndsServe serves breaks connections old new statuses.Words = ⊥
 EndsServe serves breaks connections old new statuses.ReadFault = ⊥

@@ -2,7 +2,7 @@
 -- of a number and of a count of topics. `trial` runs this script as one session, and writes one line with its counts.
 use Rattle.std.specs.Prelude.{◌++◌, ℕ, List, Option, Some, None, codes, length, map, sum_by}
 use Rattle.std.specs.Fmt.{decimal}
-use Rattle.build_spec.specs.Built.{Built, Done, Stopped, TooLarge}
+use Rattle.build_spec.specs.Built.{BuildOutcome, Done, Stopped, TooLarge}
 use Rattle.dita_doc.specs.Lines.{line}
 use Rattle.doc_gen.specs.Project.{project, project_steps}
 use Rattle.run_spec.specs.Answers.{Answer, answers_to, pages_built}
@@ -12,17 +12,17 @@ use Rattle.script_text.specs.Script.{Step}
 
 -- The counts
 
-abbrev pub builds_in : Option Built → ℕ
+abbrev pub builds_in : Option BuildOutcome → ℕ
 builds_in None = 0
 builds_in (Some built) = 1
 
-abbrev pub faults_in : Option Built → ℕ
+abbrev pub faults_in : Option BuildOutcome → ℕ
 faults_in None = 0
 faults_in (Some (Done pages faults)) = length faults
 faults_in (Some (Stopped stop)) = 0
 faults_in (Some (TooLarge total)) = 0
 
-abbrev pub count_of : (Option Built → ℕ) → List Answer → ℕ
+abbrev pub count_of : (Option BuildOutcome → ℕ) → List Answer → ℕ
 count_of counts answers = sum_by (λ (answer : Answer). counts answer.built) answers
 
 -- the line of a trial: how many requests were answered, how many of them are builds, and the pages and the faults of

@@ -1,12 +1,11 @@
 -- Printed blocks are read as the steps that they ask.
-use Rattle.std.specs.Prelude.{◌≡◌, ◌≢◌, ◌<◌, ◌≤◌, ◌+◌, ◌==◌, ◌⊎◌, ◌++◌, ℕ, Bool, true, false, List, [], ◌∷◌, Option, Some, None, Result, Ok, Err, length, codes, slice_index, bytes_eq, if◌then◌else◌}
+use Rattle.std.specs.Prelude.{◌≡◌, ◌≢◌, ◌<◌, ◌≤◌, ◌+◌, ◌==◌, ◌⊎◌, ◌++◌, ℕ, Bool, true, false, List, [], ◌∷◌, Option, Some, None, Result, Ok, Err, length, codes, slice_index, if◌then◌else◌}
 use Rattle.std.specs.List.{All, flat_map, list_all}
 use Rattle.std.specs.Option.{option_to_list}
 use Rattle.std.specs.Str.{is_utf8}
 use Rattle.std.proofs.Common.{refl, sym, ap, ◌∙◌, subst, arith, inl, inr, append-nil, append_assoc, length-append}
-use Rattle.std.proofs.lemmas.Bool.{or_left, or_right, false_from_ne_true}
+use Rattle.std.proofs.lemmas.Bool.{or_left, or_right}
 use Rattle.std.proofs.lemmas.List.Elements.{All-head, All-tail}
-use Rattle.std.proofs.lemmas.Slice.Eq.{bytes_eq-Decides}
 use Rattle.std.proofs.lemmas.Str.{IsUtf8-from_ascii, is_utf8-from_IsUtf8}
 use Rattle.std.proofs.lemmas.Str.Ascii.{IsAscii-cons, IsAscii-nil}
 use Rattle.dita_doc.specs.Bytes.{line_feed, number_sign, is_gap, spaced_words}
@@ -14,9 +13,10 @@ use Rattle.dita_doc.specs.Cut.{Lacks}
 use Rattle.dita_doc.specs.Lines.{line, lines_of}
 use Rattle.dita_doc.specs.Request.{Edit, Put, PutIf, Remove, Request, Single, Get, Names, Build, Group, edit_limit}
 use Rattle.dita_doc.proofs.LinesLaws.{lines_after}
+use Rattle.dita_doc.proofs.Tests.{other_text}
 use Rattle.script_text.specs.declared.fault.ScriptCode.{ScriptCode}
 use Rattle.script_text.specs.declared.fault.ScriptCode.TheVariants as faults
-use Rattle.script_text.specs.Script.{request_limit, Opening, PutOf, PutIfOf, with_body, EditCommand, WholeEdit, OpensBody, edit_of, asked_by, is_passed, script_line, edit_counted, edit_line, Step, Opened, Begun, InPut, InGroup, InGroupPut, open_body, whole_edit, with_line, Turn, goes_on, ends, is_body_end, turn_edit, turn_within, turn_outside, turn_of_text, turn, count_after, then_steps, steps_from}
+use Rattle.script_text.specs.Script.{request_limit, Opening, PutOf, PutIfOf, with_body, EditCommand, WholeEdit, OpensBody, edit_of, asked_by, is_passed, script_line, edit_counted, edit_line, Step, OpenPut, Begun, InPut, InGroup, InGroupPut, open_body, whole_edit, with_line, Turn, goes_on, ends, is_body_end, turn_edit, turn_within, turn_outside, turn_of_text, turn, count_after, then_steps, steps_from}
 use Rattle.script_text.proofs.StepLaws.{steps_led, led_by}
 use Rattle.script_text.proofs.ScriptTurns.{step_of}
 use Rattle.script_laws.specs.Blocks as blocks_spec
@@ -63,20 +63,16 @@ dot_utf8 : is_utf8 (codes ".") ≡ true
 dot_utf8 =
     is_utf8-from_IsUtf8 (codes ".") (IsUtf8-from_ascii (codes ".") (IsAscii-cons 46 [] (omega arith) IsAscii-nil))
 
--- a text that is not this one
-other_text : (text other : List ℕ) → text ≢ other → bytes_eq text other ≡ false
-other_text text other differs = false_from_ne_true _ (λ e. differs ((bytes_eq-Decides text other).0 e))
-
 -- by a test, the edit that the line of a put's body ends, or the put with this line
-abbrev put_turn : (Opened → Begun) → (Edit → Turn) → Opened → List ℕ → Bool → Result Turn ScriptCode
+abbrev put_turn : (OpenPut → Begun) → (Edit → Turn) → OpenPut → List ℕ → Bool → Result Turn ScriptCode
 put_turn held done put text ends =
     if ends then Ok (done (whole_edit put)) else Ok (goes_on (Some (held (with_line put text))))
 
 -- a put, alone or in a group, is read line by line up to the line that ends its body
-module _ (held : Opened → Begun) (done : Edit → Turn) (within : (put : Opened) (text : List ℕ)
+module _ (held : OpenPut → Begun) (done : Edit → Turn) (within : (put : OpenPut) (text : List ℕ)
     → turn_within (held put) text ≡ put_turn held done put text (is_body_end text)) where
   -- the lines of a body and the line that ends it, behind which this edit is whole
-  body_told : (count : ℕ) (put : Opened) (edit : Edit) (body : List (List ℕ)) (back : List ℕ) (steps : List Step)
+  body_told : (count : ℕ) (put : OpenPut) (edit : Edit) (body : List (List ℕ)) (back : List ℕ) (steps : List Step)
       → edit ≡ edit_with put (flat_map line body) → All IsBodyLine body
       → AreTold (count_after count (done edit).step) (done edit).begun back steps
       → AreTold count (Some (held put)) (flat_map line body ++ line (codes ".") ++ back)
@@ -189,7 +185,7 @@ module _ (count session : ℕ) where
       → AreTold count (Some (InGroup session edits)) (line head ++ behind ++ back) steps
   put_in edits opening body head behind back steps room is read has told =
       let next : Turn = goes_on (Some (InGroupPut session edits (open_body opening))) in
-      let held : Opened → Begun = λ put. InGroupPut session edits put in
+      let held : OpenPut → Begun = λ put. InGroupPut session edits put in
       let done : Edit → Turn = λ edit. goes_on (Some (InGroup session (edits ++ edit ∷ []))) in
       let rest = put_told held done (λ put text. refl) count opening body behind back steps has told in
       told_same count (Some (InGroup session edits)) (line head ++ (behind ++ back)) (line head ++ behind ++ back)
@@ -288,7 +284,7 @@ module _ (count session : ℕ) (head behind back : List ℕ) (steps : List Step)
       → IsBody body behind
       → AreTold count None ((line head ++ behind) ++ back) (step_of session (Single (with_body opening body)) ∷ steps)
   put_alone opening body is leads has =
-      let held : Opened → Begun = λ put. InPut session put in
+      let held : OpenPut → Begun = λ put. InPut session put in
       let done : Edit → Turn = λ edit. ends session (Single edit) in
       let rest = put_told held done (λ put text. refl) count opening body behind back steps has behind_told in
       head_told (Single (with_body opening body)) (goes_on (Some (InPut session (open_body opening))))

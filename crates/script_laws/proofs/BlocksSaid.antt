@@ -15,7 +15,7 @@ use Rattle.dita_doc.specs.Request.{Edit, Request, Single, Group}
 use Rattle.script_text.specs.declared.fault.ScriptCode.{ScriptCode}
 use Rattle.script_text.specs.declared.fault.ScriptCode.TheVariants as faults
 use Rattle.script_text.specs.Facts.{HasFewStep}
-use Rattle.script_text.specs.Script.{Opening, with_body, EditCommand, WholeEdit, OpensBody, Command, Edits, Whole, OpensGroup, Asked, script_line, edit_line, Step, Opened, Begun, InPut, InGroup, InGroupPut, open_body, whole_edit, with_line, Turn, goes_on, ends, is_body_end, is_group_end, turn_edit, turn_within, turn_in, turn_outside, turn_of_text, turn, steps_from}
+use Rattle.script_text.specs.Script.{Opening, with_body, EditCommand, WholeEdit, OpensBody, Command, Edits, Whole, OpensGroup, AskedLine, script_line, edit_line, Step, OpenPut, Begun, InPut, InGroup, InGroupPut, open_body, whole_edit, with_line, Turn, goes_on, ends, is_body_end, is_group_end, turn_edit, turn_within, turn_in, turn_outside, turn_of_text, turn, steps_from}
 use Rattle.script_text.proofs.ScriptTurns.{steps_keep, step_of}
 use Rattle.script_laws.specs.Blocks as blocks_spec
 use Rattle.script_laws.specs.Blocks.{IsLineOfEdit, IsLineOfStep, IsBodyLine, IsBody, IsBehindEdit, IsBehind, Item, Blank, Does, AreItems, edits_of, Block, Passed, Asks, AreTextOf}
@@ -182,7 +182,7 @@ module _ (text : List ℕ) (lines : List (List ℕ)) (on_line : IsLineText text)
   command_keeps count session OpensGroup is steps few within =
       opens (InGroup session []) text lines steps (begins_group count session is) within
 
-  outside_keeps : (count : ℕ) (asked : Result (Option Asked) ScriptCode) → IsReadAs count text asked
+  outside_keeps : (count : ℕ) (asked : Result (Option AskedLine) ScriptCode) → IsReadAs count text asked
       → Keeps None text lines (turn_outside asked)
   outside_keeps count (Ok None) is =
       λ steps few. passes text lines steps (record { on_line = on_line; empty = is })
@@ -196,7 +196,7 @@ module _ (text : List ℕ) (lines : List (List ℕ)) (on_line : IsLineText text)
   }
 
   module _ (session : ℕ) where
-    put_keeps : (put : Opened) → Keeps (Some (InPut session put)) text lines (turn_within (InPut session put) text)
+    put_keeps : (put : OpenPut) → Keeps (Some (InPut session put)) text lines (turn_within (InPut session put) text)
     put_keeps put =
         let begun : Begun = InPut session put in
         let after : Begun = InPut session (with_line put text) in
@@ -273,7 +273,7 @@ module _ (text : List ℕ) (lines : List (List ℕ)) (on_line : IsLineText text)
         ([], same, ap line ((bytes_eq-Decides text (codes "end")).0 e)) are)
         (λ e. edit_keeps edits (edit_line (length edits) text) (edit_line_as (length edits) text))
 
-    group_put_keeps : (edits : List Edit) (put : Opened)
+    group_put_keeps : (edits : List Edit) (put : OpenPut)
         → Keeps (Some (InGroupPut session edits put)) text lines (turn_within (InGroupPut session edits put) text)
     group_put_keeps edits put =
         let begun : Begun = InGroupPut session edits put in

@@ -6,3 +6,4 @@ pub mod RestLaws
 pub mod BlocksSaid
 pub mod BlocksRead
 pub mod WholeLaws
+pub mod Later

@@ -13,7 +13,7 @@ use Rattle.dita_doc.specs.Request.{Edit, Put, PutIf, Remove, Request, Single, Ge
 use Rattle.dita_doc.proofs.LackLaws.{lacks_append, lacks_cons, lacks_name}
 use Rattle.script_text.specs.declared.fault.ScriptCode.{ScriptCode}
 use Rattle.script_text.specs.declared.fault.ScriptCode.TheVariants as faults
-use Rattle.script_text.specs.Script.{request_limit, session_limit, number_of, PutOf, PutIfOf, EditCommand, WholeEdit, OpensBody, name_of, named, put_if_of, edit_of, Command, Edits, Whole, OpensGroup, edit_alone, command_of, Asked, counted, session_of, asked_in, asked_by, is_passed, script_line, edit_counted, edit_line, Step}
+use Rattle.script_text.specs.Script.{request_limit, session_limit, number_of, PutOf, PutIfOf, EditCommand, WholeEdit, OpensBody, name_of, if_named, put_if_of, edit_of, Command, Edits, Whole, OpensGroup, edit_alone, command_of, AskedLine, counted, session_of, asked_in, asked_by, is_passed, script_line, edit_counted, edit_line, Step}
 use Rattle.script_laws.specs.Words.{AreSpaces, AreBehind, IsLineOf, SaysNumber}
 use Rattle.script_laws.specs.Blocks.{HasEditName, AreEditWords, IsLineOfEdit, HasNames, AreWordsOf, IsLineOfStep}
 use Rattle.script_laws.proofs.WordLaws.{IsWord, words_of_line}
@@ -208,8 +208,8 @@ command_for (Build root val) = Whole (Build root val)
 command_for (Group edits) = OpensGroup
 
 named_told : {A : Type 0} (name : List ℕ) (command : Result A ScriptCode) → is_name name ≡ true
-    → named (name_of name) command ≡ command
-named_told name command e = ap (λ (test : Bool). named (if test then Ok name else Err faults.BadName) command) e
+    → if_named (name_of name) command ≡ command
+named_told name command e = ap (λ (test : Bool). if_named (if test then Ok name else Err faults.BadName) command) e
 
 edit_told : (edit : Edit) (words : List (List ℕ)) → HasEditName edit → AreEditWords edit words
     → edit_of words ≡ Ok (edit_command_for edit)
@@ -238,7 +238,7 @@ command_told (Build root None) words known is =
     ap command_of is ∙ named_told root (Ok (Whole (Build root None))) known
 command_told (Build root (Some val)) words known is =
     let whole : Result Command ScriptCode = Ok (Whole (Build root (Some val))) in
-    ap command_of is ∙ named_told root (named (name_of val) whole) known.0 ∙ named_told val whole known.1
+    ap command_of is ∙ named_told root (if_named (name_of val) whole) known.0 ∙ named_told val whole known.1
 command_told (Group edits) words known is = ap command_of is
 
 session_told : (number : ℕ) → 1 ≤ number → number ≤ session_limit → session_of (Some number) ≡ Ok number
@@ -251,7 +251,7 @@ counted_told : (count session : ℕ) (command : Command) → count < request_lim
 counted_told count session command room = rw (lt-leb request_limit count room) refl
 
 -- what a step's line asks
-abbrev pub asked_of : Step → Asked
+abbrev pub asked_of : Step → AskedLine
 asked_of step = record { session = step.session; command = command_for step.request }
 
 words_in : (words : List (List ℕ)) (text : List ℕ) → All IsPlain words → IsLineOf words text

@@ -9,7 +9,7 @@ use Rattle.dita_doc.specs.Name.{is_name}
 use Rattle.dita_doc.specs.Request.{Remove, Get, Build, edit_limit}
 use Rattle.script_text.specs.declared.fault.ScriptCode.{ScriptCode}
 use Rattle.script_text.specs.declared.fault.ScriptCode.TheVariants as faults
-use Rattle.script_text.specs.Script.{request_limit, session_limit, number_of, PutOf, PutIfOf, with_body, EditCommand, WholeEdit, OpensBody, name_of, named, put_by, put_if_of, put_if_by, remove_by, edit_of, Command, Edits, Whole, OpensGroup, get_by, names_by, build_by, group_by, edit_alone, command_of, Asked, counted, session_of, asked_in, asked_by, is_passed, script_line, edit_counted, edit_line}
+use Rattle.script_text.specs.Script.{request_limit, session_limit, number_of, PutOf, PutIfOf, with_body, EditCommand, WholeEdit, OpensBody, name_of, if_named, put_by, put_if_of, put_if_by, remove_by, edit_of, Command, Edits, Whole, OpensGroup, get_by, names_by, build_command, group_by, edit_alone, command_of, AskedLine, counted, session_of, asked_in, asked_by, is_passed, script_line, edit_counted, edit_line}
 use Rattle.script_laws.specs.Words.{AreSpaces, IsLineOf, SaysNumber}
 use Rattle.script_laws.specs.Blocks.{HasEditName, AreEditWords, IsBehindEdit, HasNames, AreWordsOf, IsBehind}
 use Rattle.script_laws.proofs.WordLaws.{line_of_words}
@@ -23,9 +23,9 @@ says_if P false x y first second = second
 
 -- with a name
 says_named : {A : Type 0} (P : A → Type 0) (name : List ℕ) (command : Result A ScriptCode)
-    → (is_name name ≡ true → IfOk command P) → IfOk (named (name_of name) command) P
+    → (is_name name ≡ true → IfOk command P) → IfOk (if_named (name_of name) command) P
 says_named P name command says =
-    cond_both (is_name name) (Ok name) (Err faults.BadName) (λ found. IfOk (named found command) P) says (λ e. tt)
+    cond_both (is_name name) (Ok name) (Err faults.BadName) (λ found. IfOk (if_named found command) P) says (λ e. tt)
 
 -- Edits
 
@@ -93,7 +93,7 @@ module _ (verb : List ℕ) where
   names_say [] is = (tt, ap (λ (first : List ℕ). first ∷ []) is, refl)
   names_say (word ∷ words) is = tt
 
-  build_says : (words : List (List ℕ)) → verb ≡ codes "build" → IfOk (build_by words) (SaysCommand (verb ∷ words))
+  build_says : (words : List (List ℕ)) → verb ≡ codes "build" → IfOk (build_command words) (SaysCommand (verb ∷ words))
   build_says [] is = tt
   build_says (root ∷ []) is =
       says_named (SaysCommand (verb ∷ root ∷ [])) root (Ok (Whole (Build root None)))
@@ -101,7 +101,7 @@ module _ (verb : List ℕ) where
   build_says (root ∷ val ∷ []) is =
       let P : Command → Type 0 = SaysCommand (verb ∷ root ∷ val ∷ []) in
       let whole : Result Command ScriptCode = Ok (Whole (Build root (Some val))) in
-      says_named P root (named (name_of val) whole)
+      says_named P root (if_named (name_of val) whole)
       (λ e. says_named P val whole (λ f. ((e, f), ap (λ (first : List ℕ). first ∷ root ∷ val ∷ []) is, refl)))
   build_says (root ∷ val ∷ other ∷ words) is = tt
 
@@ -129,7 +129,7 @@ command_says (verb ∷ words) =
 -- Lines
 
 -- a line of a request behind so many, and what it asks
-pub record IsLineOfAsked (count : ℕ) (text : List ℕ) (asked : Asked) : Type 0 where
+pub record IsLineOfAsked (count : ℕ) (text : List ℕ) (asked : AskedLine) : Type 0 where
   pub room : count < request_limit
   pub first : 1 ≤ asked.session
   pub last : asked.session ≤ session_limit
@@ -143,7 +143,7 @@ abbrev IsEmpty : List ℕ → Type 0
 IsEmpty text = (list_all is_gap text ≡ true) ⊎ ((rest : List ℕ) × (text ≡ number_sign ∷ rest))
 
 -- a line that is passed over, or one of a request
-abbrev pub IsReadAs : ℕ → List ℕ → Result (Option Asked) ScriptCode → Type 0
+abbrev pub IsReadAs : ℕ → List ℕ → Result (Option AskedLine) ScriptCode → Type 0
 IsReadAs count text (Ok None) = IsEmpty text
 IsReadAs count text (Ok (Some asked)) = IsLineOfAsked count text asked
 IsReadAs count text (Err code) = Unit {0}

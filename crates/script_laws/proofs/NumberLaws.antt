@@ -1,5 +1,5 @@
 -- The words that say a number are those that are read as this number.
-use Rattle.std.specs.Prelude.{◌≡◌, ◌==◌, ◌+◌, ◌*◌, ◌/◌, ◌%◌, ◌^◌, ◌<◌, ◌≤◌, ◌++◌, ℕ, zero, suc, Bool, true, false, List, [], ◌∷◌, Some, None, length, if◌then◌else◌}
+use Rattle.std.specs.Prelude.{◌≡◌, ◌==◌, ◌+◌, ◌*◌, ◌/◌, ◌%◌, ◌^◌, ◌<◌, ◌≤◌, ◌++◌, ℕ, zero, suc, Bool, true, false, List, [], ◌∷◌, Some, length}
 use Rattle.std.specs.Fmt.{decimal, digits, digits_onto, digit_glyph}
 use Rattle.std.specs.List.{list_all, list_any}
 use Rattle.std.proofs.Common.{refl, inl, inr, sym, ap, subst, ◌∙◌, arith, get_or, rules, length-append}
@@ -10,6 +10,7 @@ use Rattle.std.proofs.lemmas.Fmt.{digits_decimal, digits_value-decimal, decimal-
 use Rattle.std.proofs.lemmas.List.Folds.{list_all-append}
 use Rattle.std.proofs.lemmas.Str.Parse.{IsNumeralModel, numerals_by_fold, digits_value_short}
 use Rattle.dita_doc.specs.Bytes.{is_space, is_digit, has_bytes}
+use Rattle.dita_doc.proofs.Tests.{told_if}
 use Rattle.script_text.specs.Script.{number_of, value_after}
 use Rattle.script_laws.specs.Words.{is_zero, SaysNumber}
 use Rattle.script_laws.proofs.WordLaws.{IsWord}
@@ -174,11 +175,6 @@ digits_say (b ∷ []) all some short = own_number (b ∷ []) all some short (λ 
 digits_say (b ∷ c ∷ word) all some short =
     digits_say_by b c word (is_zero b) refl all short
     (digits_say (c ∷ word) (and_parts (is_digit b) (list_all is_digit (c ∷ word)) all).1 (omega arith) (omega arith))
-
-told_if : (test : Bool) (value number : ℕ) → (if test then Some value else None) ≡ Some number
-    → (test ≡ true) × (value ≡ number)
-told_if true value number e = (refl, cc)
-told_if false value number e = absurd (cc)
 
 -- and a word that is read as a number says it
 pub says_number : (word : List ℕ) (number : ℕ) → number_of word ≡ Some number → SaysNumber number word

@@ -6,12 +6,12 @@ use Rattle.std.proofs.lemmas.List.Elements.{All-nil, All-cons}
 use Rattle.dita_doc.specs.Bytes.{line_feed}
 use Rattle.dita_doc.specs.Lines.{line}
 use Rattle.dita_doc.specs.Request.{Edit, Request, Single, Group}
-use Rattle.script_text.specs.Script.{Step, Opening, Opened, PutOf, PutIfOf, with_body, Begun, InPut, InGroup, InGroupPut, whole_edit, with_line}
+use Rattle.script_text.specs.Script.{Step, Opening, OpenPut, PutOf, PutIfOf, with_body, Begun, InPut, InGroup, InGroupPut, whole_edit, with_line}
 use Rattle.script_text.proofs.ScriptTurns.{step_of}
 use Rattle.script_laws.specs.Blocks.{IsBodyLine, IsBody, IsBehindEdit, Item, AreItems, edits_of}
 
 -- the edit of a put with this, behind what was read of its body
-abbrev pub edit_with : Opened → List ℕ → Edit
+abbrev pub edit_with : OpenPut → List ℕ → Edit
 edit_with put more = with_body put.opening (put.body ++ more)
 
 -- the group of these edits and of those among the items
@@ -52,11 +52,11 @@ body_more text more rest is body = record {
 }
 
 -- the edit, if its body is whole
-pub edit_whole : (put : Opened) → edit_with put [] ≡ whole_edit put
+pub edit_whole : (put : OpenPut) → edit_with put [] ≡ whole_edit put
 edit_whole put = ap (λ (body : List ℕ). with_body put.opening body) (append-nil put.body)
 
 -- and with one line more that has been read
-pub edit_more : (put : Opened) (text more : List ℕ)
+pub edit_more : (put : OpenPut) (text more : List ℕ)
     → edit_with (with_line put text) more ≡ edit_with put (line text ++ more)
 edit_more put text more =
     let same : (put.body ++ text ++ line_feed ∷ []) ++ more ≡ put.body ++ (line text ++ more) =

@@ -10,7 +10,7 @@ use Rattle.dita_doc.specs.Request.{Edit, Request, Single, Group, HasFewEdits, ed
 use Rattle.script_text.specs.declared.fault.ScriptCode.{ScriptCode}
 use Rattle.script_text.specs.declared.fault.ScriptCode.TheVariants as faults
 use Rattle.script_text.specs.declared.fault.ScriptFault.{ScriptFault}
-use Rattle.script_text.specs.Script.{script_limit, request_limit, session_limit, number_of, EditCommand, WholeEdit, OpensBody, edit_of, Command, Edits, Whole, OpensGroup, command_of, LineReading, Asked, counted, session_of, asked_in, asked_by, is_passed, script_line, edit_counted, edit_line, Step, Opened, Begun, InPut, InGroup, InGroupPut, whole_edit, with_line, Turn, goes_on, ends, is_body_end, is_group_end, turn_edit, turn_within, turn_in, turn_outside, turn_of_text, turn, count_after, then_steps, is_no_line, steps_from, script_of}
+use Rattle.script_text.specs.Script.{script_limit, request_limit, session_limit, number_of, EditCommand, WholeEdit, OpensBody, edit_of, Command, Edits, Whole, OpensGroup, command_of, LineReading, AskedLine, counted, session_of, asked_in, asked_by, is_passed, script_line, edit_counted, edit_line, Step, OpenPut, Begun, InPut, InGroup, InGroupPut, whole_edit, with_line, Turn, goes_on, ends, is_body_end, is_group_end, turn_edit, turn_within, turn_in, turn_outside, turn_of_text, turn, count_after, then_steps, is_no_line, steps_from, script_of}
 use Rattle.script_text.specs.Facts.{IsSession}
 use Rattle.script_text.proofs.StepLaws.{led_by, steps_led}
 use Rattle.script_text.proofs.TextLaws.{Texts, edit_texts, group_texts, texts_of, name_in, put_texts, line_texts, whole_texts, more_texts, AreLast, none_last, edit_from, IsFrom, command_from, from_more}
@@ -66,13 +66,13 @@ module _ (reads : LineReading) (long : Bool) (P : Claim) (rules : GoesOn reads l
 -- Lines
 
 -- what a line that asks something has: texts among its words, a session, and room for one request more
-pub record IsAsked (count : ℕ) (line : List ℕ) (asked : Asked) : Type 0 where
+pub record IsAsked (count : ℕ) (line : List ℕ) (asked : AskedLine) : Type 0 where
   pub from : IsFrom (spaced_words line) asked.command
   pub numbered : IsSession asked.session
   pub room : count < request_limit
 
 -- what the line asks, it has
-abbrev AsksFrom : ℕ → List ℕ → Result (Option Asked) ScriptCode → Type 0
+abbrev AsksFrom : ℕ → List ℕ → Result (Option AskedLine) ScriptCode → Type 0
 AsksFrom count line found = IfOk found (λ asked. IfSome asked (IsAsked count line))
 
 one_command : (count : ℕ) (line : List ℕ) (session : ℕ) (words : Texts) (command : Result Command ScriptCode)
@@ -243,14 +243,15 @@ module _ (count : ℕ) (line : List ℕ) where
     sound = λ sound. record { room = asked.room; numbered = asked.numbered; few = omega arith };
   }
 
-  outside_is : (found : Result (Option Asked) ScriptCode) → AsksFrom count line found
+  outside_is : (found : Result (Option AskedLine) ScriptCode) → AsksFrom count line found
       → IfOk (turn_outside found) (IsTurn count None line)
   outside_is (Ok None) asked = record { texts = Adds (same_texts line [] [] refl); sound = λ sound. sound }
   outside_is (Ok (Some asked)) is = command_is asked.session asked.command is
   outside_is (Err code) asked = tt
 
   module _ (session : ℕ) where
-    put_is : (put : Opened) → IfOk (turn_within (InPut session put) line) (IsTurn count (Some (InPut session put)) line)
+    put_is : (put : OpenPut)
+        → IfOk (turn_within (InPut session put) line) (IsTurn count (Some (InPut session put)) line)
     put_is put =
         cond_both (is_body_end line) (Ok (ends session (Single (whole_edit put))))
         (Ok (goes_on (Some (InPut session (with_line put line)))))
@@ -295,7 +296,7 @@ module _ (count : ℕ) (line : List ℕ) where
         })
         (λ e. edit_is edits (edit_line (length edits) line) (line_edits (length edits) line))
 
-    group_put_is : (edits : List Edit) (put : Opened)
+    group_put_is : (edits : List Edit) (put : OpenPut)
         → IfOk (turn_within (InGroupPut session edits put) line)
         (IsTurn count (Some (InGroupPut session edits put)) line)
     group_put_is edits put =

@@ -5,7 +5,7 @@ use Rattle.std.proofs.Common.{refl, ◌∙◌, ap, append-nil, append_assoc}
 use Rattle.std.proofs.lemmas.Grind.{flat_map-append}
 use Rattle.dita_doc.specs.Request.{Edit, Put, PutIf, Remove, Request, Single, Get, Names, Build, Group, HasFewEdits}
 use Rattle.script_text.specs.declared.fault.ScriptCode.{ScriptCode}
-use Rattle.script_text.specs.Script.{number_of, Opening, PutOf, PutIfOf, with_body, EditCommand, WholeEdit, OpensBody, name_of, named, put_by, put_if_of, put_if_by, remove_by, edit_of, Command, Edits, Whole, OpensGroup, get_by, names_by, build_by, group_by, edit_alone, command_of, Opened, whole_edit}
+use Rattle.script_text.specs.Script.{number_of, Opening, PutOf, PutIfOf, with_body, EditCommand, WholeEdit, OpensBody, name_of, if_named, put_by, put_if_of, put_if_by, remove_by, edit_of, Command, Edits, Whole, OpensGroup, get_by, names_by, build_command, group_by, edit_alone, command_of, OpenPut, whole_edit}
 
 -- Texts
 
@@ -36,7 +36,7 @@ name_in (PutOf name) = name
 name_in (PutIfOf version name) = name
 
 -- the texts of a put: its name, and its body so far
-abbrev pub put_texts : Opened → Texts
+abbrev pub put_texts : OpenPut → Texts
 put_texts put = name_in put.opening ∷ put.body ∷ []
 
 -- the texts in the line of an edit
@@ -49,7 +49,7 @@ body_texts (PutOf name) body = refl
 body_texts (PutIfOf version name) body = refl
 
 -- a put whose body is whole has the texts that it had
-pub whole_texts : (put : Opened) → edit_texts (whole_edit put) ≡ put_texts put
+pub whole_texts : (put : OpenPut) → edit_texts (whole_edit put) ≡ put_texts put
 whole_texts put = body_texts put.opening put.body
 
 -- one edit more at the end of a group
@@ -91,7 +91,7 @@ module _ {A : Type 0} (P : A → Type 0) where
   ok_if false x y first second = second
 
   ok_named : (found : Result (List ℕ) ScriptCode) (command : Result A ScriptCode) → IfOk command P
-      → IfOk (named found command) P
+      → IfOk (if_named found command) P
   ok_named (Ok name) command is = is
   ok_named (Err code) command is = tt
 
@@ -145,14 +145,14 @@ module _ (verb : List ℕ) where
   names_from [] = (none_last (verb ∷ []), tt)
   names_from (word ∷ words) = tt
 
-  build_from : (words : Texts) → IfOk (build_by words) (IsFrom (verb ∷ words))
+  build_from : (words : Texts) → IfOk (build_command words) (IsFrom (verb ∷ words))
   build_from [] = tt
   build_from (root ∷ []) =
       ok_named (IsFrom (verb ∷ root ∷ [])) (name_of root) (Ok (Whole (Build root None))) ((verb ∷ [], refl), tt)
   build_from (root ∷ val ∷ []) =
       let P : Command → Type 0 = IsFrom (verb ∷ root ∷ val ∷ []) in
       let whole : Result Command ScriptCode = Ok (Whole (Build root (Some val))) in
-      ok_named P (name_of root) (named (name_of val) whole)
+      ok_named P (name_of root) (if_named (name_of val) whole)
       (ok_named P (name_of val) whole ((verb ∷ [], refl), tt))
   build_from (root ∷ val ∷ other ∷ words) = tt
 

@@ -26,7 +26,7 @@ command_seen (Edit edit) = said.Edits (edit_command_seen edit)
 command_seen (Whole request) = said.Whole (request_seen request)
 command_seen OpensGroup = said.OpensGroup
 
-abbrev pub asked_seen : Option (ℕ × Command) → Option said.Asked
+abbrev pub asked_seen : Option (ℕ × Command) → Option said.AskedLine
 asked_seen None = None
 asked_seen (Some asked) = Some (record { session = asked.0; command = command_seen asked.1 })
 

@@ -6,3 +6,5 @@ pub mod Command
 pub mod Machine
 pub mod Read
 pub mod Facts
+pub mod Requests
+pub mod Pieces

@@ -6,13 +6,13 @@ use Rattle.dita_doc.specs.declared.request.Request.{Request}
 use Rattle.script_text.specs.Script as said
 use Rattle.script_text.specs.Command.{opening_seen}
 use Rattle.script_text.specs.Read.{step_seen}
-use Rattle.script_text.specs.declared.opened.Opened.{Opened}
+use Rattle.script_text.specs.declared.opened.OpenPut.{OpenPut}
 use Rattle.script_text.specs.declared.group.Group as kept
 use Rattle.script_text.specs.declared.turn.Begun.{Begun}
 use Rattle.script_text.specs.declared.turn.Begun.TheVariants.{Put, Group, GroupPut}
 use Rattle.script_text.specs.declared.turn.Turn.{Turn}
 
-abbrev pub opened_seen : Opened → said.Opened
+abbrev pub opened_seen : OpenPut → said.OpenPut
 opened_seen put = record { opening = opening_seen put.opening; body = put.body }
 
 -- the edits of a group so far

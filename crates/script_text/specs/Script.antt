@@ -57,24 +57,24 @@ abbrev pub name_of : List ℕ → Result (List ℕ) ScriptCode
 name_of word = if is_name word then Ok word else Err faults.BadName
 
 -- the command, if its name is one
-abbrev pub named : {A : Type 0} → Result (List ℕ) ScriptCode → Result A ScriptCode → Result A ScriptCode
-named (Ok name) command = command
-named (Err code) command = Err code
+abbrev pub if_named : {A : Type 0} → Result (List ℕ) ScriptCode → Result A ScriptCode → Result A ScriptCode
+if_named (Ok name) command = command
+if_named (Err code) command = Err code
 
 abbrev pub put_by : List (List ℕ) → Result EditCommand ScriptCode
-put_by (name ∷ []) = named (name_of name) (Ok (OpensBody (PutOf name)))
+put_by (name ∷ []) = if_named (name_of name) (Ok (OpensBody (PutOf name)))
 put_by words = Err faults.BadCommand
 
 abbrev pub put_if_of : Option ℕ → List ℕ → Result EditCommand ScriptCode
 put_if_of None name = Err faults.BadNumber
-put_if_of (Some version) name = named (name_of name) (Ok (OpensBody (PutIfOf version name)))
+put_if_of (Some version) name = if_named (name_of name) (Ok (OpensBody (PutIfOf version name)))
 
 abbrev pub put_if_by : List (List ℕ) → Result EditCommand ScriptCode
 put_if_by (version ∷ name ∷ []) = put_if_of (number_of version) name
 put_if_by words = Err faults.BadCommand
 
 abbrev pub remove_by : List (List ℕ) → Result EditCommand ScriptCode
-remove_by (name ∷ []) = named (name_of name) (Ok (WholeEdit (Remove name)))
+remove_by (name ∷ []) = if_named (name_of name) (Ok (WholeEdit (Remove name)))
 remove_by words = Err faults.BadCommand
 
 -- by the command's word, then by how many words follow, then these from left to right
@@ -95,17 +95,17 @@ pub data Command : Type 0 where
   OpensGroup : Command
 
 abbrev pub get_by : List (List ℕ) → Result Command ScriptCode
-get_by (name ∷ []) = named (name_of name) (Ok (Whole (Get name)))
+get_by (name ∷ []) = if_named (name_of name) (Ok (Whole (Get name)))
 get_by words = Err faults.BadCommand
 
 abbrev pub names_by : List (List ℕ) → Result Command ScriptCode
 names_by [] = Ok (Whole Names)
 names_by words = Err faults.BadCommand
 
-abbrev pub build_by : List (List ℕ) → Result Command ScriptCode
-build_by (map ∷ []) = named (name_of map) (Ok (Whole (Build map None)))
-build_by (map ∷ val ∷ []) = named (name_of map) (named (name_of val) (Ok (Whole (Build map (Some val)))))
-build_by words = Err faults.BadCommand
+abbrev pub build_command : List (List ℕ) → Result Command ScriptCode
+build_command (map ∷ []) = if_named (name_of map) (Ok (Whole (Build map None)))
+build_command (map ∷ val ∷ []) = if_named (name_of map) (if_named (name_of val) (Ok (Whole (Build map (Some val)))))
+build_command words = Err faults.BadCommand
 
 abbrev pub group_by : List (List ℕ) → Result Command ScriptCode
 group_by [] = Ok OpensGroup
@@ -121,23 +121,23 @@ command_of [] = Err faults.BadCommand
 command_of (verb ∷ words) =
     if bytes_eq verb (codes "get") then get_by words
     else if bytes_eq verb (codes "names") then names_by words
-    else if bytes_eq verb (codes "build") then build_by words
+    else if bytes_eq verb (codes "build") then build_command words
     else if bytes_eq verb (codes "group") then group_by words
     else edit_alone (edit_of (verb ∷ words))
 
 -- Lines outside bodies and groups
 
 -- what a line asks, in its session
-pub record Asked : Type 0 where
+pub record AskedLine : Type 0 where
   pub session : ℕ
   pub command : Command
 
 -- How the lines outside bodies and groups are read, behind so many requests: a line that is passed over asks nothing.
 abbrev pub LineReading : Type 0
-LineReading = ℕ → List ℕ → Result (Option Asked) ScriptCode
+LineReading = ℕ → List ℕ → Result (Option AskedLine) ScriptCode
 
 -- the count is tried last: a command that is faulty by itself is not counted
-abbrev pub counted : ℕ → ℕ → Result Command ScriptCode → Result (Option Asked) ScriptCode
+abbrev pub counted : ℕ → ℕ → Result Command ScriptCode → Result (Option AskedLine) ScriptCode
 counted count session (Ok command) =
     if nat_le request_limit count then Err faults.TooManyRequests
     else Ok (Some (record { session = session; command = command }))
@@ -151,11 +151,11 @@ session_of (Some session) =
     else if nat_le session session_limit then Ok session
     else Err faults.TooManySessions
 
-abbrev pub asked_in : ℕ → Result ℕ ScriptCode → List (List ℕ) → Result (Option Asked) ScriptCode
+abbrev pub asked_in : ℕ → Result ℕ ScriptCode → List (List ℕ) → Result (Option AskedLine) ScriptCode
 asked_in count (Ok session) words = counted count session (command_of words)
 asked_in count (Err code) words = Err code
 
-abbrev pub asked_by : ℕ → List (List ℕ) → Result (Option Asked) ScriptCode
+abbrev pub asked_by : ℕ → List (List ℕ) → Result (Option AskedLine) ScriptCode
 asked_by count [] = Ok None
 asked_by count (session ∷ words) = asked_in count (session_of (number_of session)) words
 
@@ -186,23 +186,23 @@ pub record Step : Type 0 where
   pub request : Request
 
 -- a put, with the lines of its body so far
-pub record Opened : Type 0 where
+pub record OpenPut : Type 0 where
   pub opening : Opening
   pub body : List ℕ
 
 -- what has begun and has no end yet: a put; a group, with its edits so far; or a put of a group
 pub data Begun : Type 0 where
-  InPut : (session : ℕ) (put : Opened) → Begun
+  InPut : (session : ℕ) (put : OpenPut) → Begun
   InGroup : (session : ℕ) (edits : List Edit) → Begun
-  InGroupPut : (session : ℕ) (edits : List Edit) (put : Opened) → Begun
+  InGroupPut : (session : ℕ) (edits : List Edit) (put : OpenPut) → Begun
 
-abbrev pub open_body : Opening → Opened
+abbrev pub open_body : Opening → OpenPut
 open_body opening = record { opening = opening; body = [] }
 
-abbrev pub whole_edit : Opened → Edit
+abbrev pub whole_edit : OpenPut → Edit
 whole_edit put = with_body put.opening put.body
 
-abbrev pub with_line : Opened → List ℕ → Opened
+abbrev pub with_line : OpenPut → List ℕ → OpenPut
 with_line put line = record { opening = put.opening; body = put.body ++ line ++ line_feed ∷ [] }
 
 -- what a line leads to: the step that it ends, if it ends one, and what is begun behind it
@@ -247,7 +247,7 @@ turn_in session (Edits (OpensBody opening)) = goes_on (Some (InPut session (open
 turn_in session (Whole request) = ends session request
 turn_in session OpensGroup = goes_on (Some (InGroup session []))
 
-abbrev pub turn_outside : Result (Option Asked) ScriptCode → Result Turn ScriptCode
+abbrev pub turn_outside : Result (Option AskedLine) ScriptCode → Result Turn ScriptCode
 turn_outside (Ok None) = Ok (goes_on None)
 turn_outside (Ok (Some asked)) = Ok (turn_in asked.session asked.command)
 turn_outside (Err code) = Err code

@@ -169,7 +169,7 @@ fn read_names(words: &str) -> Result<Command, Stop<ScriptCode>>
 
 fn read_build(alloc: Global, words: &str) -> Result<Command, Stop<ScriptCode>>
     ensures command { GivesSeen command_spec.command_seen result
-        (script_spec.build_by (bytes_spec.spaced_words words.now)) }
+        (script_spec.build_command (bytes_spec.spaced_words words.now)) }
     ensures own { IfOk result command_spec.HasOwn }
 {
     let Some((map, rest)) = split_word(words) else {
@@ -187,7 +187,7 @@ fn read_build(alloc: Global, words: &str) -> Result<Command, Stop<ScriptCode>>
 // A build without a DITAVAL.
 fn read_build_of_all(alloc: Global, map: &str) -> Result<Command, Stop<ScriptCode>>
     ensures command { GivesSeen command_spec.command_seen result
-        (script_spec.build_by (map.now ∷ [])) }
+        (script_spec.build_command (map.now ∷ [])) }
     ensures own { IfOk result command_spec.HasOwn }
 {
     let map = read_name(alloc, map)?;
@@ -196,7 +196,7 @@ fn read_build_of_all(alloc: Global, map: &str) -> Result<Command, Stop<ScriptCod
 
 fn read_build_by_val(alloc: Global, map: &str, val: &str) -> Result<Command, Stop<ScriptCode>>
     ensures command { GivesSeen command_spec.command_seen result
-        (script_spec.build_by (map.now ∷ val.now ∷ [])) }
+        (script_spec.build_command (map.now ∷ val.now ∷ [])) }
     ensures own { IfOk result command_spec.HasOwn }
 {
     let map = read_name(alloc, map)?;

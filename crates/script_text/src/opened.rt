@@ -6,12 +6,12 @@ use std::alloc::{AllocError, Global};
 
 /// A put, with the lines of its body so far.
 #[derive(Drop)]
-pub struct Opened {
+pub struct OpenPut {
     opening: Opening,
     body: List<u8>,
 }
 
-impl Opened {
+impl OpenPut {
     ghost use Rattle.std.specs.Prelude.{◌≡◌, OnOk, IfOk};
     ghost use Rattle.dita_doc.specs.Seen as seen_spec;
     ghost use Rattle.script_text.specs.Command as command_spec;
@@ -24,7 +24,7 @@ impl Opened {
             ≡ script_spec.open_body (command_spec.opening_seen opening) }
     {
         let body = List::new(alloc);
-        Opened { opening, body }
+        OpenPut { opening, body }
     }
 
     /// Takes a line of the body.
@@ -42,7 +42,7 @@ impl Opened {
             ≡ script_spec.whole_edit (machine_spec.opened_seen self)) }
         ensures own { IfOk result seen_spec.IsOwnEdit }
     {
-        let Opened { opening, body } = self;
+        let OpenPut { opening, body } = self;
         opening.with_body(alloc, body)
     }
 }

@@ -35,9 +35,9 @@ pub trait LineReader {
 }
 
 /// The lines of a script: each begins with its session.
-pub struct SessionLines;
+pub struct ScriptLines;
 
-impl LineReader for SessionLines {
+impl LineReader for ScriptLines {
     ghost reads = { script_spec.script_line };
 
     fn read(

@@ -12,7 +12,7 @@ ghost use Rattle.script_text.specs.Script as script_spec;
 use crate::fault::{ScriptCode, ScriptFault};
 use crate::lines::split_line;
 use crate::machine::ScriptMachine;
-use crate::outside::SessionLines;
+use crate::outside::ScriptLines;
 use dita_doc::{List, Request, Stop};
 use std::alloc::Global;
 
@@ -37,7 +37,7 @@ pub fn read_lines(
         if is_too_long(is_cut, more) {
             return Err(fault_at(ScriptCode::TooLong, number));
         }
-        match machine.line(alloc, &SessionLines, steps.len(), line) {
+        match machine.line(alloc, &ScriptLines, steps.len(), line) {
             Ok(None) => {}
             Ok(Some(step)) => steps.push(step)?,
             Err(stop) => return Err(at_line(stop, number)),

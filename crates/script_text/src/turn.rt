@@ -9,7 +9,7 @@ ghost use Rattle.script_text.specs.Script as script_spec;
 use crate::command::{Command, EditCommand};
 use crate::fault::ScriptCode;
 use crate::group::{Group, read_edit_line};
-use crate::opened::Opened;
+use crate::opened::OpenPut;
 use crate::outside::LineReader;
 use dita_doc::{Request, Stop};
 use std::alloc::Global;
@@ -18,10 +18,10 @@ use std::alloc::Global;
 #[derive(Drop)]
 pub enum Begun {
     /// A put, in its session.
-    Put(u32, Opened),
+    Put(u32, OpenPut),
     Group(Group),
     /// A put that is an edit of a group.
-    GroupPut(Group, Opened),
+    GroupPut(Group, OpenPut),
 }
 
 /// What a line leads to.
@@ -118,7 +118,7 @@ fn turn_by(alloc: Global, session: u32, command: Command) -> Turn
     match command {
         Command::Edit(EditCommand::Whole(edit)) => Turn::ends(session, edit.into_request()),
         Command::Edit(EditCommand::Opens(opening)) => {
-            Turn::goes_on(Begun::Put(session, Opened::new(alloc, opening)))
+            Turn::goes_on(Begun::Put(session, OpenPut::new(alloc, opening)))
         }
         Command::Whole(request) => Turn::ends(session, request),
         Command::OpensGroup => Turn::goes_on(Begun::Group(Group::new(alloc, session))),
@@ -129,7 +129,7 @@ fn turn_by(alloc: Global, session: u32, command: Command) -> Turn
 fn turn_in_put(
     alloc: Global,
     session: u32,
-    mut put: Opened,
+    mut put: OpenPut,
     line: &str,
 ) -> Result<Turn, Stop<ScriptCode>>
     ensures turn { GivesSeen machine_spec.turn_seen result
@@ -163,7 +163,7 @@ fn turn_in_group(alloc: Global, group: Group, line: &str) -> Result<Turn, Stop<S
             Ok(Turn::goes_on(Begun::Group(group)))
         }
         EditCommand::Opens(opening) => {
-            let put = Opened::new(alloc, opening);
+            let put = OpenPut::new(alloc, opening);
             Ok(Turn::goes_on(Begun::GroupPut(group, put)))
         }
     }
@@ -173,7 +173,7 @@ fn turn_in_group(alloc: Global, group: Group, line: &str) -> Result<Turn, Stop<S
 fn turn_in_group_put(
     alloc: Global,
     group: Group,
-    mut put: Opened,
+    mut put: OpenPut,
     line: &str,
 ) -> Result<Turn, Stop<ScriptCode>>
     ensures turn { GivesSeen machine_spec.turn_seen result

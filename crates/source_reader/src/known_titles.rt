@@ -8,7 +8,7 @@ ghost use Rattle.readers.specs.Told as told_spec;
 
 use dita_doc::{Doc, DocKind, Name, NoMemory, Sources, Text};
 use doc_titles::{first_of, kind_of, title_of};
-use readers::{TitleTable, TopicAt};
+use readers::{TitleKey, TitleTable};
 use std::alloc::Global;
 use std::sync::Arc;
 
@@ -60,7 +60,7 @@ impl<'a> KnownTitles<'a> {
         ensures value { IfOk result (λ text.
             titles_spec.title_in (world_of self.old.sources.now) name.now topic.now ≡ text) }
     {
-        let at = TopicAt::new(name, topic)?;
+        let at = TitleKey::new(name, topic)?;
         if let Some(known) = self.table.find(&at) {
             return Ok(known.clone()?);
         }

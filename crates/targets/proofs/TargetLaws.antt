@@ -1,29 +1,19 @@
 -- The file of a value, and the key of a key reference: what stands before the first byte of a kind, and behind it.
-use Rattle.std.specs.Prelude.{◌≡◌, ◌+◌, ◌==◌, ℕ, suc, Bool, true, false, List, [], ◌∷◌, ◌++◌, Option, Some, length, take, drop}
+use Rattle.std.specs.Prelude.{◌≡◌, ◌+◌, ◌==◌, ℕ, suc, Bool, true, false, List, [], ◌∷◌, ◌++◌, Option, Some, length, drop}
 use Rattle.std.specs.List.{list_any, position_or_len, before_first, after_first}
 use Rattle.std.proofs.Common.{refl, sym, ap, ◌∙◌, arith}
 use Rattle.std.proofs.lemmas.Bool.{or_parts}
 use Rattle.std.proofs.lemmas.List.Folds.{list_any-append}
 use Rattle.dita_doc.specs.Bytes.{number_sign, slash, is_slash}
 use Rattle.dita_doc.specs.Cut.{Lacks, IsCutAt}
+use Rattle.dita_doc.proofs.CutLaws.{front_alone, take_one_more}
 use Rattle.href_text.specs.Joined.{joined}
 use Rattle.href_text.specs.Reference.{is_number_sign}
 use Rattle.map_spec.specs.Keys.{key_of, id_of_key, if_text}
 use Rattle.map_spec.specs.Target.{file_of, rest_of, file_named, if_read}
 
--- `take` and `drop` compute at `suc`, and not at `1 +`
-take_one_more : (n b : ℕ) (bytes : List ℕ) → take (1 + n) (b ∷ bytes) ≡ b ∷ take n bytes
-take_one_more n b bytes = let e : 1 + n ≡ suc n = omega arith in rw e refl
-
 drop_one_more : (n b : ℕ) (bytes : List ℕ) → drop (1 + n + 1) (b ∷ bytes) ≡ drop (n + 1) bytes
 drop_one_more n b bytes = let e : 1 + n + 1 ≡ suc (n + 1) = omega arith in rw e refl
-
--- a list without such a byte stands before it
-front_alone : (ends : ℕ → Bool) (value : List ℕ) → list_any ends value ≡ false → before_first ends value ≡ value
-front_alone ends [] e = refl
-front_alone ends (b ∷ value) e =
-    let parts = or_parts (ends b) (list_any ends value) e in
-    rw (parts.0, take_one_more (position_or_len ends value) b value, front_alone ends value parts.1) refl
 
 front_cut : (ends : ℕ → Bool) (front back : List ℕ) (byte : ℕ) → ends byte ≡ true → list_any ends front ≡ false
     → before_first ends (front ++ byte ∷ back) ≡ front

@@ -14,7 +14,7 @@ ghost use Rattle.readers.specs.declared.questions.Note.TheVariants as notes;
 
 use crate::found::{first_found, kind_found, title_found};
 use dita_doc::{Doc, DocKind, Name, NoMemory, Text};
-use readers::{Note, Questions, Reader, Since, TitleTable, Titles, TopicAt};
+use readers::{LogStart, Note, Questions, Reader, TitleKey, TitleTable, Titles};
 use std::alloc::Global;
 use std::marker::PhantomData;
 use std::sync::Arc;
@@ -25,7 +25,7 @@ use std::sync::Arc;
 /// `carried` says that what the reader below was told carries what the layer tells, and `grown`
 /// that it only grows from the start; so what holds of the layer's questions holds below.
 #[derive(Drop)]
-pub struct TitleLayer<'r, 'q, 't, R: Reader, S: Since> {
+pub struct TitleLayer<'r, 'q, 't, R: Reader, S: LogStart> {
     pub lower: &'r mut R,
     pub asked: &'q mut Questions,
     pub table: &'t mut TitleTable,
@@ -41,22 +41,22 @@ pub struct TitleLayer<'r, 'q, 't, R: Reader, S: Since> {
     pub ghost grown: { Grows S.told (R.told lower.now) },
 }
 
-impl<'r, 'q, 't, R: Reader, S: Since> TitleLayer<'r, 'q, 't, R, S> {
+impl<'r, 'q, 't, R: Reader, S: LogStart> TitleLayer<'r, 'q, 't, R, S> {
     // Puts the document as tried, and asks the reader below for it.
     fn ask(&mut self, alloc: Global, name: &Name) -> Result<Option<Arc<Doc>>, NoMemory>
         ensures same { self.new.lower.ghost_name ≡ self.old.lower.ghost_name }
         ensures same_table { self.new.table.ghost_name ≡ self.old.table.ghost_name }
         ensures stand { R.stand self.new.lower.now ≡ R.stand self.old.lower.now }
-        ensures ok { OnOk result (self.new.asked.now ≡ notes.Tried name.now ∷ self.old.asked.now) }
+        ensures ok { OnOk result (self.new.asked.now ≡ notes.Pending name.now ∷ self.old.asked.now) }
         ensures err { OnErr result ((self.new.asked.now ≡ self.old.asked.now)
-            ⊎ (self.new.asked.now ≡ notes.Tried name.now ∷ self.old.asked.now)) }
+            ⊎ (self.new.asked.now ≡ notes.Pending name.now ∷ self.old.asked.now)) }
         ensures below { IfOk result (λ found. R.told self.new.lower.now
             ≡ told_spec.document name.now (told_spec.tree_found found)
             ∷ R.told self.old.lower.now) }
         ensures origin { IfOk result (λ found. IfSome (told_spec.doc_of found)
             (λ doc. doc.origins ≡ name.now ∷ [])) }
     {
-        self.asked.begin(Note::Tried(name.clone()?))?;
+        self.asked.begin(Note::Pending(name.clone()?))?;
         self.lower.doc(alloc, name)
     }
 
@@ -66,16 +66,16 @@ impl<'r, 'q, 't, R: Reader, S: Since> TitleLayer<'r, 'q, 't, R, S> {
         alloc: Global,
         name: &Name,
         topic: &Text,
-        at: TopicAt,
+        at: TitleKey,
     ) -> Result<Text, NoMemory>
         requires name { at.name ≡ name.now }
         requires topic { at.topic ≡ topic.now }
         ensures same { self.new.lower.ghost_name ≡ self.old.lower.ghost_name }
         ensures same_table { self.new.table.ghost_name ≡ self.old.table.ghost_name }
         ensures stand { R.stand self.new.lower.now ≡ R.stand self.old.lower.now }
-        ensures ok { OnOk result (self.new.asked.now ≡ notes.Tried name.now ∷ self.old.asked.now) }
+        ensures ok { OnOk result (self.new.asked.now ≡ notes.Pending name.now ∷ self.old.asked.now) }
         ensures err { OnErr result ((self.new.asked.now ≡ self.old.asked.now)
-            ⊎ (self.new.asked.now ≡ notes.Tried name.now ∷ self.old.asked.now)) }
+            ⊎ (self.new.asked.now ≡ notes.Pending name.now ∷ self.old.asked.now)) }
         ensures known { IfOk result (λ text. Knows (R.told self.new.lower.now)
             (λ world. titles_spec.title_in world name.now topic.now ≡ text)) }
     {
@@ -87,7 +87,7 @@ impl<'r, 'q, 't, R: Reader, S: Since> TitleLayer<'r, 'q, 't, R, S> {
     }
 }
 
-impl<'r, 'q, 't, R: Reader, S: Since> Reader for TitleLayer<'r, 'q, 't, R, S> {
+impl<'r, 'q, 't, R: Reader, S: LogStart> Reader for TitleLayer<'r, 'q, 't, R, S> {
     ghost use Rattle.std.specs.Prelude.{◌∷◌};
     ghost use Rattle.readers.specs.Noted as noted_spec;
 
@@ -107,7 +107,7 @@ impl<'r, 'q, 't, R: Reader, S: Since> Reader for TitleLayer<'r, 'q, 't, R, S> {
     }
 }
 
-impl<'r, 'q, 't, R: Reader, S: Since> Titles for TitleLayer<'r, 'q, 't, R, S> {
+impl<'r, 'q, 't, R: Reader, S: LogStart> Titles for TitleLayer<'r, 'q, 't, R, S> {
     fn kind(&mut self, alloc: Global, name: &Name) -> Result<DocKind, NoMemory> {
         let found = self.ask(alloc, name)?;
         let kind = kind_found(&found);
@@ -117,7 +117,7 @@ impl<'r, 'q, 't, R: Reader, S: Since> Titles for TitleLayer<'r, 'q, 't, R, S> {
     }
 
     fn title(&mut self, alloc: Global, name: &Name, topic: &Text) -> Result<Text, NoMemory> {
-        let at = TopicAt::new(name, topic)?;
+        let at = TitleKey::new(name, topic)?;
         if let Some(text) = known_title(self.table, &at)? {
             let (note, text) = noted(name, topic, text)?;
             return tell(self.asked, note, text);
@@ -138,7 +138,7 @@ impl<'r, 'q, 't, R: Reader, S: Since> Titles for TitleLayer<'r, 'q, 't, R, S> {
 }
 
 // A copy of the title of a topic, if it is known.
-fn known_title(table: &TitleTable, at: &TopicAt) -> Result<Option<Text>, NoMemory>
+fn known_title(table: &TitleTable, at: &TitleKey) -> Result<Option<Text>, NoMemory>
     ensures { (world : World) → AreTitles world table.now → IfOk result (λ found.
         IfSome found (λ text. titles_spec.title_in world at.now.name at.now.topic ≡ text)) }
 {

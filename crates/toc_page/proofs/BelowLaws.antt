@@ -4,6 +4,7 @@ use Rattle.std.specs.List.{flat_map}
 use Rattle.std.proofs.Common.{refl, sym, ap, ◌∙◌, arith, append_assoc, append-nil, length-append}
 use Rattle.std.proofs.Math.Logic.{◌⊎◌, inl, inr, ⊎_elim}
 use Rattle.std.proofs.lemmas.Bool.Decides.{nat_tests}
+use Rattle.dita_doc.proofs.Tests.{nothing_more, place_next}
 use Rattle.map_spec.specs.MapTree.{MapTree, MapNode, NoNodes, Head, count}
 use Rattle.toc_page.proofs.TreeTexts.{Shape, shapes, tree_text}
 
@@ -18,18 +19,12 @@ abbrev pub tops : ℕ → MapTree → List ℕ
 tops place NoNodes = []
 tops place (MapNode head below more) = place ∷ tops (place + 1 + count below) more
 
-further : (at n : ℕ) → at + suc n ≡ at + 1 + n
-further at n = omega arith
-
-nothing_more : (at : ℕ) → at + 0 ≡ at
-nothing_more at = omega arith
-
 kids_both : (parent at : ℕ) (nodes more : List Shape)
     → kids parent at (nodes ++ more) ≡ kids parent at nodes ++ kids parent (at + length nodes) more
 kids_both parent at [] more = ap (λ n. kids parent n more) (sym (nothing_more at))
 kids_both parent at (shape ∷ nodes) more =
     by_test (kids_both parent (at + 1) nodes more
-    ∙ ap (λ n. kids parent (at + 1) nodes ++ kids parent n more) (sym (further at (length nodes))))
+    ∙ ap (λ n. kids parent (at + 1) nodes ++ kids parent n more) (sym (place_next at (length nodes))))
     (not (at == 0) && (shape.0 == parent))
   where
     by_test : kids parent (at + 1) (nodes ++ more) ≡ kids parent (at + 1) nodes ++ kids parent (at + suc (length nodes)) more

@@ -6,15 +6,15 @@ use Rattle.std.proofs.Common.{refl, sym, ap, subst, ◌∙◌, append_assoc, app
 use Rattle.std.proofs.lemmas.Grind.{flat_map-append}
 use Rattle.std.proofs.lemmas.List.{take_more}
 use Rattle.std.proofs.lemmas.List.Elements.{All-append, All-cons, All-nil}
-use Rattle.dita_doc.specs.Tree as tree
 use Rattle.dita_doc.specs.Tree.{Content}
 use Rattle.dita_doc.specs.declared.content.PushKind.{PushKind}
 use Rattle.dita_doc.specs.declared.fault.Fault.{Fault}
 use Rattle.map_spec.specs.Elements.{attribute}
-use Rattle.map_spec.specs.Written.{Element, document, size, written_in}
-use Rattle.map_spec.specs.Places.{Standing, TopicAt, all_standing, standing_from}
+use Rattle.map_spec.specs.Written.{document, written_in}
+use Rattle.map_spec.specs.Places.{Standing, all_standing}
 use Rattle.map_spec.specs.Pushes.{AllPushes, PushTarget, Pushing, all_pushes, is_replaced_by, no_pushes, push_fault, push_kind, push_of, pushes_behind, pushing_at, pushing_in, pushing_of, stands_in, twice_fault, with_pushing}
 use Rattle.reader_spec.specs.World.{World}
+use Rattle.map_lemmas.proofs.PlacedLaws.{InDocument, standing_of}
 use Rattle.toc_page.specs.Made.{AreOnce, faults_in}
 use Rattle.toc_page.proofs.GroupedLaws.{IsGroup, Once, each_once_is, grouped, put_out}
 
@@ -57,25 +57,6 @@ fault_named name all pushing (Some target) of = by_test (list_any (is_replaced_b
 
 -- The pushing elements of a document stand in it
 
-abbrev AreOf : List ℕ → List Standing → Type 0
-AreOf name [] = Unit {0}
-AreOf name (standing ∷ more) = (standing.whole.0.doc ≡ name) × AreOf name more
-
-of_both : (name : List ℕ) (some more : List Standing) → AreOf name some → AreOf name more → AreOf name (some ++ more)
-of_both name [] more here there = there
-of_both name (standing ∷ some) more here there = (here.0, of_both name some more here.1 there)
-
-standing_of : (name : List ℕ) (all : Content) (place : ℕ) (topic : Option TopicAt) (before : Option Element)
-    → AreOf name (standing_from place topic before (written_in name all))
-standing_of name tree.End place topic before = tt
-standing_of name (tree.Chars text origin line rest) place topic before =
-    standing_of name rest (place + 1) topic before
-standing_of name (tree.Element text attributes origin line inside rest) place topic before = (
-  refl,
-  of_both name _ _ (standing_of name inside (place + 1) _ None)
-      (standing_of name rest (place + 1 + size (written_in name inside)) topic _),
-)
-
 abbrev ArePushing : List ℕ → List Pushing → Type 0
 ArePushing name [] = Unit {0}
 ArePushing name (pushing ∷ more) = (pushing.standing.whole.0.doc ≡ name) × ArePushing name more
@@ -90,7 +71,7 @@ module _ (world : World) where
   pushing_one name standing None rest here there = there
   pushing_one name standing (Some kind) rest here there = (here, there)
 
-  pushing_all : (name : List ℕ) (standings : List Standing) → AreOf name standings
+  pushing_all : (name : List ℕ) (standings : List Standing) → InDocument name standings
       → ArePushing name (filter_map (pushing_at world) standings)
   pushing_all name [] of = tt
   pushing_all name (standing ∷ more) of =

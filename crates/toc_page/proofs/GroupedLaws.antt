@@ -4,7 +4,7 @@ use Rattle.std.specs.List.{All, flat_map}
 use Rattle.std.proofs.Common.{refl, sym, ap, ◌∙◌, append_assoc, append-nil}
 use Rattle.std.proofs.lemmas.Bool.{false≢true}
 use Rattle.std.proofs.lemmas.List.Elements.{All-cons, All-filter, All-head, All-nil, All-tail, filter-append, filter_passes}
-use Rattle.std.proofs.lemmas.Slice.Eq.{bytes_eq-Decides}
+use Rattle.dita_doc.proofs.Tests.{equal_text, other_text}
 use Rattle.map_spec.specs.Branches.{each_once}
 
 -- Names that stand once
@@ -21,18 +21,8 @@ once_filter p (name ∷ names) once = by_test (p name) (once_filter p names once
     by_test true behind = (All-filter p (λ other. name ≢ other) names once.0, behind)
     by_test false behind = behind
 
-same_texts : (name other : List ℕ) → name ≡ other → bytes_eq name other ≡ true
-same_texts name other is = (bytes_eq-Decides name other).1 is
-
-other_texts : (name other : List ℕ) → name ≢ other → bytes_eq name other ≡ false
-other_texts name other is = by_test (bytes_eq name other) refl
-  where
-    by_test : (b : Bool) → bytes_eq name other ≡ b → b ≡ false
-    by_test true e = absurd (is ((bytes_eq-Decides name other).0 e))
-    by_test false e = refl
-
 not_itself : (name other : List ℕ) → not (bytes_eq name other) ≡ true → name ≢ other
-not_itself name other passes is = absurd (false≢true (ap not (sym (same_texts name other is)) ∙ passes))
+not_itself name other passes is = absurd (false≢true (ap not (sym (equal_text name other is)) ∙ passes))
 
 all_others : (name : List ℕ) (names : List (List ℕ)) → All (λ other. not (bytes_eq name other) ≡ true) names
     → All (λ other. name ≢ other) names
@@ -64,14 +54,14 @@ module _ (F : Type 0) (name_of : F → List ℕ) where
   own_named name [] are = refl
   own_named name (one ∷ all) are =
       ap (λ b. if b then one ∷ filter (named name) all else filter (named name) all)
-      (same_texts (name_of one) name (All-head (λ one. name_of one ≡ name) one all are))
+      (equal_text (name_of one) name (All-head (λ one. name_of one ≡ name) one all are))
       ∙ ap (λ l. one ∷ l) (own_named name all (All-tail (λ one. name_of one ≡ name) one all are))
 
   none_named : (name : List ℕ) (all : List F) → All (λ one. name_of one ≢ name) all → filter (named name) all ≡ []
   none_named name [] are = refl
   none_named name (one ∷ all) are =
       ap (λ b. if b then one ∷ filter (named name) all else filter (named name) all)
-      (other_texts (name_of one) name (All-head (λ one. name_of one ≢ name) one all are))
+      (other_text (name_of one) name (All-head (λ one. name_of one ≢ name) one all are))
       ∙ none_named name all (All-tail (λ one. name_of one ≢ name) one all are)
 
   all_apart : (name other : List ℕ) → name ≢ other → (all : List F) → All (λ one. name_of one ≡ name) all

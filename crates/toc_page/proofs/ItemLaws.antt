@@ -8,10 +8,11 @@ use Rattle.std.proofs.lemmas.Option.{same_Some}
 use Rattle.dita_doc.specs.HtmlEscapes.{escaped}
 use Rattle.dita_doc.specs.declared.plan.Plan.{Plan}
 use Rattle.dita_doc.specs.declared.plan.PlanNode.{PlanNode}
+use Rattle.dita_doc.proofs.Lists.{some_at}
 use Rattle.map_spec.specs.MapTree.{MapTree, MapNode, NoNodes, Head, count, plan_nodes}
 use Rattle.map_spec.specs.Scopes.{places, places_from}
 use Rattle.html_spec.specs.Contents.{data_text, href_by, is_item, items, items_from, label_of, linked, list_text, node_items}
-use Rattle.link_spec.specs.Links.{is_child, target_of}
+use Rattle.link_spec.specs.Links.{is_child, plan_target}
 use Rattle.plan_nodes.specs.Preorder.{HasOneRoot, IsTree, shape}
 use Rattle.reader_spec.specs.World.{World}
 use Rattle.toc_page.specs.Opened.{Page, Stack, before_item, ends_all, opened, stack_of}
@@ -26,11 +27,6 @@ use Rattle.toc_page.proofs.WalkLaws.{items_text, less, walked, walks}
 get_seam : (before after : List PlanNode) (node : PlanNode) → slice_get (before ++ node ∷ after) (length before) ≡ Some node
 get_seam [] after node = refl
 get_seam (first ∷ before) after node = get_seam before after node
-
-get_there : (nodes : List PlanNode) (at : ℕ) → at < length nodes → (node : PlanNode) × (slice_get nodes at ≡ Some node)
-get_there [] at within = absurd (omega (arith, within))
-get_there (node ∷ nodes) zero within = (node, refl)
-get_there (node ∷ nodes) (suc at) within = get_there nodes at (omega (arith, within))
 
 -- The children of a node
 
@@ -76,7 +72,7 @@ module _ (world : World) (plan : Plan) where
 
   abbrev start_of : ℕ → PlanNode → List ℕ
   start_of at node = codes "li" ++ flat_map data_text node.cascaded ++ codes ">"
-      ++ linked (href_by plan at (target_of plan at)) (escaped (label_of world plan at node))
+      ++ linked (href_by plan at (plan_target plan at)) (escaped (label_of world plan at node))
 
   abbrev start_at : ℕ → List ℕ
   start_at at = option_map_or (start_of at) (slice_get plan.nodes at) []
@@ -91,7 +87,7 @@ module _ (world : World) (plan : Plan) where
   front_is at node = refl
 
   same_text : (at : ℕ) (below : List ℕ) → at < length plan.nodes → defined_text at below ≡ walked_text at below
-  same_text at below within = by_node (get_there plan.nodes at within)
+  same_text at below within = by_node (some_at plan.nodes at within)
     where
       by_node : (node : PlanNode) × (slice_get plan.nodes at ≡ Some node) → defined_text at below ≡ walked_text at below
       by_node found =
@@ -183,7 +179,7 @@ module _ (world : World) (plan : Plan) where
       → IsStep world plan at old new before after
       → before ++ walk at (drop at (map shape plan.nodes)) (stack_of old)
       ≡ after ++ walk (at + 1) (drop (at + 1) (map shape plan.nodes)) (stack_of new)
-  walk_node at old new before after within step = by_node (get_there plan.nodes at within)
+  walk_node at old new before after within step = by_node (some_at plan.nodes at within)
     where
       by_node : (node : PlanNode) × (slice_get plan.nodes at ≡ Some node)
           → before ++ walk at (drop at (map shape plan.nodes)) (stack_of old)

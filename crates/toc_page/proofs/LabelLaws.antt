@@ -14,18 +14,19 @@ use Rattle.map_spec.specs.Elements.{is_value}
 use Rattle.map_spec.specs.Pages.{local_name, page_for}
 use Rattle.map_spec.specs.Written.{Whole}
 use Rattle.html_spec.specs.Contents.{href_by, is_local, is_locked, is_text, label_by_target, label_of, navtitle_of}
-use Rattle.link_spec.specs.Links.{context_of, page_of_node, target_of}
+use Rattle.link_spec.specs.Links.{context_of, page_of_node, plan_target}
 use Rattle.plan_nodes.specs.Home.{value_at}
 use Rattle.reader_spec.specs.World.{World}
+use Rattle.plan_nodes.proofs.HomeLaws.{value_same}
 use Rattle.toc_page.specs.Toc.{AreKeys, href_to, is_file, navtitle_counts, needs_keys, needs_keys_in, page_name}
-use Rattle.toc_page.proofs.TextLaws.{value_known, value_same}
+use Rattle.toc_page.proofs.TextLaws.{value_known}
 
 -- the target at a place
 pub target_is : (plan : Plan) (at : ℕ) (target : Target) → Some target ≡ slice_get plan.targets at
-    → target_of plan at ≡ target
+    → plan_target plan at ≡ target
 target_is plan at target there = ap (λ found. unwrap_or found targets.Nothing) (sym there)
 
-pub no_target : (plan : Plan) (at : ℕ) → None ≡ slice_get plan.targets at → target_of plan at ≡ targets.Nothing
+pub no_target : (plan : Plan) (at : ℕ) → None ≡ slice_get plan.targets at → plan_target plan at ≡ targets.Nothing
 no_target plan at there = ap (λ found. unwrap_or found targets.Nothing) (sym there)
 
 -- Keys
@@ -55,7 +56,7 @@ needs_never plan homes end before past at = ⊎_elim (λ less. before at less)
 
 pub needs_same : (world : World) (plan : Plan) (homes : List (Option Whole)) (at : ℕ)
     → homes ≡ map (whole_at world) plan.nodes → needs_keys_in plan homes at ≡ needs_keys world plan at
-needs_same world plan homes at same = ap (λ value. is_file (target_of plan at) && is_some value)
+needs_same world plan homes at same = ap (λ value. is_file (plan_target plan at) && is_some value)
     (value_known world homes plan.nodes at (codes "keyref") same)
 
 pub no_keys : (world : World) (plan : Plan) (homes : List (Option Whole)) → homes ≡ map (whole_at world) plan.nodes
@@ -70,24 +71,24 @@ module _ (world : World) (plan : Plan) (at : ℕ) (node : PlanNode) (homes : Lis
     (counts : Bool) (same : homes ≡ map (whole_at world) plan.nodes) (there : slice_get plan.nodes at ≡ Some node)
     (title : navtitle ≡ navtitle_of world node) (is : counts ≡ navtitle_counts plan homes at navtitle) where
   abbrev label_if : Bool → List ℕ
-  label_if b = if b then navtitle_of world node else label_by_target world plan node (target_of plan at)
+  label_if b = if b then navtitle_of world node else label_by_target world plan node (plan_target plan at)
 
-  counts_same : counts ≡ (is_text (navtitle_of world node) && (is_locked world node || not (is_local (target_of plan at))))
+  counts_same : counts ≡ (is_text (navtitle_of world node) && (is_locked world node || not (is_local (plan_target plan at))))
   counts_same =
       is
       ∙ ap (λ text. navtitle_counts plan homes at text) title
-      ∙ ap (λ value. is_text (navtitle_of world node) && (is_value (codes "yes") value || not (is_local (target_of plan at))))
+      ∙ ap (λ value. is_text (navtitle_of world node) && (is_value (codes "yes") value || not (is_local (plan_target plan at))))
       (value_same world homes plan.nodes at node (codes "locktitle") same there)
 
   pub label_own : counts ≡ true → navtitle ≡ label_of world plan at node
   label_own holds = title ∙ ap label_if (sym holds ∙ counts_same)
 
-  pub label_other : counts ≡ false → label_by_target world plan node (target_of plan at) ≡ label_of world plan at node
+  pub label_other : counts ≡ false → label_by_target world plan node (plan_target plan at) ≡ label_of world plan at node
   label_other fails = ap label_if (sym fails ∙ counts_same)
 
 -- Links
 
-page_here : (plan : Plan) (at : ℕ) (name : List ℕ) (node : PlanNode) → local_name (target_of plan at) ≡ Some name
+page_here : (plan : Plan) (at : ℕ) (name : List ℕ) (node : PlanNode) → local_name (plan_target plan at) ≡ Some name
     → slice_get plan.nodes at ≡ Some node → page_of_node plan at ≡ page_for plan.pages name (context_of node name)
 page_here plan at name node named there =
     ap (option_and_then (λ n. option_and_then (λ (found : PlanNode). page_for plan.pages n (context_of found n))
@@ -95,7 +96,7 @@ page_here plan at name node named there =
     ∙ ap (option_and_then (λ (found : PlanNode). page_for plan.pages name (context_of found name))) there
 
 href_there : (pages : List PagePlan) (plan : Plan) (at : ℕ) (node : PlanNode) (target : Target) → pages ≡ plan.pages
-    → slice_get plan.nodes at ≡ Some node → target_of plan at ≡ target
+    → slice_get plan.nodes at ≡ Some node → plan_target plan at ≡ target
     → href_to pages plan node target ≡ href_by plan at target
 href_there pages plan at node targets.Nothing same there is = refl
 href_there pages plan at node (targets.File name rest) same there is = refl
@@ -106,7 +107,7 @@ href_there pages plan at node (targets.Local name reference) same there is =
 
 pub href_is : (pages : List PagePlan) (plan : Plan) (at : ℕ) (node : PlanNode) (target : Target) → pages ≡ plan.pages
     → slice_get plan.nodes at ≡ Some node → Some target ≡ slice_get plan.targets at
-    → href_to pages plan node target ≡ href_by plan at (target_of plan at)
+    → href_to pages plan node target ≡ href_by plan at (plan_target plan at)
 href_is pages plan at node target same there found =
     let is = target_is plan at target found in
     href_there pages plan at node target same there is ∙ ap (href_by plan at) (sym is)

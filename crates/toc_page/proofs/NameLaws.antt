@@ -1,5 +1,5 @@
 -- The documents that the contents page of a plan is about.
-use Rattle.std.specs.Prelude.{◌≡◌, ℕ, zero, suc, List, [], ◌∷◌, Option, Some, None, IsTrue, slice_get, unwrap_or}
+use Rattle.std.specs.Prelude.{◌≡◌, ℕ, List, [], ◌∷◌, Option, Some, None, slice_get, unwrap_or}
 use Rattle.std.specs.List.{filter_map}
 use Rattle.std.specs.Option.{option_to_list}
 use Rattle.std.proofs.Common.{refl, sym, ap, subst, ◌∙◌}
@@ -9,38 +9,23 @@ use Rattle.dita_doc.specs.declared.plan.PlanNode.{PlanNode}
 use Rattle.dita_doc.specs.declared.plan.Target.{Target}
 use Rattle.dita_doc.specs.declared.plan.Target.TheVariants as targets
 use Rattle.map_spec.specs.Pages.{local_name}
-use Rattle.link_spec.specs.Links.{target_of}
-use Rattle.readers.specs.Founded.{StaysFounded, homes, is_among}
+use Rattle.link_spec.specs.Links.{plan_target}
+use Rattle.readers.specs.Founded.{StaysFounded, homes}
 use Rattle.readers.specs.Told.{Told}
-use Rattle.readers.proofs.AmongLaws.{among_back, among_front}
-use Rattle.readers.proofs.FoundedLaws.{among_behind, among_first, stays_among, stays_one}
+use Rattle.readers.proofs.AmongLaws.{among_back, among_front, among_targets}
+use Rattle.readers.proofs.FoundedLaws.{stays_among, stays_one}
 use Rattle.toc_page.specs.Made.{contents_names}
-
--- the documents to which nodes lead
-among_targets : (all : List Target) (at : ℕ) (name : List ℕ)
-    → local_name (unwrap_or (slice_get all at) targets.Nothing) ≡ Some name
-    → IsTrue (is_among (filter_map local_name all) name)
-among_targets [] zero name named = cc
-among_targets [] (suc at) name named = cc
-among_targets (target ∷ more) zero name named = rw named (among_first name (filter_map local_name more))
-among_targets (target ∷ more) (suc at) name named =
-    by_name (among_targets more at name named) (local_name target) refl
-  where
-    by_name : IsTrue (is_among (filter_map local_name more) name) → (other : Option (List ℕ)) → local_name target ≡ other
-        → IsTrue (is_among (filter_map local_name (target ∷ more)) name)
-    by_name behind None e = rw e behind
-    by_name behind (Some other) e = rw e (among_behind other (filter_map local_name more) name behind)
 
 -- a call about the document to which a node leads
 pub target_stays : (plan : Plan) (at : ℕ) (name : List ℕ) (old new : List Told)
-    → local_name (target_of plan at) ≡ Some name → StaysFounded (name ∷ []) old new
+    → local_name (plan_target plan at) ≡ Some name → StaysFounded (name ∷ []) old new
     → StaysFounded (contents_names plan) old new
 target_stays plan at name old new named = stays_one name (contents_names plan) old new
     (among_back (homes plan.nodes) _ name
     (among_front (filter_map local_name plan.targets) plan.documents name (among_targets plan.targets at name named)))
 
 target_named : (plan : Plan) (at : ℕ) (target : Target) (name : Option (List ℕ)) (old new : List Told)
-    → target_of plan at ≡ target → local_name target ≡ name → StaysFounded (option_to_list name) old new
+    → plan_target plan at ≡ target → local_name target ≡ name → StaysFounded (option_to_list name) old new
     → StaysFounded (contents_names plan) old new
 target_named plan at target None old new same is =
     stays_among [] (contents_names plan) old new (λ m here. absurd (false≢true here))

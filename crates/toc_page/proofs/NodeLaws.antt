@@ -1,19 +1,16 @@
 -- What one node writes, and what is known of it.
 use Rattle.std.specs.Prelude.{◌≡◌, ◌&&◌, ◌++◌, ℕ, Bool, true, false, List, [], Some, None, slice_get}
 use Rattle.std.specs.Option.{option_map_or}
-use Rattle.std.proofs.Common.{refl, sym, ap, ◌∙◌, append_assoc, append-nil}
+use Rattle.std.proofs.Common.{sym, ap, ◌∙◌, append_assoc, append-nil}
 use Rattle.dita_doc.specs.declared.plan.Plan.{Plan}
 use Rattle.dita_doc.specs.declared.plan.PlanNode.{PlanNode}
+use Rattle.dita_doc.proofs.Tests.{and_false}
 use Rattle.map_spec.specs.Cascade.{is_in_table, walk}
 use Rattle.html_spec.specs.Contents.{is_item, navtitle_of}
 use Rattle.reader_spec.specs.World.{World}
 use Rattle.toc_page.specs.Opened.{before_item, opened, stack_of}
 use Rattle.toc_page.specs.Toc.{IsStep, end_at, front_at, is_item_at, is_told, item_front, may_be_item, open_at, text_at}
 use Rattle.toc_page.specs.declared.list.OpenItems.{OpenItems}
-
-and_no : (b : Bool) → (b && false) ≡ false
-and_no true = refl
-and_no false = refl
 
 -- a node that is no item writes nothing
 nothing_written : (world : World) (plan : Plan) (at : ℕ) (items : OpenItems) (out : List ℕ)
@@ -47,7 +44,7 @@ module _ (world : World) (plan : Plan) (at : ℕ) (node : PlanNode) (there : sli
       nothing_written world plan at items out (item_here
       ∙ ap (λ title. may_be_item (is_in_table (walk plan.nodes at)) node && is_told plan at title) (sym same)
       ∙ ap (λ b. may_be_item (is_in_table (walk plan.nodes at)) node && b) (sym is ∙ fails)
-      ∙ and_no (may_be_item (is_in_table (walk plan.nodes at)) node))
+      ∙ and_false (may_be_item (is_in_table (walk plan.nodes at)) node))
 
   pub is_an_item : (navtitle : List ℕ) (inside test told : Bool) → inside ≡ is_in_table (walk plan.nodes at)
       → test ≡ may_be_item inside node → test ≡ true → navtitle ≡ navtitle_of world node

@@ -1,7 +1,7 @@
 -- The items that are open, one more or one less.
-use Rattle.std.specs.Prelude.{◌≡◌, ◌<◌, ◌≤◌, ℕ, Bool, true, false, List, [], ◌∷◌, ◌++◌, nat_lt, if◌then◌else◌}
-use Rattle.std.proofs.Common.{refl, sym, ap, ◌∙◌, arith, append_assoc}
-use Rattle.std.proofs.lemmas.Bool.Decides.{nat_tests}
+use Rattle.std.specs.Prelude.{◌≡◌, ◌<◌, ◌≤◌, ℕ, Bool, List, [], ◌∷◌, ◌++◌, if◌then◌else◌}
+use Rattle.std.proofs.Common.{refl, sym, ap, ◌∙◌, append_assoc}
+use Rattle.std.proofs.lemmas.Bool.{le-ltb, lt-ltb}
 use Rattle.toc_page.specs.Opened.{Stack, Page, Within, around_place, ends_all, ends_before, item_end, stack_on}
 use Rattle.toc_page.specs.declared.list.OpenItem.{OpenItem}
 
@@ -19,12 +19,6 @@ ended_one out text item items begun is =
     ∙ sym (append_assoc out (item_end item) (ends_all (stack_on items (Page begun))))
     ∙ ap (λ l. l ++ ends_all (stack_on items (Page begun))) (sym is)
 
-is_less : (n k : ℕ) → n < k → nat_lt n k ≡ true
-is_less n k less = grind (arith, nat_tests)
-
-not_less : (n k : ℕ) → k ≤ n → nat_lt n k ≡ false
-not_less n k less = grind (arith, nat_tests)
-
 -- those before a place end
 pub passed_text : (place : ℕ) (out text : List ℕ) (item : OpenItem) (items : List OpenItem) (begun : Bool)
     → item.end ≤ place → text ≡ out ++ item_end item
@@ -33,7 +27,7 @@ pub passed_text : (place : ℕ) (out text : List ℕ) (item : OpenItem) (items :
 passed_text place out text item items begun past is =
     let rest = stack_on items (Page begun) in
     ap (λ stack. out ++ ends_before place stack) (stack_more items item (Page begun))
-    ∙ ap (λ b. out ++ (if b then [] else item_end item ++ ends_before place rest)) (not_less place item.end past)
+    ∙ ap (λ b. out ++ (if b then [] else item_end item ++ ends_before place rest)) (le-ltb place item.end past)
     ∙ sym (append_assoc out (item_end item) (ends_before place rest))
     ∙ ap (λ l. l ++ ends_before place rest) (sym is)
 
@@ -42,7 +36,7 @@ pub passed_open : (place : ℕ) (item : OpenItem) (items : List OpenItem) (begun
 passed_open place item items begun past =
     let rest = stack_on items (Page begun) in
     ap (around_place place) (stack_more items item (Page begun))
-    ∙ ap (λ b. if b then Within item rest else around_place place rest) (not_less place item.end past)
+    ∙ ap (λ b. if b then Within item rest else around_place place rest) (le-ltb place item.end past)
 
 -- one around a place stays, and so do those around it
 pub kept_text : (place : ℕ) (item : OpenItem) (items : List OpenItem) (begun : Bool) → place < item.end
@@ -50,12 +44,12 @@ pub kept_text : (place : ℕ) (item : OpenItem) (items : List OpenItem) (begun :
 kept_text place item items begun within =
     let rest = stack_on items (Page begun) in
     ap (ends_before place) (stack_more items item (Page begun))
-    ∙ ap (λ b. if b then [] else item_end item ++ ends_before place rest) (is_less place item.end within)
+    ∙ ap (λ b. if b then [] else item_end item ++ ends_before place rest) (lt-ltb place item.end within)
 
 pub kept_open : (place : ℕ) (item : OpenItem) (items : List OpenItem) (begun : Bool) → place < item.end
     → around_place place (stack_on (items ++ item ∷ []) (Page begun)) ≡ stack_on (items ++ item ∷ []) (Page begun)
 kept_open place item items begun within =
     let rest = stack_on items (Page begun) in
     ap (around_place place) (stack_more items item (Page begun))
-    ∙ ap (λ b. if b then Within item rest else around_place place rest) (is_less place item.end within)
+    ∙ ap (λ b. if b then Within item rest else around_place place rest) (lt-ltb place item.end within)
     ∙ sym (stack_more items item (Page begun))

@@ -8,13 +8,13 @@ use Rattle.dita_doc.specs.declared.plan.Plan.{Plan}
 use Rattle.dita_doc.specs.declared.plan.PlanNode.{PlanNode}
 use Rattle.map_spec.specs.Cascade.{attribute_at, is_in_table, walk}
 use Rattle.map_spec.specs.Cascade as cascade
-use Rattle.map_spec.specs.Elements.{attribute}
 use Rattle.map_spec.specs.Scopes.{places}
 use Rattle.map_spec.specs.Titles.{first_text}
 use Rattle.map_spec.specs.Written.{Whole}
 use Rattle.html_spec.specs.Contents.{contents_title}
 use Rattle.plan_nodes.specs.Home.{value_at, whole_at}
 use Rattle.plan_nodes.specs.Preorder.{is_in_table_at, tables_around}
+use Rattle.plan_nodes.proofs.HomeLaws.{value_by}
 use Rattle.plan_nodes.proofs.PlaceLaws.{known_at}
 use Rattle.reader_spec.specs.World.{World}
 use Rattle.toc_page.specs.Toc.{title_in}
@@ -28,19 +28,6 @@ whole_same world homes nodes at node same there =
     ap (λ all. whole_at all at) same
     ∙ ap (option_and_then (λ (whole : Option Whole). whole))
     (slice_get-map (cascade.whole_at world) nodes at ∙ ap (option_map (cascade.whole_at world)) there)
-
-pub value_same : (world : World) (homes : List (Option Whole)) (nodes : List PlanNode) (at : ℕ) (node : PlanNode)
-    (name : List ℕ) → homes ≡ map (cascade.whole_at world) nodes → slice_get nodes at ≡ Some node
-    → value_at homes at name ≡ attribute_at world name node
-value_same world homes nodes at node name same there =
-    ap (option_and_then (λ (whole : Whole). attribute name whole.0)) (whole_same world homes nodes at node same there)
-
-value_by : (world : World) (name : List ℕ) (node : Option PlanNode)
-    → option_and_then (λ (whole : Whole). attribute name whole.0)
-    (option_and_then (λ (whole : Option Whole). whole) (option_map (cascade.whole_at world) node))
-    ≡ option_and_then (attribute_at world name) node
-value_by world name None = refl
-value_by world name (Some node) = refl
 
 -- the same at each place
 pub value_known : (world : World) (homes : List (Option Whole)) (nodes : List PlanNode) (at : ℕ) (name : List ℕ)

@@ -1,7 +1,7 @@
 -- The walk over nodes in preorder, with the items that are open on a stack, writes the lists of the tree.
 use Rattle.std.specs.Prelude.{◌≡◌, ◌+◌, ◌<◌, ◌≤◌, ℕ, Bool, true, false, List, [], ◌∷◌, ◌++◌, codes, nat_lt, if◌then◌else◌}
 use Rattle.std.proofs.Common.{refl, sym, ap, ◌∙◌, arith, append_assoc, append-nil}
-use Rattle.std.proofs.lemmas.Bool.Decides.{nat_tests}
+use Rattle.std.proofs.lemmas.Bool.{le-ltb, lt-ltb}
 use Rattle.map_spec.specs.MapTree.{MapTree, MapNode, NoNodes, Head, count}
 use Rattle.html_spec.specs.Contents.{list_text}
 use Rattle.toc_page.specs.declared.list.OpenItem.{OpenItem}
@@ -46,23 +46,17 @@ stays_with_if : (items : List ℕ) (place : ℕ) (stack : Stack) → StaysTo pla
 stays_with_if [] place stack stays = stays
 stays_with_if (b ∷ items) place stack stays = stays_with place stack stays
 
-is_less : (n k : ℕ) → n < k → nat_lt n k ≡ true
-is_less n k less = grind (arith, nat_tests)
-
-not_less : (n k : ℕ) → k ≤ n → nat_lt n k ≡ false
-not_less n k less = grind (arith, nat_tests)
-
 stays_around : (at place : ℕ) (stack : Stack) → at < place → StaysTo place stack → around_place at stack ≡ stack
 stays_around at place (Page begun) less stays = refl
 stays_around at place (Within item around) less stays =
     let far = stays.0 in
-    ap (λ b. if b then Within item around else around_place at around) (is_less at item.end (omega (arith, less, far)))
+    ap (λ b. if b then Within item around else around_place at around) (lt-ltb at item.end (omega (arith, less, far)))
 
 stays_open : (at place : ℕ) (stack : Stack) → at < place → StaysTo place stack → ends_before at stack ≡ []
 stays_open at place (Page begun) less stays = refl
 stays_open at place (Within item around) less stays =
     let far = stays.0 in
-    ap (λ b. if b then [] else item_end item ++ ends_before at around) (is_less at item.end (omega (arith, less, far)))
+    ap (λ b. if b then [] else item_end item ++ ends_before at around) (lt-ltb at item.end (omega (arith, less, far)))
 
 has_list_with : (stack : Stack) → has_list (with_list stack) ≡ true
 has_list_with (Page begun) = refl
@@ -134,7 +128,7 @@ module _ (is_item : ℕ → Bool) (start : ℕ → List ℕ) where
       by_item (is_item at) (closed item around (at + 1) nodes (omega (arith, past)))
     where
       ended : nat_lt at item.end ≡ false
-      ended = not_less at item.end past
+      ended = le-ltb at item.end past
 
       same_before : before_item at (Within item around) ≡ item_end item ++ before_item at around
       same_before =

@@ -17,8 +17,8 @@ use Rattle.map_spec.specs.Pages.{page_for}
 use Rattle.map_spec.specs.Titles.{first_text}
 use Rattle.map_spec.specs.Written.{Whole}
 use Rattle.html_spec.specs.Blocks.{start_tag}
-use Rattle.html_spec.specs.Contents.{cascaded_is, data_text, href_by, is_item, is_local, is_nothing, is_text, label_of, linked, navtitle_element, title_written}
-use Rattle.link_spec.specs.Links.{context_of, node_attribute, target_of}
+use Rattle.html_spec.specs.Contents.{cascaded_is, data_text, href_by, is_item, is_local, is_no_target, is_text, label_of, linked, navtitle_element, title_written}
+use Rattle.link_spec.specs.Links.{context_of, node_attribute, plan_target}
 use Rattle.plan_nodes.specs.Home.{value_at}
 use Rattle.plan_nodes.specs.Preorder.{tables_around}
 use Rattle.reader_spec.specs.World.{World}
@@ -34,10 +34,10 @@ is_file _ = false
 
 -- a key decides of the label of a node
 abbrev pub needs_keys : World → Plan → ℕ → Bool
-needs_keys world plan at = is_file (target_of plan at) && is_some (node_attribute world plan (codes "keyref") at)
+needs_keys world plan at = is_file (plan_target plan at) && is_some (node_attribute world plan (codes "keyref") at)
 
 abbrev pub needs_keys_in : Plan → List (Option Whole) → ℕ → Bool
-needs_keys_in plan homes at = is_file (target_of plan at) && is_some (value_at homes at (codes "keyref"))
+needs_keys_in plan homes at = is_file (plan_target plan at) && is_some (value_at homes at (codes "keyref"))
 
 abbrev pub HasTable : World → List PlanNode → Option Table → Type 0
 HasTable world nodes None = ⊥
@@ -69,7 +69,7 @@ is_locked_in homes at = is_value (codes "yes") (value_at homes at (codes "lockti
 -- it is the label
 abbrev pub navtitle_counts : Plan → List (Option Whole) → ℕ → List ℕ → Bool
 navtitle_counts plan homes at navtitle =
-    is_text navtitle && (is_locked_in homes at || not (is_local (target_of plan at)))
+    is_text navtitle && (is_locked_in homes at || not (is_local (plan_target plan at)))
 
 -- Links
 
@@ -97,12 +97,12 @@ may_be_item is_in_table node = is_reference node.kind && not is_in_table
     && not (cascaded_is (codes "toc") (codes "no") node)
 
 abbrev pub is_told : Plan → ℕ → List ℕ → Bool
-is_told plan at navtitle = not (is_nothing (target_of plan at)) || is_text navtitle
+is_told plan at navtitle = not (is_no_target (plan_target plan at)) || is_text navtitle
 
 -- what an item writes before the items below it
 abbrev pub item_front : World → Plan → ℕ → PlanNode → List ℕ
 item_front world plan at node = start_tag (codes "li") (flat_map data_text node.cascaded)
-    ++ linked (href_by plan at (target_of plan at)) (escaped (label_of world plan at node))
+    ++ linked (href_by plan at (plan_target plan at)) (escaped (label_of world plan at node))
 
 -- the same of the node at a place
 abbrev pub is_item_at : World → Plan → ℕ → Bool

@@ -32,7 +32,7 @@ pub(crate) fn href_of<A: Asker>(
     ensures known { (world : World) → Agrees world (A.told asker.new)
         → (A.stand asker.old).setting.pages ≡ plan.now.pages
         → slice_get plan.now.nodes at ≡ Some node.now → IfOk result (λ href.
-        href ≡ contents_spec.href_by plan.now at (links_spec.target_of plan.now at)) }
+        href ≡ contents_spec.href_by plan.now at (links_spec.plan_target plan.now at)) }
     ensures stand { A.stand asker.new ≡ A.stand asker.old }
     ensures founded { StaysFounded (made_spec.contents_names plan.now) (A.told asker.old)
         (A.told asker.new) }

@@ -27,7 +27,7 @@ use dita_doc::{
 use ditaval_rules::is_conditional;
 use html_page::append_anchor;
 use key_scopes::ScopeTable;
-use plan_nodes::Homes;
+use plan_nodes::NodeElements;
 use readers::Asker;
 use std::alloc::{AllocError, Global};
 
@@ -36,7 +36,7 @@ use std::alloc::{AllocError, Global};
 #[derive(Clone, Copy)]
 pub(crate) struct Toc<'a> {
     pub plan: &'a Plan,
-    pub homes: &'a Homes,
+    pub homes: &'a NodeElements,
     pub keys: &'a Option<ScopeTable>,
     pub in_tables: &'a [bool],
 }
@@ -172,7 +172,7 @@ fn is_told(toc: Toc<'_>, at: usize, navtitle: &Text) -> bool
 }
 
 fn is_nothing(toc: Toc<'_>, at: usize) -> bool
-    ensures { result ≡ contents_spec.is_nothing (links_spec.target_of toc.entry.plan.now at) }
+    ensures { result ≡ contents_spec.is_no_target (links_spec.plan_target toc.entry.plan.now at) }
 {
     matches!(
         toc.plan.targets.as_slice().get(at),

@@ -17,7 +17,7 @@ ghost use Rattle.toc_page.specs.Toc as spec;
 use crate::href::target_at;
 use dita_doc::{NoMemory, Plan, PlanNode, Target};
 use key_scopes::{ScopeTable, find, scopes};
-use plan_nodes::Homes;
+use plan_nodes::NodeElements;
 use readers::Asker;
 use std::alloc::Global;
 use targets::split_key;
@@ -29,7 +29,7 @@ pub(crate) fn key_table<A: Asker>(
     alloc: Global,
     asker: &mut A,
     plan: &Plan,
-    homes: &Homes,
+    homes: &NodeElements,
 ) -> Result<Option<ScopeTable>, NoMemory>
     ensures known { (world : World) → Agrees world (A.told asker.new)
         → preorder_spec.IsTree plan.now.nodes
@@ -50,7 +50,7 @@ pub(crate) fn key_table<A: Asker>(
 }
 
 // Whether there is a node of whose label a key decides.
-fn needs_keys(plan: &Plan, homes: &Homes) -> bool
+fn needs_keys(plan: &Plan, homes: &NodeElements) -> bool
     ensures { (at : ℕ) → result ≡ false → spec.needs_keys_in plan.now homes.now at ≡ false }
 {
     let count = plan.targets.len();
@@ -63,7 +63,7 @@ fn needs_keys(plan: &Plan, homes: &Homes) -> bool
 }
 
 // Whether a key decides of the label of the node at this place.
-fn node_needs_keys(plan: &Plan, homes: &Homes, at: usize) -> bool
+fn node_needs_keys(plan: &Plan, homes: &NodeElements, at: usize) -> bool
     ensures { result ≡ spec.needs_keys_in plan.now homes.now at }
 {
     match target_at(plan, at) {
@@ -79,11 +79,16 @@ fn is_file(target: &Target) -> bool
 }
 
 /// Whether a node refers to a key that is defined. The node's target is a file.
-pub(crate) fn is_keyed(keys: &Option<ScopeTable>, homes: &Homes, at: usize, node: &PlanNode) -> bool
+pub(crate) fn is_keyed(
+    keys: &Option<ScopeTable>,
+    homes: &NodeElements,
+    at: usize,
+    node: &PlanNode,
+) -> bool
     ensures { (world : World) (plan : plan_spec.Plan)
         → homes.now ≡ map (cascade_spec.whole_at world) plan.nodes
         → spec.AreKeys world plan keys.now → slice_get plan.nodes at ≡ Some node.now
-        → spec.is_file (links_spec.target_of plan at) ≡ true
+        → spec.is_file (links_spec.plan_target plan at) ≡ true
         → result ≡ contents_spec.is_keyed world plan node.now }
 {
     let (Some(keys), Some(keyref)) = (keys, homes.value(at, "keyref")) else {

@@ -70,7 +70,7 @@ fn label_by_target<A: Asker>(
         → spec.IsToc world toc.entry
         → slice_get toc.entry.plan.now.nodes at ≡ Some node.now → IfOk result (λ label. label
         ≡ contents_spec.label_by_target world toc.entry.plan.now node.now
-        (links_spec.target_of toc.entry.plan.now at)) }
+        (links_spec.plan_target toc.entry.plan.now at)) }
     ensures stand { A.stand asker.new ≡ A.stand asker.old }
     ensures founded { StaysFounded (made_spec.contents_names toc.entry.plan.now)
         (A.told asker.old) (A.told asker.new) }
@@ -96,7 +96,7 @@ fn label_by<A: Asker>(
     ensures known { (world : World) → Agrees world (A.told asker.new)
         → spec.IsToc world toc.entry
         → slice_get toc.entry.plan.now.nodes at ≡ Some node.now
-        → target.now ≡ links_spec.target_of toc.entry.plan.now at → IfOk result (λ label. label
+        → target.now ≡ links_spec.plan_target toc.entry.plan.now at → IfOk result (λ label. label
         ≡ contents_spec.label_by_target world toc.entry.plan.now node.now target.now) }
     ensures stand { A.stand asker.new ≡ A.stand asker.old }
     ensures founded { StaysFounded (option_to_list (pages_spec.local_name target.now))
@@ -113,7 +113,7 @@ fn label_by<A: Asker>(
 }
 
 fn is_local(toc: Toc<'_>, at: usize) -> bool
-    ensures { result ≡ contents_spec.is_local (links_spec.target_of toc.entry.plan.now at) }
+    ensures { result ≡ contents_spec.is_local (links_spec.plan_target toc.entry.plan.now at) }
 {
     matches!(
         toc.plan.targets.as_slice().get(at),
@@ -141,7 +141,7 @@ fn file_label(
 ) -> Result<Text, AllocError>
     ensures { (world : World) → spec.IsToc world toc.entry
         → slice_get toc.entry.plan.now.nodes at ≡ Some node.now
-        → spec.is_file (links_spec.target_of toc.entry.plan.now at) ≡ true
+        → spec.is_file (links_spec.plan_target toc.entry.plan.now at) ≡ true
         → IfOk result (λ label. label
         ≡ contents_spec.label_by_target world toc.entry.plan.now node.now
         (targets_spec.File name.now rest.now)) }

@@ -20,7 +20,7 @@ use crate::titles::contents_title;
 use dita_doc::{Fault, Html, List, Name, NoMemory, Plan, Text, append_html};
 use doc_elements::append_faults;
 use html_page::page_text;
-use plan_nodes::{Homes, in_tables};
+use plan_nodes::{NodeElements, in_tables};
 use readers::Asker;
 use std::alloc::{AllocError, Global};
 
@@ -74,7 +74,7 @@ fn bytes_of<A: Asker>(alloc: Global, asker: &mut A, plan: &Plan) -> Result<List<
         (A.told asker.old) (A.told asker.new) }
     ensures grows { Grows (A.told asker.old) (A.told asker.new) }
 {
-    let homes = Homes::of(alloc, asker, plan.nodes.as_slice())?;
+    let homes = NodeElements::of(alloc, asker, plan.nodes.as_slice())?;
     let title = contents_title(alloc, &homes)?;
     let body = body_of(alloc, asker, plan, &homes, &title)?;
     Ok(page_text(alloc, &title, body.as_bytes(), &[])?)
@@ -86,7 +86,7 @@ fn body_of<A: Asker>(
     alloc: Global,
     asker: &mut A,
     plan: &Plan,
-    homes: &Homes,
+    homes: &NodeElements,
     title: &Text,
 ) -> Result<Text, NoMemory>
     ensures known { (world : World) → Agrees world (A.told asker.new)

@@ -10,11 +10,11 @@ ghost use Rattle.toc_page.specs.Toc as spec;
 
 use dita_doc::{NoMemory, Siblings, Text};
 use doc_elements::{first_child, first_under, plain_text};
-use plan_nodes::Homes;
+use plan_nodes::NodeElements;
 use std::alloc::{AllocError, Global};
 
 /// The title of the page: that of the root map, its attribute, or a word of ours.
-pub(crate) fn contents_title(alloc: Global, homes: &Homes) -> Result<Text, NoMemory>
+pub(crate) fn contents_title(alloc: Global, homes: &NodeElements) -> Result<Text, NoMemory>
     ensures { IfOk result (λ title. title ≡ titles_spec.first_text
         (spec.title_in (home_spec.whole_at homes.now 0) ∷ codes "Contents" ∷ [])) }
 {
@@ -25,7 +25,7 @@ pub(crate) fn contents_title(alloc: Global, homes: &Homes) -> Result<Text, NoMem
     Ok(title)
 }
 
-fn root_title(alloc: Global, homes: &Homes) -> Result<Text, AllocError>
+fn root_title(alloc: Global, homes: &NodeElements) -> Result<Text, AllocError>
     ensures { IfOk result (λ title. title ≡ spec.title_in (home_spec.whole_at homes.now 0)) }
 {
     let Some((root, inside)) = homes.whole(0) else {
@@ -51,7 +51,11 @@ fn title_child(alloc: Global, inside: Siblings<'_>) -> Result<Text, AllocError>
 }
 
 /// The title that a node says of itself: its element comes before its attribute.
-pub(crate) fn navtitle_of(alloc: Global, homes: &Homes, at: usize) -> Result<Text, AllocError>
+pub(crate) fn navtitle_of(
+    alloc: Global,
+    homes: &NodeElements,
+    at: usize,
+) -> Result<Text, AllocError>
     ensures { IfOk result (λ title. title
         ≡ spec.navtitle_in (home_spec.whole_at homes.now at)) }
 {

@@ -1,5 +1,5 @@
 -- A table of what fragments name, with one more element.
-use Rattle.std.specs.Prelude.{◌≡◌, ◌==◌, ◌&&◌, ◌||◌, ◌+◌, ℕ, Bool, true, false, not, List, [], ◌∷◌, ◌++◌, Option, Some, None, bytes_eq, codes, find, is_some, length, option_map, unwrap_or, Result, Ok, Err, OnOk, if◌then◌else◌}
+use Rattle.std.specs.Prelude.{◌≡◌, ◌==◌, ◌&&◌, ◌||◌, ◌+◌, ℕ, Bool, true, false, not, List, [], ◌∷◌, ◌++◌, Option, Some, None, bytes_eq, codes, find, is_some, length, option_map, unwrap_or, if◌then◌else◌}
 use Rattle.std.specs.BTreeMap as tree
 use Rattle.std.specs.BTreeMap.{BTreeMap}
 use Rattle.std.specs.Cmp.{IsTotalOrder, eq_by_cmp_equiv, tied_then}
@@ -14,12 +14,14 @@ use Rattle.std.proofs.lemmas.List.{append-nil}
 use Rattle.std.proofs.lemmas.List.Folds.{find-append, list_any-append}
 use Rattle.std.proofs.lemmas.Map.Text.{is_eq-slice_cmp}
 use Rattle.std.proofs.lemmas.Slice.Eq.{bytes_eq-Decides}
+use Rattle.dita_doc.proofs.Lists.{option_or_none}
+use Rattle.dita_doc.proofs.Tests.{and_false, and_swap}
 use Rattle.map_spec.specs.Elements.{attribute, is_value}
 use Rattle.map_spec.specs.Titles.{has_id, id_of}
 use Rattle.map_spec.specs.Written.{Element, Written, End, Chars, Node, size}
 use Rattle.map_spec.specs.Places.{Standing, TopicAt, first_topic, is_topic, is_topic_there, is_topic_with, standing_from, topic_inside}
 use Rattle.topic_find.specs.declared.table.TargetTable.{TargetTable}
-use Rattle.topic_find.specs.Table.{HasElementMore, HasTopicMore, IsNext, IsOnTheWay, IsTableOf, fragment_cmp, fragment_of, has_topic_around, is_first_topic, or_at, place_in, text_cmp}
+use Rattle.topic_find.specs.Table.{HasElementMore, HasTopicMore, IsNext, IsOnTheWay, IsTableOf, fragment_cmp, fragment_of, has_topic_around, is_first_topic, or_at, place_of_fragment, text_cmp}
 use Rattle.topic_find.specs.Walk.{place_of}
 use Rattle.topic_find.proofs.WalkLaws.{place_or}
 
@@ -38,10 +40,6 @@ found_more test seen one =
     ap (option_map place_of) (find-append test seen (one ∷ []))
     ∙ place_or (find test seen) (find test (one ∷ []))
     ∙ ap (option_or (option_map place_of (find test seen))) (one_found test one (test one) refl)
-
-or_none : {X : Type 0} (found : Option X) → option_or found None ≡ found
-or_none None = refl
-or_none (Some one) = refl
 
 -- The tests
 
@@ -151,18 +149,12 @@ has_id_by id one full = id_by id (attribute (codes "id") one.whole.0) full
 
 -- One more element in a table
 
-and_swap : (a b : Bool) → (a && b) ≡ (b && a)
-and_swap true true = refl
-and_swap true false = refl
-and_swap false true = refl
-and_swap false false = refl
-
 or_same : (found : Option ℕ) (is same : Bool) (at place : ℕ) → is ≡ same → at ≡ place
     → or_at found is at ≡ or_at found same place
 or_same found is same at place e there = ap (λ b. or_at found b at) e ∙ ap (or_at found same) there
 
 unfit : (found : Option ℕ) (is : Bool) (place : ℕ) → is ≡ false → found ≡ or_at found is place
-unfit found is place e = sym (or_none found) ∙ ap (λ b. or_at found b place) (sym e)
+unfit found is place e = sym (option_or_none found) ∙ ap (λ b. or_at found b place) (sym e)
 
 first_by : (found : Option Standing) (place : ℕ) → is_first_topic (option_map place_of found) place
     ≡ option_map_or (λ (own : Standing). own.place == place) found false
@@ -184,8 +176,8 @@ table_step : (old new : TargetTable) (seen : List Standing) (one : Standing) →
     → (first_topic seen ≡ None → one.topic ≡ None) → IsStep old new seen one → IsTableOf new (seen ++ one ∷ [])
 table_step old new seen one is inside step = record {
   places = λ topic element.
-      more_by (length element == 0) (length topic == 0) topic element seen one (place_in new topic element)
-      (place_in old topic element) is.around (is.places topic element)
+      more_by (length element == 0) (length topic == 0) topic element seen one (place_of_fragment new topic element)
+      (place_of_fragment old topic element) is.around (is.places topic element)
       (step topic element (length element == 0) (length topic == 0) refl refl);
   around = λ none.
       let before = before_none seen one (first_topic seen) refl none in
@@ -226,7 +218,7 @@ module _ (old new : TargetTable) (seen : List Standing) (one : Standing) (typed 
 
   first_same : first_topic (seen ++ one ∷ []) ≡ first_topic seen
   first_same = first_more seen one
-      ∙ ap (option_or (first_topic seen)) (rw typed refl) ∙ or_none (first_topic seen)
+      ∙ ap (option_or (first_topic seen)) (rw typed refl) ∙ option_or_none (first_topic seen)
 
   fits_as : (no_topic : Bool) (topic element : List ℕ) (first : Option Standing)
       → fits_by no_topic first topic element one
@@ -292,14 +284,6 @@ module _ (old new : TargetTable) (seen : List Standing) (one : Standing) (typed 
           ∙ out element (meant_by none (first_topic (seen ++ one ∷ [])) topic) some)
 
 -- The element that comes next
-
-pub on_ok : {T E : Type 0} (P Q : Type 0) (result : Result T E) → (P → Q) → OnOk result P → OnOk result Q
-on_ok P Q (Ok value) make p = make p
-on_ok P Q (Err error) make p = tt
-
-and_false : (b : Bool) → (b && false) ≡ false
-and_false true = refl
-and_false false = refl
 
 empty_other : (id other : List ℕ) → (length id == 0) ≡ true → (length other == 0) ≡ false
     → is_eq (text_cmp id other) ≡ false

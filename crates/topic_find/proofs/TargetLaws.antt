@@ -7,11 +7,11 @@ use Rattle.map_spec.specs.Written.{Written}
 use Rattle.map_spec.specs.Places as places
 use Rattle.map_spec.specs.Places.{Standing, TopicAt, all_standing, is_topic_there, is_topic_with}
 use Rattle.topic_find.specs.declared.meant.TopicMeant.{TopicMeant}
-use Rattle.topic_find.specs.Walk.{first_place, has_id, is_topic_meant, is_topic_wanted, place_of, target_place, topic_place}
+use Rattle.topic_find.specs.Walk.{first_place_passing, has_id, is_topic_meant, is_topic_wanted, place_of, target_place, topic_place}
 
 -- the first topic of this id
 pub named_topic : (nodes : Written) (topic : List ℕ) (id : Bor (List ℕ)) → false ≡ (length topic == 0) → id.now ≡ topic
-    → first_place (is_topic_wanted (Some id)) 0 None nodes ≡ topic_place nodes topic
+    → first_place_passing (is_topic_wanted (Some id)) 0 None nodes ≡ topic_place nodes topic
 named_topic nodes topic id full same =
     rw (← full) (ap (λ text. option_map place_of (find (is_topic_with text) (all_standing nodes))) same)
 

@@ -1,30 +1,17 @@
 -- A walk that looks for the first element that passes a test.
-use Rattle.std.specs.Prelude.{◌≡◌, ◌+◌, ◌<◌, ℕ, Bool, true, false, List, ◌∷◌, ◌++◌, Option, Some, None, find, length, option_map, unwrap_or, if◌then◌else◌}
-use Rattle.std.specs.Borrow.{Bor}
-use Rattle.std.specs.Option.{option_copied, option_or}
+use Rattle.std.specs.Prelude.{◌≡◌, ◌+◌, ◌<◌, ℕ, Bool, true, false, List, ◌∷◌, ◌++◌, Option, Some, None, find, length, option_map, if◌then◌else◌}
+use Rattle.std.specs.Option.{option_or}
 use Rattle.std.specs.declared.ops.ControlFlow.TheVariants.{Continue, Break}
 use Rattle.std.proofs.Common.{refl, sym, ap, ◌∙◌, arith}
 use Rattle.std.proofs.lemmas.List.Folds.{find-append}
 use Rattle.dita_doc.specs.Tree as tree
-use Rattle.dita_doc.specs.Tree.{ArePreorder, Content, node_limit, size_of, tree_of}
+use Rattle.dita_doc.specs.Tree.{ArePreorder, Content, doc_node_limit, size_of, tree_of}
 use Rattle.dita_doc.specs.declared.doc.Node as tree_node
 use Rattle.dita_doc.proofs.TreeLaws.{length_nodes}
 use Rattle.map_spec.specs.Written.{Element, Written, End, Chars, Node, size, written_in}
 use Rattle.map_spec.specs.Places.{Standing, TopicAt, standing_from, topic_inside}
-use Rattle.topic_find.specs.Walk.{Test, ends_at, first_place, passes, place_of, walk_of}
-
--- a text where it stands, or another, is this text or the other
-pub read_or : (value : Option (Bor (List ℕ))) (other : Bor (List ℕ))
-    → (unwrap_or value other).now ≡ unwrap_or (option_copied value) other.now
-read_or None other = refl
-read_or (Some text) other = refl
-
--- as many nodes are written as the tree has
-pub size_written : (name : List ℕ) (c : Content) → size (written_in name c) ≡ size_of c
-size_written name tree.End = refl
-size_written name (tree.Chars text origin line rest) = ap (λ n. 1 + n) (size_written name rest)
-size_written name (tree.Element label attributes origin line inside rest) =
-    let within = size_written name inside in let behind = size_written name rest in omega arith
+use Rattle.map_lemmas.proofs.TreeLaws.{size_written}
+use Rattle.topic_find.specs.Walk.{Test, ends_at, first_place_passing, passes, place_of, walk_of}
 
 -- The place of the first that passes
 
@@ -39,7 +26,7 @@ found_first test one others false e = rw e refl
 -- the element before the first of them plays no part
 any_before : (test : Test) (place : ℕ) (around : Option TopicAt) (before : Option Element) (nodes : Written)
     → option_map place_of (find (passes test) (standing_from place around before nodes))
-    ≡ first_place test place around nodes
+    ≡ first_place_passing test place around nodes
 any_before test place around before End = refl
 any_before test place around before (Chars text doc rest) = any_before test (place + 1) around before rest
 any_before test place around before (Node element inside rest) =
@@ -63,18 +50,18 @@ place_or (Some one) other = refl
 
 -- the first that passes is the first element, else one in that, with the topic inside, else one behind it
 first_at : (test : Test) (place : ℕ) (around : Option TopicAt) (element : Element) (inside rest : Written)
-    → first_place test place around (Node element inside rest)
+    → first_place_passing test place around (Node element inside rest)
     ≡ (if test around element then Some place
-    else option_or (first_place test (place + 1) (topic_inside place element around) inside)
-    (first_place test (place + 1 + size inside) around rest))
+    else option_or (first_place_passing test (place + 1) (topic_inside place element around) inside)
+    (first_place_passing test (place + 1 + size inside) around rest))
 first_at test place around element inside rest =
     let held = standing_from (place + 1) (topic_inside place element around) None inside in
     let later = standing_from (place + 1 + size inside) around (Some element) rest in
     let one : Standing =
     record { place = place; whole = (element, inside); topic = around; before = None; behind = rest } in
     let behind : option_map place_of (find (passes test) (held ++ later))
-    ≡ option_or (first_place test (place + 1) (topic_inside place element around) inside)
-    (first_place test (place + 1 + size inside) around rest) =
+    ≡ option_or (first_place_passing test (place + 1) (topic_inside place element around) inside)
+    (first_place_passing test (place + 1 + size inside) around rest) =
     ap (option_map place_of) (find-append (passes test) held later)
     ∙ place_or (find (passes test) held) (find (passes test) later)
     ∙ ap (option_or (option_map place_of (find (passes test) held)))
@@ -109,7 +96,7 @@ pub walk_text : (test : Test) (place : ℕ) (around : Option TopicAt) (nodes : W
     → walk_of test place around nodes ≡ walk_of test (place + 1) around rest
 walk_text test place around nodes text doc rest is = rw is (
     let same : place + (1 + size rest) ≡ place + 1 + size rest = omega arith in
-    ap (ends_at (first_place test (place + 1) around rest)) same)
+    ap (ends_at (first_place_passing test (place + 1) around rest)) same)
 
 module _ (test : Test) (place : ℕ) (around : Option TopicAt) (nodes : Written)
     (element : Element) (inside rest : Written) (first : nodes ≡ Node element inside rest) where
@@ -122,7 +109,7 @@ module _ (test : Test) (place : ℕ) (around : Option TopicAt) (nodes : Written)
       → Break found ≡ walk_of test (place + 1) (topic_inside place element around) inside
       → walk_of test place around nodes ≡ Break found
   walk_inside found is one =
-      let there = stops (first_place test (place + 1) (topic_inside place element around) inside) _ found one in
+      let there = stops (first_place_passing test (place + 1) (topic_inside place element around) inside) _ found one in
       rw (first, first_at test place around element inside rest, ← is, ← there) refl
 
   -- it does not, nor any in it
@@ -130,11 +117,11 @@ module _ (test : Test) (place : ℕ) (around : Option TopicAt) (nodes : Written)
       → Continue here ≡ walk_of test (place + 1) (topic_inside place element around) inside
       → walk_of test place around nodes ≡ walk_of test here around rest
   walk_behind here is on =
-      let past = goes_on (first_place test (place + 1) (topic_inside place element around) inside)
+      let past = goes_on (first_place_passing test (place + 1) (topic_inside place element around) inside)
       (place + 1 + size inside) here on in
       let same : place + (1 + (size inside + size rest)) ≡ place + 1 + size inside + size rest = omega arith in
       rw (first, first_at test place around element inside rest, ← is, ← past.none, past.past)
-      (ap (ends_at (first_place test (place + 1 + size inside) around rest)) same)
+      (ap (ends_at (first_place_passing test (place + 1 + size inside) around rest)) same)
 
 -- The places
 
@@ -142,12 +129,13 @@ module _ (test : Test) (place : ℕ) (around : Option TopicAt) (nodes : Written)
 pub passed : (test : Test) (place : ℕ) (around : Option TopicAt) (name : List ℕ) (c : Content) (here : ℕ)
     → Continue here ≡ walk_of test place around (written_in name c) → here ≡ place + size_of c
 passed test place around name c here on =
-    (goes_on (first_place test place around (written_in name c)) (place + size (written_in name c)) here on).past
+    (goes_on (first_place_passing test place around (written_in name c))
+    (place + size (written_in name c)) here on).past
     ∙ ap (λ n. place + n) (size_written name c)
 
 -- the places of all nodes of a document are numbers of 32 bits
 pub root_fits : (nodes : List tree_node.Node) (root : Content) → ArePreorder nodes 0 → root ≡ tree_of nodes
-    → length nodes < node_limit → 0 + size_of root < node_limit
+    → length nodes < doc_node_limit → 0 + size_of root < doc_node_limit
 root_fits nodes root tree is small =
     let count = ap length tree ∙ length_nodes (tree_of nodes) 0 in
     let same = ap size_of is in

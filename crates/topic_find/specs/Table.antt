@@ -25,8 +25,8 @@ abbrev pub topic_in : TargetTable → List ℕ → Option ℕ
 topic_in table topic = if length topic == 0 then table.first_topic else tree.get text_cmp table.topics topic
 
 -- the place of the element that a fragment names
-abbrev pub place_in : TargetTable → List ℕ → List ℕ → Option ℕ
-place_in table topic element =
+abbrev pub place_of_fragment : TargetTable → List ℕ → List ℕ → Option ℕ
+place_of_fragment table topic element =
     if length element == 0 then topic_in table topic
     else if length topic == 0 then tree.get text_cmp table.in_first_topic element
     else tree.get fragment_cmp table.elements (fragment_of topic element)
@@ -62,7 +62,7 @@ has_topic_around standing = is_some standing.topic
 
 -- a table gives what fragments name among the elements that were seen
 pub record IsTableOf (table : TargetTable) (seen : List Standing) : Type 0 where
-  pub places : (topic element : List ℕ) → place_in table topic element
+  pub places : (topic element : List ℕ) → place_of_fragment table topic element
       ≡ option_map place_of (target_among seen topic element)
   pub around : first_topic seen ≡ None → list_any has_topic_around seen ≡ false
 

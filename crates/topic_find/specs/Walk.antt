@@ -36,8 +36,8 @@ abbrev pub place_of : Standing → ℕ
 place_of standing = standing.place
 
 -- the place of the first element that passes, of these nodes and below, the first node at this place
-abbrev pub first_place : Test → ℕ → Option TopicAt → Written → Option ℕ
-first_place test place around nodes =
+abbrev pub first_place_passing : Test → ℕ → Option TopicAt → Written → Option ℕ
+first_place_passing test place around nodes =
     option_map place_of (find (passes test) (standing_from place around None nodes))
 
 -- where a walk ends: at the element that it looks for, or behind all nodes
@@ -46,7 +46,7 @@ ends_at None behind = Continue behind
 ends_at (Some place) behind = Break place
 
 abbrev pub walk_of : Test → ℕ → Option TopicAt → Written → ControlFlow ℕ ℕ
-walk_of test place around nodes = ends_at (first_place test place around nodes) (place + size nodes)
+walk_of test place around nodes = ends_at (first_place_passing test place around nodes) (place + size nodes)
 
 -- The tests
 

@@ -14,7 +14,7 @@ use std::ops::ControlFlow;
 
 // The place of the first element that is meant, in document order.
 pub(crate) fn find_element(doc: &Doc, meant: ElementMeant<'_>) -> Option<u32>
-    ensures { (name : List ℕ) → result ≡ walk_spec.first_place (walk_spec.is_element_meant meant.entry)
+    ensures { (name : List ℕ) → result ≡ walk_spec.first_place_passing (walk_spec.is_element_meant meant.entry)
         0 None (written_spec.written_in name (tree_spec.tree_of doc.now.nodes)) }
 {
     walk_to_element(Siblings::of(doc), 0, None, meant).break_value()
@@ -30,7 +30,7 @@ fn walk_to_element<'a>(
     meant: ElementMeant<'_>,
 ) -> ControlFlow<u32, u32>
     requires { place + tree_spec.size_of (siblings_spec.content siblings)
-        < tree_spec.node_limit }
+        < tree_spec.doc_node_limit }
     ensures { (name : List ℕ) → result ≡ walk_spec.walk_of (walk_spec.is_element_meant meant.entry)
         place (option_map walk_spec.topic_at around.entry)
         (walk_spec.content_in name siblings.entry) }

@@ -77,7 +77,7 @@ impl TargetTable {
 
     fn look_up(&self, alloc: Global, topic: &Text, element: &Text) -> Result<Option<u32>, NoMemory>
         ensures { IfOk result (λ found.
-            found ≡ table_spec.place_in self.now topic.now element.now) }
+            found ≡ table_spec.place_of_fragment self.now topic.now element.now) }
     {
         if element.is_empty() {
             return Ok(self.find_topic(topic));
@@ -158,7 +158,7 @@ fn add_elements<'a>(
     around: Option<TopicAround<'a>>,
 ) -> Result<u32, NoMemory>
     requires { place + tree_spec.size_of (siblings_spec.content siblings)
-        < tree_spec.node_limit }
+        < tree_spec.doc_node_limit }
     ensures past { IfOk result (λ past.
         past ≡ place + tree_spec.size_of (siblings_spec.content siblings.entry)) }
     ensures table { (name : List ℕ) (seen : List Standing) (before : Option Element)

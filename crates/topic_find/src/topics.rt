@@ -13,7 +13,7 @@ use std::ops::ControlFlow;
 
 // The place of the first topic in document order, or of the first of the id that is wanted.
 pub(crate) fn find_topic(doc: &Doc, wanted: Option<&str>) -> Option<u32>
-    ensures { (name : List ℕ) → result ≡ walk_spec.first_place (walk_spec.is_topic_wanted wanted.entry)
+    ensures { (name : List ℕ) → result ≡ walk_spec.first_place_passing (walk_spec.is_topic_wanted wanted.entry)
         0 None (written_spec.written_in name (tree_spec.tree_of doc.now.nodes)) }
 {
     walk_to_topic(Siblings::of(doc), 0, wanted).break_value()
@@ -24,7 +24,7 @@ pub(crate) fn find_topic(doc: &Doc, wanted: Option<&str>) -> Option<u32>
 // them.
 fn walk_to_topic(siblings: Siblings<'_>, place: u32, wanted: Option<&str>) -> ControlFlow<u32, u32>
     requires { place + tree_spec.size_of (siblings_spec.content siblings)
-        < tree_spec.node_limit }
+        < tree_spec.doc_node_limit }
     ensures { (name : List ℕ) (around : Option TopicAt) → result
         ≡ walk_spec.walk_of (walk_spec.is_topic_wanted wanted.entry)
         place around (walk_spec.content_in name siblings.entry) }

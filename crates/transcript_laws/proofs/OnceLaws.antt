@@ -1,8 +1,8 @@
 -- A text is the text of one transcript at most.
-use Rattle.std.specs.Prelude.{◌≡◌, ℕ, Bool, true, false, not, List, [], ◌∷◌, ◌++◌, Option, Some, None, codes, length, map, All, bytes_eq, if◌then◌else◌}
+use Rattle.std.specs.Prelude.{◌≡◌, ℕ, false, List, [], ◌∷◌, ◌++◌, Option, Some, None, codes, length, map, All, bytes_eq, if◌then◌else◌}
 use Rattle.std.specs.List.{flat_map}
 use Rattle.std.proofs.Common.{refl, sym, ap, subst, ◌∙◌, append_assoc}
-use Rattle.std.proofs.lemmas.Bool.{and_parts}
+use Rattle.std.proofs.lemmas.Bool.{and_parts, not-true}
 use Rattle.std.proofs.lemmas.Fmt.{decimal_injective}
 use Rattle.std.proofs.lemmas.List.{length-map}
 use Rattle.std.proofs.lemmas.List.Elements.{All-head, All-tail}
@@ -83,15 +83,11 @@ part_is IsContents = refl
 val_from : List ℕ → Option (List ℕ)
 val_from word = if bytes_eq word (codes "-") then None else Some word
 
-not_true : (test : Bool) → not test ≡ true → test ≡ false
-not_true true e = sym e
-not_true false e = refl
-
 val_is : (val : Option (List ℕ)) → IsValShown val → val_from (val_text val) ≡ val
 unfolding val_from
 val_is None named = refl
 val_is (Some val) named =
-    let other : bytes_eq val (codes "-") ≡ false = not_true _ (and_parts _ _ named.named).1 in rw other refl
+    let other : bytes_eq val (codes "-") ≡ false = not-true _ (and_parts _ _ named.named).1 in rw other refl
 
 row_once : (a b : RowShown) (back other : List (List ℕ)) → IsRowShown a → IsRowShown b → row_head a ≡ row_head b
     → map bar a.lines ++ back ≡ map bar b.lines ++ other → (a ≡ b) × (back ≡ other)

@@ -13,8 +13,8 @@ use Rattle.transcript_text.specs.Transcript.{IsNameShown, IsNameLine, name_line,
 use Rattle.transcript_text.specs.Transcript as shown
 use Rattle.transcript_text.specs.declared.below.Below.{Below}
 use Rattle.transcript_text.specs.declared.below.Below.TheVariants as belows
-use Rattle.transcript_text.specs.declared.state.State.{State}
-use Rattle.transcript_text.specs.declared.state.State.TheVariants.{Start, Entries, Entry, Rows, Row, End}
+use Rattle.transcript_text.specs.declared.state.ReadState.{ReadState}
+use Rattle.transcript_text.specs.declared.state.ReadState.TheVariants.{Start, Entries, Entry, Rows, Row, End}
 use Rattle.transcript_text.specs.declared.transcript.EntryText.{EntryText}
 use Rattle.transcript_text.specs.declared.transcript.RowText.{RowText}
 use Rattle.transcript_text.specs.declared.transcript.Transcript.{Transcript}
@@ -243,7 +243,7 @@ start_alive = record {
 }
 
 -- each state that lines lead to can be finished
-pub alive : (state : State) (read : List (List ℕ)) → HasRead state read → IsAlive read
+pub alive : (state : ReadState) (read : List (List ℕ)) → HasRead state read → IsAlive read
 alive Start read has = subst IsAlive (sym has) start_alive
 alive (Entries entries) read has = entries_alive entries read has
 alive (Entry entries opened below) read has = open_entry_alive entries opened below read has.1

@@ -2,6 +2,7 @@
 use Rattle.std.specs.Prelude.{◌≡◌, ◌+◌, ◌<◌, ◌≤◌, ◌^◌, ◌&&◌, ℕ, Bool, true, false, List, [], ◌∷◌, ◌++◌, Option, Some, codes, length, map, All, is_some, option_map, nat_lt, if◌then◌else◌, MatchBool}
 use Rattle.std.specs.Fmt.{decimal}
 use Rattle.std.proofs.Common.{refl, ap, ◌∙◌, arith, length-append}
+use Rattle.std.proofs.lemmas.Bool.{le-ltb, lt-ltb}
 use Rattle.std.proofs.lemmas.List.{length-map}
 use Rattle.std.proofs.lemmas.List.Elements.{All-head, All-tail}
 use Rattle.dita_doc.specs.declared.plan.PlanStop.{PlanStop}
@@ -17,7 +18,6 @@ use Rattle.transcript_text.specs.Heads.{IsEntryLine}
 use Rattle.transcript_text.proofs.HeadLaws.{number_word, small_from, entry_head_words}
 use Rattle.transcript_text.proofs.NumberLaws.{number64_is, number32_is}
 use Rattle.transcript_text.proofs.RefusalLaws.{words_of_refusal, refusal_parts, refusal_known, stopped_parts}
-use Rattle.transcript_text.proofs.ShownLaws.{not_below, is_below}
 use Rattle.transcript_text.proofs.TextLaws.{decimal_word}
 
 -- what lines stand below
@@ -141,7 +141,7 @@ faults_fit_from : (pages count at : ℕ) (faults : List FaultShown) → pages �
     → FitFrom (belows.Built pages count) at (map fault_line faults)
 faults_fit_from pages count at [] past all = tt
 faults_fit_from pages count at (fault ∷ faults) past all = (
-  fault_at (nat_lt at pages) (fault_line fault) (not_below at pages past)
+  fault_at (nat_lt at pages) (fault_line fault) (le-ltb at pages past)
       (fault, All-head IsFaultShown fault faults all, refl),
   faults_fit_from pages count (at + 1) faults (omega arith) (All-tail IsFaultShown fault faults all),
 )
@@ -151,7 +151,7 @@ pages_fit_from : (total count at : ℕ) (pages : List PageShown) (faults : List 
     → FitFrom (belows.Built total count) at (map page_line pages ++ map fault_line faults)
 pages_fit_from total count at [] faults many all more = faults_fit_from total count at faults (omega arith) more
 pages_fit_from total count at (page ∷ pages) faults many all more = (
-  page_at (nat_lt at total) (page_line page) (is_below at total (omega arith))
+  page_at (nat_lt at total) (page_line page) (lt-ltb at total (omega arith))
       (page, All-head IsPageShown page pages all, refl),
   pages_fit_from total count (at + 1) pages faults (omega arith) (All-tail IsPageShown page pages all) more,
 )

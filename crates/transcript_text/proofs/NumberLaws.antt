@@ -1,5 +1,5 @@
 -- Words that are numbers.
-use Rattle.std.specs.Prelude.{◌≡◌, ◌<◌, ◌≤◌, ◌^◌, ◌&&◌, ℕ, zero, suc, Bool, true, false, List, ◌∷◌, Option, Some, None, Result, Ok, Err, MatchResult, nat_lt, bytes_eq, is_some, length, if◌then◌else◌}
+use Rattle.std.specs.Prelude.{◌≡◌, ◌<◌, ◌≤◌, ◌^◌, ◌&&◌, ℕ, zero, suc, true, List, ◌∷◌, Option, Some, None, Result, Ok, Err, MatchResult, nat_lt, bytes_eq, is_some, length, if◌then◌else◌}
 use Rattle.std.specs.Borrow.{Bor}
 use Rattle.std.specs.Fmt.{decimal}
 use Rattle.std.specs.Str.{IsUtf8}
@@ -12,6 +12,7 @@ use Rattle.std.proofs.lemmas.Slice.Eq.{bytes_eq-Decides}
 use Rattle.std.proofs.lemmas.Str.Parse.{IsNumeralModel, numerals_by_value, tells_digits, parse_plain, not_in_digits}
 use Rattle.std.proofs.lemmas.Fmt.{digits_value-decimal, digits_decimal, decimal-digits_value, parse-decimal, decimal_nonempty, first_decimal, decimal_digit, IsAscii-decimal}
 use Rattle.std.proofs.lemmas.Str.{IsUtf8-from_ascii}
+use Rattle.dita_doc.proofs.Tests.{told_if}
 use Rattle.transcript_text.specs.Words.{number_of, IsPlain}
 
 pub own : IsNumeralModel (AllDigits 10) (digits_value 10)
@@ -30,10 +31,6 @@ pub number_is : (bits n : ℕ) (word : List ℕ) → n < 2 ^ bits → n < 2 ^ 64
 number_is bits n word less small is =
     let value : digits_value 10 word ≡ n = ap (digits_value 10) is ∙ digits_value-decimal own n small in
     by_value bits n (digits_value 10 word) word value less is
-
-told_if : (test : Bool) (v n : ℕ) → (if test then Some v else None) ≡ Some n → (test ≡ true) × (v ≡ n)
-told_if true v n e = (refl, cc)
-told_if false v n e = absurd (cc)
 
 -- and a word that is read as a number is its word
 pub number_says : (bits n : ℕ) (word : List ℕ) → number_of bits word ≡ Some n → (n < 2 ^ bits) × (decimal n ≡ word)

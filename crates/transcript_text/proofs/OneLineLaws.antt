@@ -18,6 +18,7 @@ use Rattle.transcript_text.specs.Told.{bar, first_line, entry_lines, row_lines, 
 use Rattle.transcript_text.proofs.CodeLaws.{pyx_code_lacks, fault_code_lacks}
 use Rattle.transcript_text.proofs.HeadLaws.{small_from}
 use Rattle.dita_doc.proofs.LackLaws.{lacks_append, lacks_decimal, lacks_name}
+use Rattle.dita_doc.proofs.Lists.{joined_four}
 
 number_one : (n : ℕ) → n < 2 ^ 64 → Lacks 10 (decimal n)
 number_one n small = lacks_decimal 10 n (λ range. omega (arith, range.0)) small
@@ -208,9 +209,6 @@ entry_is entry = ap (λ (l : List ℕ). line (entry_head entry) ++ l) (bars_text
 row_is : (row : RowShown) → flat_map line (row_lines row) ≡ row_text row
 row_is row = ap (λ (l : List ℕ). line (row_head row) ++ l) (bars_text row.lines)
 
-regroup : (a b c d : List ℕ) → a ++ b ++ c ++ d ≡ a ++ (b ++ (c ++ d))
-regroup a b c d = simp append_assoc
-
 pub transcript_is : (s : shown.Transcript) → transcript_text s ≡ flat_map line (transcript_lines s)
 transcript_is s =
     let entries = flat_map entry_lines s.entries in
@@ -224,7 +222,7 @@ transcript_is s =
     (flat_map-append line rows last
     ∙ ap (λ (l : List ℕ). l ++ flat_map line last) (each_text row_lines row_text row_is s.rows)
     ∙ ap (λ (l : List ℕ). flat_map row_text s.rows ++ l) (append-nil (line (end_head s.totals)))) in
-    regroup (line first_line) (flat_map entry_text s.entries) (flat_map row_text s.rows) (line (end_head s.totals))
+    joined_four (line first_line) (flat_map entry_text s.entries) (flat_map row_text s.rows) (line (end_head s.totals))
     ∙ ap (λ (l : List ℕ). line first_line ++ l) (sym rest)
 
 -- bytes that begin with lines

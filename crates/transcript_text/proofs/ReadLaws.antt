@@ -12,8 +12,8 @@ use Rattle.transcript_text.specs.Transcript as shown
 use Rattle.dita_doc.specs.declared.stop.Stop.{Stop}
 use Rattle.dita_doc.specs.declared.stop.Stop.TheVariants.{Fault, NoMemory}
 use Rattle.dita_doc.proofs.LinesLaws.{ends_after, ends_behind, ends_in_rest}
-use Rattle.transcript_text.specs.declared.state.State.{State}
-use Rattle.transcript_text.specs.declared.state.State.TheVariants.{Start, Entries, Entry, Rows, Row, End}
+use Rattle.transcript_text.specs.declared.state.ReadState.{ReadState}
+use Rattle.transcript_text.specs.declared.state.ReadState.TheVariants.{Start, Entries, Entry, Rows, Row, End}
 use Rattle.transcript_text.specs.declared.transcript.Transcript.{Transcript}
 use Rattle.transcript_text.specs.declared.transcript.BadTranscript.{BadTranscript}
 use Rattle.transcript_text.specs.Read.{IsRead, Begins, first_lines, IsBadAt, IsFaultOf, IsLine}
@@ -24,7 +24,7 @@ use Rattle.transcript_text.proofs.LineLaws.{back_shorter, rest_line}
 use Rattle.transcript_text.proofs.OneLineLaws.{one_more, transcript_is, lines_of_lines, lines_of_text, lines_begin}
 
 -- so many lines were read of the bytes, and this stands behind them
-pub record HasReadLines (state : State) (number : ℕ) (bytes rest : List ℕ) : Type 0 where
+pub record HasReadLines (state : ReadState) (number : ℕ) (bytes rest : List ℕ) : Type 0 where
   pub read : List (List ℕ)
   pub has : HasRead state read
   pub lack : All (Lacks 10) read
@@ -44,7 +44,7 @@ lines_more lines text back =
     ∙ append_assoc (flat_map line lines) (line text) back
     ∙ ap (λ (l : List ℕ). flat_map line lines ++ l) (append_assoc text (10 ∷ []) back))
 
-pub line_read : (state next : State) (number : ℕ) (bytes rest text back : List ℕ)
+pub line_read : (state next : ReadState) (number : ℕ) (bytes rest text back : List ℕ)
     (has : HasReadLines state number bytes rest) → IsCutAt 10 rest text back
     → ((read : List (List ℕ)) → HasRead state read → HasRead next (read ++ text ∷ []))
     → ((more : List (List ℕ)) → May state (text ∷ more) → May next more)
@@ -80,7 +80,8 @@ front_begins m read more bytes alive lines few =
     subst Begins (sym (front_lines m read more bytes lines few)) (alive.s, alive.valid, rest, text)
 
 -- a line that may not follow
-pub line_refused : (state : State) (number : ℕ) (bytes rest text back : List ℕ) → HasReadLines state number bytes rest
+pub line_refused : (state : ReadState) (number : ℕ) (bytes rest text back : List ℕ)
+    → HasReadLines state number bytes rest
     → IsCutAt 10 rest text back → ((more : List (List ℕ)) → May state (text ∷ more) → ⊥) → IsBadAt bytes (number + 1)
 line_refused state number bytes rest text back has cut none =
     let read = has.read in
@@ -127,7 +128,7 @@ rest_not_ended : (rest : List ℕ) → Lacks 10 rest → 0 < length rest → end
 rest_not_ended [] lacks some = absurd (omega arith)
 rest_not_ended (b ∷ rest) lacks some = ends_in_rest b rest lacks
 
-pub rest_refused : (state : State) (number : ℕ) (bytes rest : List ℕ) → HasReadLines state number bytes rest
+pub rest_refused : (state : ReadState) (number : ℕ) (bytes rest : List ℕ) → HasReadLines state number bytes rest
     → Lacks 10 rest → 0 < length rest → IsBadAt bytes (number + 1)
 rest_refused state number bytes rest has lacks some =
     let read = has.read in
@@ -164,7 +165,7 @@ entries_not_nil : (more : List (List ℕ)) → [] ≡ more → MayEntries more �
 entries_not_nil more none may =
     rows_not_nil 0 may.back (nil_back (flat_map entry_lines may.entries) may.back (none ∙ may.lines)) may.behind
 
-not_ended : (state : State) → May state [] → ((transcript : Transcript) → state ≡ End transcript → ⊥) → ⊥
+not_ended : (state : ReadState) → May state [] → ((transcript : Transcript) → state ≡ End transcript → ⊥) → ⊥
 not_ended Start may none = nil_cons first_line may.0 may.1
 not_ended (Entries entries) may none = entries_not_nil [] refl may
 not_ended (Entry entries opened below) may none =
@@ -178,7 +179,7 @@ no_bytes : (rest : List ℕ) → length rest ≡ 0 → rest ≡ []
 no_bytes [] e = refl
 no_bytes (b ∷ rest) e = absurd (omega arith)
 
-pub end_refused : (state : State) (number : ℕ) (bytes rest : List ℕ) → HasReadLines state number bytes rest
+pub end_refused : (state : ReadState) (number : ℕ) (bytes rest : List ℕ) → HasReadLines state number bytes rest
     → length rest ≡ 0 → ((transcript : Transcript) → state ≡ End transcript → ⊥) → IsBadAt bytes number
 end_refused state number bytes rest has empty none =
     let read = has.read in
@@ -210,7 +211,7 @@ named (Fault bad) bytes number is bad_there = subst (IsBadAt bytes) (sym is) bad
 named NoMemory bytes number is bad_there = tt
 
 -- that of a line that may not follow
-pub line_named : (stop : Stop BadTranscript) (state : State) (number : ℕ) (bytes rest text back : List ℕ)
+pub line_named : (stop : Stop BadTranscript) (state : ReadState) (number : ℕ) (bytes rest text back : List ℕ)
     → HasReadLines state number bytes rest → IsCutAt 10 rest text back → IsLine stop (number + 1)
     → ((more : List (List ℕ)) → May state (text ∷ more) → stop ≡ NoMemory) → IsFaultOf stop bytes
 line_named (Fault bad) state number bytes rest text back has cut is none =
@@ -219,14 +220,16 @@ line_named (Fault bad) state number bytes rest text back has cut is none =
 line_named NoMemory state number bytes rest text back has cut is none = tt
 
 -- what is given at the end
-pub given_read : (result : Result Transcript (Stop BadTranscript)) (state : State) (number : ℕ) (bytes rest : List ℕ)
+pub given_read : (result : Result Transcript (Stop BadTranscript)) (state : ReadState) (number : ℕ)
+    (bytes rest : List ℕ)
     → HasReadLines state number bytes rest → length rest ≡ 0 → IfOk result (λ transcript. state ≡ End transcript)
     → IfOk result (λ transcript. IsRead transcript bytes)
 given_read (Ok transcript) state number bytes rest has empty is =
-    all_read transcript number bytes rest (subst (λ (s : State). HasReadLines s number bytes rest) is has) empty
+    all_read transcript number bytes rest (subst (λ (s : ReadState). HasReadLines s number bytes rest) is has) empty
 given_read (Err stop) state number bytes rest has empty is = tt
 
-pub given_refused : (result : Result Transcript (Stop BadTranscript)) (state : State) (number : ℕ) (bytes rest : List ℕ)
+pub given_refused : (result : Result Transcript (Stop BadTranscript)) (state : ReadState) (number : ℕ)
+    (bytes rest : List ℕ)
     → HasReadLines state number bytes rest → length rest ≡ 0
     → IfErr result (λ stop. (transcript : Transcript) → state ≡ End transcript → ⊥)
     → IfErr result (λ stop. IsLine stop number) → IfErr result (λ stop. IsFaultOf stop bytes)

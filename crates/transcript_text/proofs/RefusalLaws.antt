@@ -3,9 +3,9 @@ use Rattle.std.specs.Prelude.{◌≡◌, ◌<◌, ◌^◌, ◌&&◌, ℕ, Bool, 
 use Rattle.std.specs.Fmt.{decimal, digits}
 use Rattle.std.proofs.Common.{refl, sym, ap, ◌∙◌, arith}
 use Rattle.std.proofs.lemmas.Bool.{and_parts}
-use Rattle.std.proofs.lemmas.Slice.Eq.{bytes_eq-Decides}
 use Rattle.dita_doc.specs.Bytes.{spaced_parts}
 use Rattle.dita_doc.specs.Faults.{pyx_code_text}
+use Rattle.dita_doc.proofs.Tests.{same_text}
 use Rattle.transcript_text.specs.Transcript.{RefusalShown, RefusedFor, ConflictAt, IsAbsent, IsFull, IsRefusalShown, refusal_words}
 use Rattle.transcript_text.specs.Words.{Words, number_of}
 use Rattle.transcript_text.specs.Below.{is_refusal}
@@ -14,9 +14,6 @@ use Rattle.transcript_text.proofs.HeadLaws.{number_word, small_from}
 use Rattle.transcript_text.proofs.NumberLaws.{number64_is, number32_is, number_there}
 use Rattle.transcript_text.proofs.TextLaws.{decimal_word}
 use Rattle.transcript_text.proofs.WordLaws.{words_behind}
-
-pub is_word : (word other : List ℕ) → bytes_eq word other ≡ true → word ≡ other
-is_word word other e = (bytes_eq-Decides word other).0 e
 
 decimal_10000 : decimal 10000 ≡ codes "10000"
 unfolding digits
@@ -69,14 +66,14 @@ two_found : (word second : List ℕ) (test : Bool) → bytes_eq word (codes "con
     && bytes_eq second (codes "10000")) ≡ true → HasRefusal (word ∷ second ∷ [])
 two_found word second true is e =
     let n = number_there 64 second _ refl e in
-    (ConflictAt n.0, n.1, rw (is_word word (codes "conflict") is, n.2) refl)
+    (ConflictAt n.0, n.1, rw (same_text word (codes "conflict") is, n.2) refl)
 two_found word second false is e =
     let parts = and_parts _ _ e in
-    (IsFull, tt, rw (is_word word (codes "toomanynames") parts.0, is_word second (codes "10000") parts.1) refl)
+    (IsFull, tt, rw (same_text word (codes "toomanynames") parts.0, same_text second (codes "10000") parts.1) refl)
 
 pub refusal_found : (words : Words) → is_refusal words ≡ true → HasRefusal words
 refusal_found [] e = absurd (cc)
-refusal_found (word ∷ []) e = (IsAbsent, tt, rw (is_word word (codes "absent") e) refl)
+refusal_found (word ∷ []) e = (IsAbsent, tt, rw (same_text word (codes "absent") e) refl)
 refusal_found (word ∷ second ∷ []) e = two_found word second (bytes_eq word (codes "conflict")) refl e
 refusal_found (word ∷ second ∷ third ∷ []) e =
     let parts = and_parts _ _ e in
@@ -85,6 +82,6 @@ refusal_found (word ∷ second ∷ third ∷ []) e =
     let n = number_there 32 third _ refl more.1 in (
       RefusedFor code.0 n.0,
       n.1,
-      three_words _ _ _ _ _ _ (sym (is_word word (codes "refused") parts.0)) code.1 n.2,
+      three_words _ _ _ _ _ _ (sym (same_text word (codes "refused") parts.0)) code.1 n.2,
     )
 refusal_found (word ∷ second ∷ third ∷ fourth ∷ words) e = absurd (cc)

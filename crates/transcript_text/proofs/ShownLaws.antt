@@ -3,8 +3,7 @@ use Rattle.std.specs.Prelude.{◌≡◌, ◌+◌, ◌<◌, ◌≤◌, ◌^◌, �
 use Rattle.std.specs.Fmt.{decimal}
 use Rattle.std.specs.List.{list_any}
 use Rattle.std.proofs.Common.{refl, sym, ap, subst, ◌∙◌, arith, append_assoc, length-append}
-use Rattle.std.proofs.lemmas.Bool.{and_parts, ltb-true, ltb-false}
-use Rattle.std.proofs.lemmas.Bool.Decides.{nat_tests}
+use Rattle.std.proofs.lemmas.Bool.{and_parts, ltb-true, ltb-false, le-ltb}
 use Rattle.std.proofs.lemmas.List.{length-map}
 use Rattle.std.proofs.lemmas.List.Elements.{All-nil, All-cons}
 use Rattle.std.proofs.lemmas.Slice.Eq.{bytes_eq-Decides}
@@ -14,9 +13,10 @@ use Rattle.transcript_text.specs.Transcript.{Shown, StoredAt, RemovedAt, Refuses
 use Rattle.transcript_text.specs.declared.below.Below.{Below}
 use Rattle.transcript_text.specs.declared.below.Below.TheVariants as belows
 use Rattle.dita_doc.specs.Bytes.{spaced_parts}
+use Rattle.dita_doc.proofs.Tests.{same_text}
 use Rattle.transcript_text.specs.Below.{count_of, FitFrom, IsPageText, IsFaultText, none_below, none_if, both, below_of, below_other, below_stopped, below_some, below_two, below_three, is_refusal, lone_words, numbered_words, is_among}
 use Rattle.transcript_text.proofs.NumberLaws.{number_says, number_there}
-use Rattle.transcript_text.proofs.RefusalLaws.{is_word, words_of_refusal, refusal_parts, stopped_parts, refusal_found}
+use Rattle.transcript_text.proofs.RefusalLaws.{words_of_refusal, refusal_parts, stopped_parts, refusal_found}
 use Rattle.transcript_text.proofs.WordLaws.{words_one, words_two, words_three, words_same}
 
 -- what is shown with this reply and these lines
@@ -63,17 +63,11 @@ fault_there : (test : Bool) (line : List ℕ) → MatchBool test (IsPageText lin
 fault_there true line fits e = absurd (cc)
 fault_there false line fits e = fits
 
-pub not_below : (at pages : ℕ) → pages ≤ at → nat_lt at pages ≡ false
-not_below at pages more = grind (arith, nat_tests)
-
-pub is_below : (at pages : ℕ) → at < pages → nat_lt at pages ≡ true
-is_below at pages less = grind (arith, nat_tests)
-
 faults_fit : (pages count at : ℕ) (lines : List (List ℕ)) → pages ≤ at → FitFrom (belows.Built pages count) at lines
     → HasFaults lines
 faults_fit pages count at [] past fit = record { faults = []; valid = All-nil IsFaultShown; same = refl }
 faults_fit pages count at (line ∷ lines) past fit =
-    let here = fault_there (nat_lt at pages) line fit.0 (not_below at pages past) in
+    let here = fault_there (nat_lt at pages) line fit.0 (le-ltb at pages past) in
     let rest = faults_fit pages count (at + 1) lines (omega arith) fit.1 in
     record {
       faults = here.0 ∷ rest.faults;
@@ -260,16 +254,16 @@ two_shown word second reply below lines is said fit many =
       shown = GroupedAs n.0;
       valid = n.1;
       words = ap (λ (l : List ℕ). codes "grouped " ++ l) n.2
-          ∙ ap (λ (l : List ℕ). l ++ 32 ∷ second) (sym (is_word _ _ grouped)) ∙ is;
+          ∙ ap (λ (l : List ℕ). l ++ 32 ∷ second) (sym (same_text _ _ grouped)) ∙ is;
       below = no_lines lines below test.1 many;
     })
     (λ said2. either (HasShown reply lines) (bytes_eq word (codes "text")) _ _ below said2
     (λ text found. let n = mapped belows.Texts _ below found in let says = number_says 64 n.0 second n.1 in
-    subst (λ (l : List ℕ). HasShown l lines) (ap (λ (l : List ℕ). l ++ 32 ∷ second) (sym (is_word _ _ text)) ∙ is)
+    subst (λ (l : List ℕ). HasShown l lines) (ap (λ (l : List ℕ). l ++ 32 ∷ second) (sym (same_text _ _ text)) ∙ is)
     (lines_shown n.0 second below lines says.0 says.1 n.2 fit many))
     (λ said3. either (HasShown reply lines) (bytes_eq word (codes "names")) _ _ below said3
     (λ names found. let n = mapped belows.Names _ below found in let says = number_says 64 n.0 second n.1 in
-    subst (λ (l : List ℕ). HasShown l lines) (ap (λ (l : List ℕ). l ++ 32 ∷ second) (sym (is_word _ _ names)) ∙ is)
+    subst (λ (l : List ℕ). HasShown l lines) (ap (λ (l : List ℕ). l ++ 32 ∷ second) (sym (same_text _ _ names)) ∙ is)
     (names_shown n.0 second below lines says.0 says.1 n.2 fit many))
     (λ none. absurd (no_such below none)))))
 
@@ -306,7 +300,7 @@ three_shown word second third reply below lines is said fit many =
     (λ built found. let n = both_there _ _ below found in let first = number_says 64 n.0 second n.2
     in let last = number_says 64 n.1 third n.3 in
     subst (λ (l : List ℕ). HasShown l lines)
-    (ap (λ (l : List ℕ). l ++ 32 ∷ (second ++ 32 ∷ third)) (sym (is_word _ _ built)) ∙ is)
+    (ap (λ (l : List ℕ). l ++ 32 ∷ (second ++ 32 ∷ third)) (sym (same_text _ _ built)) ∙ is)
     (pages_shown n.0 n.1 second third below lines first.0 last.0 first.1 last.1 n.4 fit many))
     (λ none. absurd (no_such below none))
 
@@ -365,7 +359,7 @@ other_reply_shown reply (word ∷ []) below lines is said fit many =
 other_reply_shown reply (word ∷ second ∷ words) below lines is said fit many =
     either (HasShown reply lines) (bytes_eq word (codes "stopped")) _ _ below said
     (λ stopped found. stopped_shown second reply words below lines
-    (is ∙ ap (λ (w : List ℕ). w ∷ second ∷ words) (is_word _ _ stopped)) found many)
+    (is ∙ ap (λ (w : List ℕ). w ∷ second ∷ words) (same_text _ _ stopped)) found many)
     (λ said1. some_shown word second reply words below lines is said1 fit many)
 
 shown_by : (reply : List ℕ) (words : List (List ℕ)) (below : Below) (lines : List (List ℕ))

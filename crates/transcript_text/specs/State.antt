@@ -7,8 +7,8 @@ use Rattle.transcript_text.specs.declared.below.Below.{Below}
 use Rattle.transcript_text.specs.declared.transcript.EntryText.{EntryText}
 use Rattle.transcript_text.specs.declared.transcript.RowText.{RowText}
 use Rattle.transcript_text.specs.declared.transcript.Transcript.{Transcript}
-use Rattle.transcript_text.specs.declared.state.State.{State}
-use Rattle.transcript_text.specs.declared.state.State.TheVariants.{Start, Entries, Entry, Rows, Row, End}
+use Rattle.transcript_text.specs.declared.state.ReadState.{ReadState}
+use Rattle.transcript_text.specs.declared.state.ReadState.TheVariants.{Start, Entries, Entry, Rows, Row, End}
 use Rattle.transcript_text.specs.Below.{count_of, FitFrom}
 use Rattle.transcript_text.specs.Heads.{IsEntryLine, IsRowLine, part_seen}
 use Rattle.transcript_text.specs.Words.{TextLines}
@@ -78,7 +78,7 @@ pub record HasAll (transcript : Transcript) (read : TextLines) : Type 0 where
   pub same : transcript.total ≡ (totals.entries, totals.made, totals.dropped)
   pub lines : read ≡ before ++ end_head totals ∷ []
 
-abbrev pub HasRead : State → TextLines → Type 0
+abbrev pub HasRead : ReadState → TextLines → Type 0
 HasRead Start read = read ≡ []
 HasRead (Entries entries) read = HasEntries entries read
 HasRead (Entry entries opened below) read =
@@ -129,7 +129,7 @@ pub record MayRowLines (left serial : ℕ) (more : TextLines) : Type 0 where
 abbrev pub MayStart : TextLines → Type 0
 MayStart more = (back : TextLines) × (more ≡ first_line ∷ back) × MayEntries back
 
-abbrev pub May : State → TextLines → Type 0
+abbrev pub May : ReadState → TextLines → Type 0
 May Start more = MayStart more
 May (Entries entries) more = MayEntries more
 May (Entry entries opened below) more =

@@ -7,10 +7,10 @@ ghost use Rattle.dita_doc.specs.declared.stop.Stop.TheVariants as stop_spec;
 ghost use Rattle.transcript_text.specs.Read as read_spec;
 ghost use Rattle.transcript_text.specs.State as state_spec;
 ghost use Rattle.transcript_text.specs.Words.{TextLines};
-ghost use Rattle.transcript_text.specs.declared.state.State.TheVariants as states_spec;
+ghost use Rattle.transcript_text.specs.declared.state.ReadState.TheVariants as states_spec;
 ghost use Rattle.transcript_text.specs.declared.transcript.Transcript.{Transcript as AllRead};
 
-use crate::state::State;
+use crate::state::ReadState;
 use crate::transcript::{BadTranscript, Transcript};
 use dita_doc::{Stop, split_at_first};
 use std::alloc::Global;
@@ -26,7 +26,7 @@ pub fn read_transcript(alloc: Global, bytes: &[u8]) -> Result<Transcript, Stop<B
     ensures read { IfOk result (λ transcript. read_spec.IsRead transcript bytes.now) }
     ensures refused { IfErr result (λ stop. read_spec.IsFaultOf stop bytes.now) }
 {
-    let mut state = State::Start;
+    let mut state = ReadState::Start;
     let mut rest = bytes;
     let mut number = 0;
     while let Some((line, behind)) = split_at_first(rest, b'\n') {
@@ -43,10 +43,10 @@ pub fn read_transcript(alloc: Global, bytes: &[u8]) -> Result<Transcript, Stop<B
 // The state behind the line of this number, if it may stand there.
 fn state_behind(
     alloc: Global,
-    state: State,
+    state: ReadState,
     line: &[u8],
     number: usize,
-) -> Result<State, Stop<BadTranscript>>
+) -> Result<ReadState, Stop<BadTranscript>>
     requires { cut_spec.Lacks bytes_spec.line_feed line.now }
     ensures sound { (read : TextLines) → state_spec.HasRead state read →
         IfOk result (λ next. state_spec.HasRead next (read ++ line.now ∷ [])) }
@@ -63,14 +63,14 @@ fn state_behind(
 }
 
 // The transcript, if all of it was read with the line of this number.
-fn whole(state: State, number: usize) -> Result<Transcript, Stop<BadTranscript>>
+fn whole(state: ReadState, number: usize) -> Result<Transcript, Stop<BadTranscript>>
     ensures read { IfOk result (λ transcript. state ≡ states_spec.End transcript) }
     ensures refused { IfErr result
         (λ stop. (transcript : AllRead) → state ≡ states_spec.End transcript → ⊥) }
     ensures named { IfErr result (λ stop. read_spec.IsLine stop number) }
 {
     match state {
-        State::End(transcript) => Ok(transcript),
+        ReadState::End(transcript) => Ok(transcript),
         _ => Err(bad_at(number)),
     }
 }

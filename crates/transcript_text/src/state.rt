@@ -22,7 +22,7 @@ use std::alloc::{AllocError, Global};
 
 /// What was read of a transcript.
 #[derive(Drop)]
-pub enum State {
+pub enum ReadState {
     /// Nothing.
     Start,
     /// Whole entries.
@@ -37,9 +37,9 @@ pub enum State {
     End(Transcript),
 }
 
-impl State {
+impl ReadState {
     /// Takes the next line, without its LF. The answer is `None` if the line may not stand there.
-    pub fn next(self, alloc: Global, line: &[u8]) -> Result<Option<State>, AllocError>
+    pub fn next(self, alloc: Global, line: &[u8]) -> Result<Option<ReadState>, AllocError>
         requires { cut_spec.Lacks bytes_spec.line_feed line.now }
         ensures sound { (read : TextLines) → state_spec.HasRead self read →
             IfOk result (λ next. IfSome next
@@ -48,25 +48,27 @@ impl State {
             IfOk result (λ next. MatchOption next ⊥ (λ state. state_spec.May state more)) }
     {
         match self {
-            State::Start => Ok(start(alloc, line)),
-            State::Entries(entries) => entry_or_row(alloc, entries, line),
-            State::Entry(entries, opened, below) => entry_text(alloc, entries, opened, below, line),
-            State::Rows(entries, rows, last) => row_or_end(alloc, entries, rows, last, line),
-            State::Row(entries, rows, opened, left) => {
+            ReadState::Start => Ok(start(alloc, line)),
+            ReadState::Entries(entries) => entry_or_row(alloc, entries, line),
+            ReadState::Entry(entries, opened, below) => entry_text(
+                alloc, entries, opened, below, line,
+            ),
+            ReadState::Rows(entries, rows, last) => row_or_end(alloc, entries, rows, last, line),
+            ReadState::Row(entries, rows, opened, left) => {
                 row_text(entries, rows, opened, left, line)
             }
-            State::End(_) => Ok(None),
+            ReadState::End(_) => Ok(None),
         }
     }
 }
 
-fn start(alloc: Global, line: &[u8]) -> Option<State>
+fn start(alloc: Global, line: &[u8]) -> Option<ReadState>
     ensures sound { IfSome result (λ state. state_spec.HasRead state (line.now ∷ [])) }
     ensures complete { (more : TextLines) → state_spec.MayStart (line.now ∷ more) →
         MatchOption result ⊥ (λ state. state_spec.May state more) }
 {
     if line == b"dita transcript 1".as_slice() {
-        Some(State::Entries(List::new(alloc)))
+        Some(ReadState::Entries(List::new(alloc)))
     } else {
         None
     }
@@ -76,7 +78,7 @@ fn entry_or_row(
     alloc: Global,
     entries: List<EntryText>,
     line: &[u8],
-) -> Result<Option<State>, AllocError>
+) -> Result<Option<ReadState>, AllocError>
     ensures sound { (read : TextLines) → state_spec.HasEntries entries read →
         IfOk result (λ next. IfSome next
         (λ state. state_spec.HasRead state (read ++ line.now ∷ []))) }
@@ -116,7 +118,7 @@ fn with_entry(
     entries: List<EntryText>,
     opened: EntryText,
     below: Below,
-) -> Result<State, AllocError>
+) -> Result<ReadState, AllocError>
     ensures sound { (read : TextLines) → state_spec.HasOpenEntry entries opened below read →
         IfOk result (λ state. state_spec.HasRead state read) }
     ensures complete { (more : TextLines) →
@@ -126,9 +128,9 @@ fn with_entry(
     if is_whole(below, opened.lines.len()) {
         let mut entries = entries;
         entries.push(opened)?;
-        Ok(State::Entries(entries))
+        Ok(ReadState::Entries(entries))
     } else {
-        Ok(State::Entry(entries, opened, below))
+        Ok(ReadState::Entry(entries, opened, below))
     }
 }
 
@@ -150,7 +152,7 @@ fn entry_text(
     opened: EntryText,
     below: Below,
     line: &[u8],
-) -> Result<Option<State>, AllocError>
+) -> Result<Option<ReadState>, AllocError>
     requires { cut_spec.Lacks bytes_spec.line_feed line.now }
     ensures sound { (read : TextLines) → state_spec.HasOpenEntry entries opened below read →
         length opened.lines < below_spec.count_of below →
@@ -199,7 +201,7 @@ fn row_or_end(
     rows: List<RowText>,
     last: u64,
     line: &[u8],
-) -> Result<Option<State>, AllocError>
+) -> Result<Option<ReadState>, AllocError>
     ensures sound { (read : TextLines) → state_spec.HasRows entries rows last read →
         IfOk result (λ next. IfSome next
         (λ state. state_spec.HasRead state (read ++ line.now ∷ []))) }
@@ -215,7 +217,7 @@ fn row_or_end(
             Ok(Some(with_row(entries, rows, opened, row.count)?))
         }
         None => match read_end_line(line) {
-            Some(total) => Ok(Some(State::End(Transcript {
+            Some(total) => Ok(Some(ReadState::End(Transcript {
                 entries,
                 rows,
                 total,
@@ -267,7 +269,7 @@ fn with_row(
     rows: List<RowText>,
     opened: RowText,
     left: u64,
-) -> Result<State, AllocError>
+) -> Result<ReadState, AllocError>
     ensures sound { (read : TextLines) → state_spec.HasOpenRow entries rows opened left read →
         IfOk result (λ state. state_spec.HasRead state read) }
     ensures complete { (more : TextLines) → state_spec.MayRowLines left opened.serial more →
@@ -277,9 +279,9 @@ fn with_row(
         let last = opened.serial;
         let mut rows = rows;
         rows.push(opened)?;
-        Ok(State::Rows(entries, rows, last))
+        Ok(ReadState::Rows(entries, rows, last))
     } else {
-        Ok(State::Row(entries, rows, opened, left))
+        Ok(ReadState::Row(entries, rows, opened, left))
     }
 }
 
@@ -290,7 +292,7 @@ fn row_text(
     opened: RowText,
     left: u64,
     line: &[u8],
-) -> Result<Option<State>, AllocError>
+) -> Result<Option<ReadState>, AllocError>
     requires { cut_spec.Lacks bytes_spec.line_feed line.now }
     ensures sound { (read : TextLines) → state_spec.HasOpenRow entries rows opened left read →
         0 < left →

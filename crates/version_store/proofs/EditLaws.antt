@@ -12,7 +12,7 @@ use Rattle.dita_doc.specs.Bytes.{Bytes}
 use Rattle.dita_doc.specs.declared.fault.PyxFault.{PyxFault}
 use Rattle.dita_doc.specs.Pyx.{document_of}
 use Rattle.dita_doc.specs.Request.{Edit, Put, PutIf, Remove}
-use Rattle.dita_doc.specs.Desk.{Stored, State, found, version_at, with_stored, without_name, stored_limit, store_reply, unless_refused, Reply, IsStored, TooManyNames, IsRefused, Conflict, remove_reply, nodes_in, edit_reply, after_edit, next_edit, after_edits, edit_replies, Refusal, refusal_in, Halt, halt_at, first_halt}
+use Rattle.dita_doc.specs.Desk.{Stored, State, stored_under, version_at, with_stored, without_name, stored_limit, store_reply, unless_refused, Reply, IsStored, TooManyNames, IsRefused, Conflict, remove_reply, nodes_in, edit_reply, after_edit, next_edit, after_edits, edit_replies, Refusal, refusal_in, Halt, halt_at, first_halt}
 use Rattle.version_store.specs.Entries.{edited_name, is_of, last_of, EditPuts}
 use Rattle.version_store.proofs.FoundLaws.{found_with_same, found_with_other, found_without_same, found_without_other}
 
@@ -22,7 +22,7 @@ put_at place name body = record { name = name; nodes = nodes_in (document_of bod
 
 -- there is room for one more name, or this one is there
 abbrev pub HasRoom : State → Bytes → Type 0
-HasRoom state name = (nat_le stored_limit (length state) && not (is_some (found state name))) ≡ false
+HasRoom state name = (nat_le stored_limit (length state) && not (is_some (stored_under state name))) ≡ false
 
 -- the edit stores a text that there is room for
 pub record DoesStore (state after : State) (place : ℕ) (edit : Edit) : Type 0 where
@@ -54,11 +54,11 @@ does_store : (state : State) (place : ℕ) (edit : Edit) (name body : Bytes) →
     → after_edit state edit (TooManyNames stored_limit) ≡ state
     → IsOk (document_of body) → Does state place edit (store_reply state place name)
 does_store state place edit name body named puts stored full read =
-    let by_room : (nat_le stored_limit (length state) && not (is_some (found state name)))
-    ≡ (nat_le stored_limit (length state) && not (is_some (found state name)))
+    let by_room : (nat_le stored_limit (length state) && not (is_some (stored_under state name)))
+    ≡ (nat_le stored_limit (length state) && not (is_some (stored_under state name)))
     → Does state place edit (store_reply state place name) =
-    elim (nat_le stored_limit (length state) && not (is_some (found state name)))
-    as (λ b. (nat_le stored_limit (length state) && not (is_some (found state name))) ≡ b
+    elim (nat_le stored_limit (length state) && not (is_some (stored_under state name)))
+    as (λ b. (nat_le stored_limit (length state) && not (is_some (stored_under state name))) ≡ b
     → Does state place edit (cond b (TooManyNames stored_limit) (IsStored (place + 1)))) [
       | true ↦ λ e. inr (inr (record { refused = refl; leaves = full }))
       | false ↦ λ e. inl (record {
@@ -106,7 +106,7 @@ edit_does state place (PutIf version name body) =
       | false ↦ inr (inr (record { refused = refl; leaves = refl }))
     ])
 edit_does state place (Remove name) =
-    elim (found state name) as (λ hit. Does state place (Remove name) (remove_reply hit)) [
+    elim (stored_under state name) as (λ hit. Does state place (Remove name) (remove_reply hit)) [
       | None ↦ inr (inr (record { refused = refl; leaves = refl }))
       | Some stored ↦ inr (inl (record { leaves = refl }))
     ]
@@ -125,22 +125,22 @@ pub record IsPut (place : ℕ) (edit : Edit) (name : Bytes) (stored : Stored) : 
 -- the document stood there, and an edit that is not refused is of another name
 pub record Stood (state : State) (edit : Edit) (answer : Reply) (name : Bytes) (stored : Stored) : Type 0 where
   pub other : refusal_in answer ≡ None → is_of name edit ≡ false
-  pub stood : found state name ≡ Some stored
+  pub stood : stored_under state name ≡ Some stored
 
 not_refused : (answer : Reply) → IsSome (refusal_in answer) → refusal_in answer ≡ None → ⊥
 not_refused answer refused none = false≢true (sym (ap is_some none) ∙ refused)
 
 is_put : (state : State) (place : ℕ) (edit : Edit) (name : Bytes) (stored : Stored) → is_of name edit ≡ true
     → (does : DoesStore state (next_edit state place edit) place edit)
-    → found (next_edit state place edit) name ≡ Some stored → IsPut place edit name stored
+    → stored_under (next_edit state place edit) name ≡ Some stored → IsPut place edit name stored
 is_put state place edit name stored of does is =
     let new = put_at place does.name does.bytes in
     let same : does.name ≡ name = sym does.named ∙ (bytes_decides (edited_name edit) name).0 of in
     let e : new ≡ stored =
     same_Some new stored
     (sym (found_with_same new state)
-    ∙ ap (found (with_stored new state)) same
-    ∙ ap (λ (s : State). found s name) (sym does.leaves)
+    ∙ ap (stored_under (with_stored new state)) same
+    ∙ ap (λ (s : State). stored_under s name) (sym does.leaves)
     ∙ is) in
     subst (IsPut place edit name) e (record {
       named = same;
@@ -152,7 +152,7 @@ is_put state place edit name stored of does is =
     })
 
 pub edit_found : (state : State) (place : ℕ) (edit : Edit) (name : Bytes) (stored : Stored)
-    → found (next_edit state place edit) name ≡ Some stored
+    → stored_under (next_edit state place edit) name ≡ Some stored
     → Stood state edit (edit_reply state place edit) name stored ⊎ IsPut place edit name stored
 edit_found state place edit name stored is =
     let after = next_edit state place edit in
@@ -163,12 +163,12 @@ edit_found state place edit name stored is =
       | inl does ↦ inr (is_put state place edit name stored of does is)
       | inr (inl does) ↦ absurd (none-some stored
           (sym (found_without_same (edited_name edit) state)
-          ∙ ap (found (without_name (edited_name edit) state)) ((bytes_decides (edited_name edit) name).0 of)
-          ∙ ap (λ (s : State). found s name) (sym does.leaves)
+          ∙ ap (stored_under (without_name (edited_name edit) state)) ((bytes_decides (edited_name edit) name).0 of)
+          ∙ ap (λ (s : State). stored_under s name) (sym does.leaves)
           ∙ is))
       | inr (inr does) ↦ inl (record {
         other = λ none. absurd (not_refused answer does.refused none);
-        stood = sym (ap (λ (s : State). found s name) does.leaves) ∙ is;
+        stood = sym (ap (λ (s : State). stored_under s name) does.leaves) ∙ is;
       })
     ] in
     let of_other : is_of name edit ≡ false → Goal =
@@ -181,19 +181,19 @@ edit_found state place edit name stored is =
         stood =
             sym (found_with_other (put_at place does.name does.bytes) state name
             (λ same. differs (does.named ∙ same)))
-            ∙ ap (λ (s : State). found s name) (sym does.leaves)
+            ∙ ap (λ (s : State). stored_under s name) (sym does.leaves)
             ∙ is;
       })
       | inr (inl does) ↦ inl (record {
         other = λ none. of;
         stood =
             sym (found_without_other (edited_name edit) state name differs)
-            ∙ ap (λ (s : State). found s name) (sym does.leaves)
+            ∙ ap (λ (s : State). stored_under s name) (sym does.leaves)
             ∙ is;
       })
       | inr (inr does) ↦ inl (record {
         other = λ none. of;
-        stood = sym (ap (λ (s : State). found s name) does.leaves) ∙ is;
+        stood = sym (ap (λ (s : State). stored_under s name) does.leaves) ∙ is;
       })
     ] in
     let by_name : is_of name edit ≡ is_of name edit → Goal =
@@ -246,8 +246,8 @@ none_of_both number (Some refusal) later is = cc
 -- name put it there
 pub edits_found : (edits : List Edit) (number : ℕ) (state : State) (place : ℕ) (name : Bytes) (stored : Stored)
     → first_halt number (edit_replies state place edits) ≡ None
-    → found (after_edits state place edits) name ≡ Some stored
-    → ((last_of name edits ≡ None) × (found state name ≡ Some stored)) ⊎ IsLastPut place edits name stored
+    → stored_under (after_edits state place edits) name ≡ Some stored
+    → ((last_of name edits ≡ None) × (stored_under state name ≡ Some stored)) ⊎ IsLastPut place edits name stored
 edits_found [] number state place name stored none is = inl (refl, is)
 edits_found (edit ∷ edits) number state place name stored none is =
     let after = next_edit state place edit in

@@ -7,8 +7,9 @@ use Rattle.std.proofs.lemmas.Option.{none-some, same_Some}
 use Rattle.std.proofs.lemmas.Bool.Decides.{nat_tests}
 use Rattle.dita_doc.specs.Pyx.{document_of}
 use Rattle.dita_doc.specs.Request.{Edit, Request, text_size, Single, Get, Names, Build, Group}
-use Rattle.dita_doc.specs.Desk.{Stored, State, IsSortedByName, found, with_stored, without_name, stored_limit, reply, nodes_in, next_edit, after_edits, halt_of, unless_halted, next}
+use Rattle.dita_doc.specs.Desk.{Stored, State, IsSortedByName, stored_under, with_stored, without_name, stored_limit, reply, nodes_in, next_edit, after_edits, halt_of, unless_halted, next}
 use Rattle.dita_doc.specs.History.{Entry, replay, AreLegal, sources, history_size}
+use Rattle.dita_doc.proofs.Lists.{get_front, get_pushed}
 use Rattle.dita_doc.proofs.NameOrder.{sorted_with, sorted_without}
 use Rattle.version_store.specs.Entries.{Puts, ComesFrom, edited_name}
 use Rattle.version_store.proofs.EditLaws.{put_at, HasRoom, edit_does, edit_found, edits_found}
@@ -137,7 +138,7 @@ room_or_there limit n true e = inr refl
 room_or_there limit n false e = inl (grind (arith, nat_tests))
 
 few_stored : (limit : ℕ) (new : Stored) (state : State) → IsSortedByName state → length state ≤ limit
-    → (length state < limit) ⊎ (is_some (found state new.name) ≡ true) → length (with_stored new state) ≤ limit
+    → (length state < limit) ⊎ (is_some (stored_under state new.name) ≡ true) → length (with_stored new state) ≤ limit
 few_stored limit new state sorted few (inl less) = omega (arith, length_with new state)
 few_stored limit new state sorted few (inr there) = omega (arith, length_with_found new state sorted there)
 
@@ -154,7 +155,7 @@ few_next state place request sorted few =
     (λ state name body is read room. record {
       sorted = sorted_with (put_at place name body) state is.sorted;
       few = few_stored stored_limit (put_at place name body) state is.sorted is.few
-          (room_or_there stored_limit (length state) (is_some (found state name)) room);
+          (room_or_there stored_limit (length state) (is_some (stored_under state name)) room);
     })
     (λ state name is. record {
       sorted = sorted_without name state is.sorted;
@@ -173,17 +174,6 @@ few_replay state place (entry ∷ history) sorted few =
 pub few_sources : (history : List Entry) (n : ℕ) → length (sources history n) ≤ stored_limit
 few_sources history n = few_replay [] 0 (take n history) tt (omega arith)
 
--- entries are kept behind which others come, and stand in the whole of which they are the first
-slice_get-append : {X : Type 0} (front back : List X) (n : ℕ) (x : X) → slice_get front n ≡ Some x
-    → slice_get (front ++ back) n ≡ Some x
-slice_get-append [] back n x is = absurd (none-some x is)
-slice_get-append (y ∷ front) back zero x is = is
-slice_get-append (y ∷ front) back (suc n) x is = slice_get-append front back n x is
-
-pub slice_get-end : {X : Type 0} (front : List X) (x : X) → slice_get (front ++ x ∷ []) (length front) ≡ Some x
-slice_get-end [] x = refl
-slice_get-end (y ∷ front) x = slice_get-end front x
-
 pub slice_get-take : {X : Type 0} (xs : List X) (m n : ℕ) (x : X) → slice_get (take m xs) n ≡ Some x
     → slice_get xs n ≡ Some x
 slice_get-take xs zero n x is = absurd (none-some x is)
@@ -197,7 +187,7 @@ from_more history more stored from = record {
   place = from.place;
   entry = from.entry;
   version = from.version;
-  stands = slice_get-append history more from.place from.entry from.stands;
+  stands = get_front history more from.place from.entry from.stands;
   puts = from.puts;
   read = from.read;
   nodes = from.nodes;
@@ -205,7 +195,8 @@ from_more history more stored from = record {
 
 -- each document that is found comes from one of these entries
 abbrev AllFrom : List Entry → State → Type 0
-AllFrom entries state = (name : List ℕ) (stored : Stored) → found state name ≡ Some stored → ComesFrom entries stored
+AllFrom entries state = (name : List ℕ) (stored : Stored) → stored_under state name ≡ Some stored
+    → ComesFrom entries stored
 
 -- what the last entry put comes from it
 from_last : (earlier : List Entry) (entry : Entry) (request : Request) (name : List ℕ) (stored : Stored)
@@ -216,7 +207,7 @@ from_last earlier entry request name stored asks named puts version read nodes =
   place = length earlier;
   entry = entry;
   version = version;
-  stands = slice_get-end earlier entry;
+  stands = get_pushed earlier entry;
   puts = subst (λ (r : Request). Puts r stored.name stored.bytes) (sym asks)
       (subst (λ (n : List ℕ). Puts request n stored.bytes) (sym named) puts);
   read = read;
@@ -240,9 +231,9 @@ from_request earlier entry state (Build root val) asks every name stored is =
 from_request earlier entry state (Group edits) asks every name stored is =
     let place = length earlier in
     let by_halt : halt_of state place edits ≡ halt_of state place edits
-    → found (next state place (Group edits)) name ≡ Some stored → ComesFrom (earlier ++ entry ∷ []) stored =
+    → stored_under (next state place (Group edits)) name ≡ Some stored → ComesFrom (earlier ++ entry ∷ []) stored =
     elim (halt_of state place edits) as (λ halt. halt_of state place edits ≡ halt
-    → found (unless_halted halt (after_edits state place edits) state) name ≡ Some stored
+    → stored_under (unless_halted halt (after_edits state place edits) state) name ≡ Some stored
     → ComesFrom (earlier ++ entry ∷ []) stored) [
       | None ↦ λ none there. elim (edits_found edits 1 state place name stored none there) [
         | inl before ↦ from_more earlier (entry ∷ []) stored (every name stored before.1)
@@ -268,6 +259,6 @@ from_replay earlier (entry ∷ entries) state every =
     (append_assoc earlier (entry ∷ []) entries) placed
 
 pub from_sources : (history : List Entry) (n : ℕ) (name : List ℕ) (stored : Stored)
-    → found (sources history n) name ≡ Some stored → ComesFrom (take n history) stored
+    → stored_under (sources history n) name ≡ Some stored → ComesFrom (take n history) stored
 from_sources history n name stored is =
     from_replay [] (take n history) [] (λ name stored is. absurd (none-some stored is)) name stored is

@@ -1,5 +1,4 @@
 -- What is kept after one more request.
-use Rattle.std.specs.Prelude.{Result, Ok, Err, OnErr}
 use Rattle.std.proofs.Common.{◌≡◌, ℕ, ◌+◌, Option, List, [], ◌∷◌, ◌++◌, length, map, sym, ap, ◌∙◌, arith, subst, length-append}
 use Rattle.std.proofs.lemmas.List.{map_push}
 use Rattle.dita_doc.specs.Request.{text_size}
@@ -66,8 +65,3 @@ kept_grown state after size more entry_limit text_limit kept entries grown entry
     (subst (λ (k : Kept). Fits k request) (sym view) fits)
     (answered ∙ ap (λ (k : Kept). reply_now k request) (sym view))
     (subst (λ (k : Kept). IsLeft k request (reply_seen entry.reply) left) (sym view) leaves) changed large)
-
--- what holds anyway holds if a call fails
-pub on_err_too : {T E P : Type 0} (result : Result T E) → P → OnErr result P
-on_err_too (Ok x) p = tt
-on_err_too (Err e) p = p

@@ -15,7 +15,7 @@ use std::sync::Arc;
 
 /// A reply, with the sources that a group leaves if it is done.
 #[derive(Drop)]
-pub struct Answer {
+pub struct Decided {
     pub reply: Reply,
     pub left: Option<Arc<Sources>>,
 }
@@ -26,7 +26,7 @@ pub fn answer_to(
     sources: &Arc<Sources>,
     place: u64,
     request: &Request,
-) -> Result<Answer, AllocError>
+) -> Result<Decided, AllocError>
     requires place { place + 1 < 2 ^ 64 }
     requires origin { seen_spec.HasOwnOrigin request.now }
     requires edits { request_spec.HasFewEdits (seen_spec.request_seen request.now) }
@@ -51,8 +51,8 @@ pub fn answer_to(
 }
 
 // The reply alone: what it says is done in place.
-fn alone(reply: Reply) -> Answer
+fn alone(reply: Reply) -> Decided
     ensures { result ≡ record { reply = reply; left = None } }
 {
-    Answer { reply, left: None }
+    Decided { reply, left: None }
 }

@@ -7,7 +7,7 @@ ghost use Rattle.dita_doc.specs.Desk as desk_spec;
 ghost use Rattle.dita_doc.specs.Seen as seen_spec;
 ghost use Rattle.version_store.specs.Change as change_spec;
 
-use dita_doc::{Body, Document, Edit, Name, Reply, Request, Sources};
+use dita_doc::{Body, Edit, Name, Reply, Request, Sources, StoredDoc};
 use std::alloc::AllocError;
 use std::sync::Arc;
 
@@ -93,7 +93,7 @@ fn store(
     ensures err { OnErr result (arc_value sources.new ≡ arc_value sources.old) }
 {
     let Ok(doc) = &body.read else { unreachable!() };
-    let document = Document {
+    let document = StoredDoc {
         name: name.clone()?,
         version,
         bytes: Arc::try_clone(&body.bytes)?,

@@ -8,7 +8,7 @@ ghost use Rattle.dita_doc.specs.Desk as desk_spec;
 ghost use Rattle.dita_doc.specs.Seen as seen_spec;
 ghost use Rattle.version_store.specs.Change as change_spec;
 
-use crate::answer::Answer;
+use crate::answer::Decided;
 use crate::change::edit_in_place;
 use crate::reply::edit_reply;
 use dita_doc::{Edit, EditFault, Reply, Sources};
@@ -17,7 +17,7 @@ use std::sync::Arc;
 
 /// Tries the edits of a group at a place on a share of the sources, which is put away if one of
 /// them is refused. It is a copy from the first edit on that changes it.
-pub fn try_group(sources: &Arc<Sources>, place: u64, edits: &[Edit]) -> Result<Answer, AllocError>
+pub fn try_group(sources: &Arc<Sources>, place: u64, edits: &[Edit]) -> Result<Decided, AllocError>
     requires place { place + 1 < 2 ^ 64 }
     requires few { length edits.now ≤ request_spec.edit_limit }
     requires origin { All seen_spec.IsOwnEdit edits.now }
@@ -35,13 +35,13 @@ pub fn try_group(sources: &Arc<Sources>, place: u64, edits: &[Edit]) -> Result<A
     for edit in edits {
         number += 1;
         if let Some(fault) = try_edit(&mut tried, place, edit)? {
-            return Ok(Answer {
+            return Ok(Decided {
                 reply: Reply::Stopped(number, fault),
                 left: None,
             });
         }
     }
-    Ok(Answer {
+    Ok(Decided {
         reply: Reply::Grouped(number),
         left: Some(tried),
     })

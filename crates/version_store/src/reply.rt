@@ -67,7 +67,7 @@ fn store_reply(sources: &Sources, place: u64, name: &Name) -> Reply
 // Whether the names are as many as may be, and this is none of them.
 fn has_no_room(sources: &Sources, name: &Name) -> bool
     ensures { result ≡ (nat_le desk_spec.stored_limit (length sources.now)
-        && not (is_some (desk_spec.found sources.now name.now))) }
+        && not (is_some (desk_spec.stored_under sources.now name.now))) }
 {
     sources.names() >= u64::from(STORED_LIMIT) && sources.find(name).is_none()
 }
@@ -84,7 +84,7 @@ fn version_under(sources: &Sources, name: &Name) -> u64
 /// The reply to a removal.
 pub fn remove_reply(sources: &Sources, name: &Name) -> Reply
     ensures { seen_spec.reply_seen result
-        ≡ desk_spec.remove_reply (desk_spec.found sources.now name.now) }
+        ≡ desk_spec.remove_reply (desk_spec.stored_under sources.now name.now) }
 {
     match sources.find(name) {
         Some(document) => Reply::Removed(document.version),
@@ -95,7 +95,7 @@ pub fn remove_reply(sources: &Sources, name: &Name) -> Reply
 /// The reply to a get.
 pub fn get_reply(sources: &Sources, name: &Name) -> Result<Reply, AllocError>
     ensures { IfOk result (λ answer. seen_spec.reply_seen answer
-        ≡ desk_spec.get_reply (desk_spec.found sources.now name.now)) }
+        ≡ desk_spec.get_reply (desk_spec.stored_under sources.now name.now)) }
 {
     match sources.find(name) {
         Some(document) => Ok(Reply::Bytes(Arc::try_clone(&document.bytes)?)),

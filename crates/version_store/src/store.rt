@@ -9,7 +9,7 @@ ghost use Rattle.dita_doc.specs.Seen as seen_spec;
 ghost use Rattle.version_store.specs.Change as change_spec;
 ghost use Rattle.version_store.specs.Kept as kept_spec;
 
-use crate::answer::{Answer, answer_to};
+use crate::answer::{Decided, answer_to};
 use crate::change::change;
 use crate::full::Full;
 use crate::reply::copy_of;
@@ -95,7 +95,7 @@ impl Store {
         ensures full { IfErr result
             (kept_spec.IsFullIf self.old (seen_spec.request_seen request)) }
     {
-        let Answer { reply, left } = self.answer_to(alloc, &request)?;
+        let Decided { reply, left } = self.answer_to(alloc, &request)?;
         let entry = Entry {
             session,
             number,
@@ -131,7 +131,7 @@ impl Store {
         ensures full { IfErr result
             (kept_spec.IsFullIf self.old (seen_spec.request_seen request)) }
     {
-        let Answer { reply, left } = self.answer_to(alloc, &request)?;
+        let Decided { reply, left } = self.answer_to(alloc, &request)?;
         let copy = copy_of(alloc, &reply)?;
         let entry = Entry {
             session,
@@ -169,7 +169,7 @@ impl Store {
     }
 
     // The answer to one more request, if there is room for it.
-    fn answer_to(&self, alloc: Global, request: &Request) -> Result<Answer, Stop<Full>>
+    fn answer_to(&self, alloc: Global, request: &Request) -> Result<Decided, Stop<Full>>
         requires origin { seen_spec.HasOwnOrigin request.now }
         requires edits { request_spec.HasFewEdits (seen_spec.request_seen request.now) }
         ensures reply { IfOk result (λ answer. seen_spec.reply_seen answer.reply

@@ -6,7 +6,7 @@ use Rattle.std.specs.Prelude.{◌≡◌, ℕ, Bool, true, false, List, [], ◌�
 use Rattle.std.specs.Str.{is_utf8, chars}
 use Rattle.std.proofs.Common.{ap, ◌∙◌}
 use lib.Utf8.{encode}
-use Rattle.build_spec.specs.Built.{Built, Page, Done}
+use Rattle.build_spec.specs.Built.{BuildOutcome, Page, Done}
 use Rattle.dita_doc.specs.Desk.{State, Reply, IsStored, Begun, reply, next}
 use Rattle.dita_doc.specs.Lines.{line}
 use Rattle.dita_doc.specs.Pyx.{document_of}
@@ -66,7 +66,7 @@ abbrev page : List ℕ
 page = lines ("<!DOCTYPE html>" ∷ "<html><head><meta charset=\"utf-8\"><title>Contents</title></head>" ∷ "<body>"
     ∷ "<nav class=\"toc\"><h1>Contents</h1></nav>" ∷ "</body></html>" ∷ [])
 
-abbrev build : Built
+abbrev build : BuildOutcome
 build = Done ((codes "index.html", page) ∷ []) []
 
 its_build : clean_build (world_of stored) in_m None ≡ build
@@ -79,7 +79,7 @@ unfolding clean_terms plan_of map_included page_part page_content all_pushes con
 its_terms = refl
 
 -- the run, with this reply to the put, this build and this page of terms
-abbrev run_with : Bool → Reply → Built → Option Page → CleanRun
+abbrev run_with : Bool → Reply → BuildOutcome → Option Page → CleanRun
 run_with with_terms answer build terms = run_answered with_terms (record {
   entry = record { session = 1; number = 1; request = put; reply = answer };
   built = None;
@@ -108,7 +108,7 @@ shown true = refl
 its_run : (with_terms : Bool) → run_over with_terms script ≡ run
 unfolding run_over
 its_run with_terms =
-    let built : State → Built = λ state. clean_build (world_of state) in_m None in
+    let built : State → BuildOutcome = λ state. clean_build (world_of state) in_m None in
     let terms : State → Option Page = λ state. option_map page_of_terms (clean_terms (world_of state) in_m None) in
     ap (run_of with_terms) its_steps
     ∙ ap (λ state. run_with with_terms (reply [] 0 put) (built state) (terms state)) map_stored

@@ -14,8 +14,8 @@ use Rattle.xref_links.specs.Adding.{HasKey, HasMore, IsGiven, IsKeyed, alone, el
 use Rattle.xref_links.specs.Types.{AreTypes}
 use Rattle.xref_links.specs.declared.keyed.Keyed.{Keyed}
 use Rattle.xref_links.specs.declared.made.AnchorsMade.{AnchorsMade}
-use Rattle.xref_links.specs.declared.page.Page.{Page}
-use Rattle.xref_links.specs.declared.page.Standing.{Standing}
+use Rattle.xref_links.specs.declared.page.PageRead.{PageRead}
+use Rattle.xref_links.specs.declared.page.PlacedElement.{PlacedElement}
 use Rattle.xref_links.specs.declared.types.Types.{Types}
 
 -- Nothing
@@ -31,7 +31,7 @@ pub typed_by : (is typed : Bool) → not is ≡ false → is ≡ typed → true 
 typed_by true typed e same = same
 typed_by false typed e same = cc
 
-module _ (here : Here) (page : Page) (standing : Standing) (around : Option TopicAt) where
+module _ (here : Here) (page : PageRead) (standing : PlacedElement) (around : Option TopicAt) where
   abbrev element : Element
   element = element_of page standing
 

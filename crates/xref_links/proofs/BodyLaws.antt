@@ -1,33 +1,17 @@
 -- The documents in which the elements of a body were written.
-use Rattle.std.specs.Prelude.{◌≡◌, ◌+◌, ◌<◌, ◌≤◌, ℕ, zero, suc, Bool, true, List, [], ◌∷◌, Some, IsTrue, length, nat_lt, slice_get, unwrap_or}
-use Rattle.std.specs.List.{list_all}
+use Rattle.std.specs.Prelude.{◌≡◌, ◌+◌, ◌<◌, ◌≤◌, ℕ, List, [], IsTrue, length, nat_lt, unwrap_or}
 use Rattle.std.proofs.Common.{refl, sym, ap, ◌∙◌, arith, get_or}
-use Rattle.std.proofs.lemmas.Bool.{and_parts}
 use Rattle.std.proofs.lemmas.Bool.Decides.{nat_tests}
 use Rattle.std.proofs.lemmas.Option.{slice_get-get_or}
 use Rattle.dita_doc.specs.Tree as tree
-use Rattle.dita_doc.specs.Tree.{ArePreorder, Content, are_placed, are_places, size_of, tree_of}
+use Rattle.dita_doc.specs.Tree.{ArePreorder, Content, are_places, size_of, tree_of}
 use Rattle.dita_doc.specs.declared.content.Resolved.{Resolved}
 use Rattle.dita_doc.specs.declared.doc.Node.{Node}
+use Rattle.dita_doc.proofs.Lists.{each_passes}
 use Rattle.dita_doc.proofs.TreeLaws.{length_nodes}
 use Rattle.map_spec.specs.Written.{size}
 use Rattle.readers.specs.Named.{name_at}
 use Rattle.xref_links.specs.Body.{href_home, written_at}
-
--- what passes for all passes for each
-each_passes : {X : Type 0} (test : X → Bool) (xs : List X) (at : ℕ) (x : X) → list_all test xs ≡ true
-    → slice_get xs at ≡ Some x → test x ≡ true
-each_passes test [] at x all is = cc
-each_passes test (first ∷ xs) zero x all is =
-    let same : first ≡ x = cc in
-    ap test (sym same) ∙ (and_parts (test first) (list_all test xs) all).0
-each_passes test (first ∷ xs) (suc at) x all is =
-    each_passes test xs at x (and_parts (test first) (list_all test xs) all).1 is
-
-pub origin_fits : (count : ℕ) (nodes : List Node) (at : ℕ) (node : Node) → IsTrue (are_placed count nodes)
-    → slice_get nodes at ≡ Some node → node.origin < count
-origin_fits count nodes at node placed is =
-    let passes = each_passes (λ (n : Node). nat_lt n.origin count) nodes at node placed is in grind (arith, nat_tests)
 
 place_fits : (count : ℕ) (places : List ℕ) (at d : ℕ) → IsTrue (are_places count places) → at < length places
     → get_or places at d < count

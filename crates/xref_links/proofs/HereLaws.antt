@@ -12,19 +12,19 @@ use Rattle.html_spec.specs.Anchors.{Here}
 use Rattle.reader_spec.specs.World.{World}
 use Rattle.readers.specs.Setting.{Stand}
 use Rattle.xref_links.specs.Adding.{IsHere}
-use Rattle.xref_links.specs.Body.{element_at}
+use Rattle.xref_links.specs.Body.{body_element}
 use Rattle.xref_links.specs.Here.{IsMadeFor, IsPageOf, here_of}
 use Rattle.xref_links.specs.Types.{AreTypes}
-use Rattle.xref_links.specs.declared.page.Page.{Page}
+use Rattle.xref_links.specs.declared.page.PageRead.{PageRead}
 use Rattle.xref_links.specs.declared.types.Types.{Types}
 
 -- a reader that stands on the same is one for the same page
-pub here_kept : (old new : Stand) (page : Page) (here : Here) → new ≡ old → IsHere old page here
+pub here_kept : (old new : Stand) (page : PageRead) (here : Here) → new ≡ old → IsHere old page here
     → IsHere new page here
 here_kept old new page here same is = subst (λ (stand : Stand). IsHere stand page here) (sym same) is
 
 -- the page of a plan
-pub here_made : (stand : Stand) (page : Page) (world : World) (own : PagePlan) (number : ℕ)
+pub here_made : (stand : Stand) (page : PageRead) (world : World) (own : PagePlan) (number : ℕ)
     → IsMadeFor stand.setting page.plan.now → IsPageOf page.plan.now (arc_value page.context.now) own number
     → IsHere stand page (here_of world page.plan.now own number)
 here_made stand page world own number made is = record {
@@ -41,7 +41,7 @@ here_made stand page world own number made is = record {
 
 -- the types do not depend on the documents in which an element was written
 pub types_at : (body : Resolved) (place : ℕ) (node : doc.Node) (types : Types) → AreTypes (element_of [] node) types
-    → AreTypes (element_at body place node) types
+    → AreTypes (body_element body place node) types
 types_at body place node types are = record {
   any = are.any;
   topic = are.topic;

@@ -10,11 +10,11 @@ use Rattle.map_spec.specs.Elements.{attribute}
 use Rattle.map_spec.specs.Pages.{local_name}
 use Rattle.map_spec.specs.Target.{file_named, is_far, rest_of}
 use Rattle.map_spec.specs.Written.{Element}
-use Rattle.html_spec.specs.Anchors.{Here, has_form, image_added, image_by, image_by_href, lead_of, read_as, scope_of, shows_href}
+use Rattle.html_spec.specs.Anchors.{Here, has_form, image_added, image_by, image_by_href, lead_of_target, read_as, scope_of, shows_href}
 use Rattle.xref_links.specs.Adding.{HasMore, IsRead, alone, element_of, href_outside}
 use Rattle.xref_links.specs.declared.made.AnchorsMade.{AnchorsMade}
-use Rattle.xref_links.specs.declared.page.Page.{Page}
-use Rattle.xref_links.specs.declared.page.Standing.{Standing}
+use Rattle.xref_links.specs.declared.page.PageRead.{PageRead}
+use Rattle.xref_links.specs.declared.page.PlacedElement.{PlacedElement}
 
 -- An image leads to no document of ours
 
@@ -37,14 +37,14 @@ no_local element (targets.File name rest) = refl
 no_local element (targets.Other value) = refl
 
 outside : (here : Here) (element : Element) (name : List ℕ) (target : Target) → local_name target ≡ None
-    → here.page.name ≡ name → href_outside name target ≡ (lead_of here element target).href
+    → here.page.name ≡ name → href_outside name target ≡ (lead_of_target here element target).href
 outside here element name targets.Nothing none named = refl
 outside here element name (targets.Local document reference) none named = cc
 outside here element name (targets.File file rest) none named =
     ap (λ n. Some (relative_path n file ++ rest)) (sym named)
 outside here element name (targets.Other value) none named = refl
 
-module _ (here : Here) (page : Page) (standing : Standing) where
+module _ (here : Here) (page : PageRead) (standing : PlacedElement) where
   abbrev element : Element
   element = element_of page standing
 
@@ -57,7 +57,7 @@ module _ (here : Here) (page : Page) (standing : Standing) where
       → new.anchors ≡ old.anchors ++ anchor_with href ∷ [] → new.links ≡ old.links
       → HasMore old new (image_added here (alone page standing) (image_by element target))
   image_more name target read href old new named is leads put same =
-      let there : href_outside name read ≡ (lead_of here element (image_by element target).target).href =
+      let there : href_outside name read ≡ (lead_of_target here element (image_by element target).target).href =
       ap (href_outside name) is.leads
       ∙ outside here element name (image_by element target).target (no_local element target) named in
       record {

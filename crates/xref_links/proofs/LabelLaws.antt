@@ -15,8 +15,8 @@ use Rattle.map_spec.specs.Written.{Element, Whole, Chars, Node, written_in}
 use Rattle.html_spec.specs.Anchors.{Here, link_label, text_of_target}
 use Rattle.xref_links.specs.Adding.{element_of}
 use Rattle.xref_links.specs.Body.{written_at}
-use Rattle.xref_links.specs.declared.page.Page.{Page}
-use Rattle.xref_links.specs.declared.page.Standing.{Standing}
+use Rattle.xref_links.specs.declared.page.PageRead.{PageRead}
+use Rattle.xref_links.specs.declared.page.PlacedElement.{PlacedElement}
 
 bare_there : (body : Resolved) (place : ℕ) (name : List ℕ) (c : Content)
     → bare (written_in name c) ≡ bare (written_at body place c)
@@ -45,7 +45,7 @@ label_found body place name c whole other is =
     ∙ text_or (first_child (codes "topic/linktext") (written_at body place c)) other
 
 -- the text for a target does not depend on them either
-pub text_there : (here : Here) (page : Page) (standing : Standing) (target : Target)
+pub text_there : (here : Here) (page : PageRead) (standing : PlacedElement) (target : Target)
     → text_of_target here (walk.element_of [] standing.node.now) target
     ≡ text_of_target here (element_of page standing) target
 text_there here page standing targets.Nothing = refl

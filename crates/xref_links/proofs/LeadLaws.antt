@@ -21,14 +21,14 @@ use Rattle.map_spec.specs.Elements.{fault_at}
 use Rattle.map_spec.specs.Pages.{is_page_for, is_page_of, local_name, page_for, place_of}
 use Rattle.map_spec.specs.Written.{Element}
 use Rattle.html_spec.specs.Anchors as anchors
-use Rattle.html_spec.specs.Anchors.{Here, fragment, lead_by_key, lead_of, lead_to, lead_to_page, topic_or_first}
+use Rattle.html_spec.specs.Anchors.{Here, fragment, lead_by_key, lead_of_target, lead_of_document, lead_of_page, topic_or_first}
 use Rattle.readers.specs.Founded.{StaysFounded}
 use Rattle.readers.specs.Setting.{Stand}
 use Rattle.readers.specs.Told.{Told}
 use Rattle.xref_links.specs.Adding.{IsHere, IsLead, href_outside}
-use Rattle.xref_links.specs.Names.{names_of}
+use Rattle.xref_links.specs.Names.{names_of_target}
 use Rattle.xref_links.specs.declared.lead.Lead.{Lead}
-use Rattle.xref_links.specs.declared.page.Page.{Page}
+use Rattle.xref_links.specs.declared.page.PageRead.{PageRead}
 
 -- The page that is found for a document is one of the document
 
@@ -84,16 +84,16 @@ page_found pages name context number page is there =
 
 -- A document leads to the page itself exactly if it is the page's own
 
-module _ (here : Here) (stand : Stand) (page : Page) (element : Element) (name topic id : List ℕ)
+module _ (here : Here) (stand : Stand) (page : PageRead) (element : Element) (name topic id : List ℕ)
     (is : IsHere stand page here) where
   pub lead_known : (answer : Option ℕ)
       → page_for stand.setting.pages name (arc_value page.context.now).page ≡ answer
-      → lead_to here element name topic id ≡ lead_to_page here element name topic id answer
+      → lead_of_document here element name topic id ≡ lead_of_page here element name topic id answer
   lead_known answer known =
-      ap (λ own. lead_to_page here element name topic id (page_for here.pages name own)) is.id
-      ∙ ap (λ pages. lead_to_page here element name topic id
+      ap (λ own. lead_of_page here element name topic id (page_for here.pages name own)) is.id
+      ∙ ap (λ pages. lead_of_page here element name topic id
       (page_for pages name (arc_value page.context.now).page)) (sym is.pages)
-      ∙ ap (lead_to_page here element name topic id) known
+      ∙ ap (lead_of_page here element name topic id) known
 
   module _ (number : ℕ) (found : page_for here.pages name (arc_value page.context.now).page ≡ Some number) where
     own_number : name ≡ (arc_value page.context.now).page.doc → number ≡ here.number
@@ -119,7 +119,7 @@ module _ (here : Here) (stand : Stand) (page : Page) (element : Element) (name t
         → slice_get page.plan.now.pages number ≡ Some other
         → href ≡ relative_path (arc_value page.context.now).name other.name ++ fragment topic id
         → own ≡ bytes_eq name (arc_value page.context.now).page.doc
-        → IsLead here (lead_to_page here element name topic id (Some number))
+        → IsLead here (lead_of_page here element name topic id (Some number))
         (record { href = Some href; is_own = own }) faults faults
     lead_paged other href own faults there leads owns = record {
       href = sym (ap (option_map (λ (p : PagePlan). relative_path here.page.name p.name ++ fragment topic id))
@@ -133,7 +133,7 @@ module _ (here : Here) (stand : Stand) (page : Page) (element : Element) (name t
     -- each number is that of a page
     pub lead_unpaged : (lead : Lead) (faults : List Fault) → slice_get page.plan.now.pages number ≡ None
         → lead.href ≡ None → lead.is_own ≡ false
-        → IsLead here (lead_to_page here element name topic id (Some number)) lead faults faults
+        → IsLead here (lead_of_page here element name topic id (Some number)) lead faults faults
     lead_unpaged lead faults none leads owns =
         let absent : slice_get here.pages number ≡ None = ap (λ pages. slice_get pages number) (sym is.plan) ∙ none in
         record {
@@ -148,7 +148,7 @@ module _ (here : Here) (stand : Stand) (page : Page) (element : Element) (name t
 -- what is no document of ours
 pub lead_outside : (here : Here) (element : Element) (name : List ℕ) (target : Target) (href : Option (List ℕ))
     (faults : List Fault) → here.page.name ≡ name → local_name target ≡ None → href ≡ href_outside name target
-    → IsLead here (lead_of here element target) (record { href = href; is_own = false }) faults faults
+    → IsLead here (lead_of_target here element target) (record { href = href; is_own = false }) faults faults
 lead_outside here element name targets.Nothing href faults named none leads =
     record { href = leads; own = refl; faults = sym (append-nil faults) }
 lead_outside here element name (targets.Local document reference) href faults named none leads = cc
@@ -170,7 +170,7 @@ no_local (targets.File name rest) other = refl
 no_local (targets.Other value) other = refl
 
 pub by_no_id : (here : Here) (element : Element) (id : Option (List ℕ)) (target : Target) → id ≡ None
-    → lead_of here element target ≡ lead_by_key here element id target
+    → lead_of_target here element target ≡ lead_by_key here element id target
 by_no_id here element None targets.Nothing none = refl
 by_no_id here element None (targets.Local name reference) none = refl
 by_no_id here element None (targets.File name rest) none = refl
@@ -179,7 +179,7 @@ by_no_id here element (Some id) target none = cc
 
 pub by_id_elsewhere : (here : Here) (element : Element) (id : Option (List ℕ)) (target : Target)
     → ((name : List ℕ) (reference : Reference) → target ≡ targets.Local name reference → ⊥)
-    → lead_of here element target ≡ lead_by_key here element id target
+    → lead_of_target here element target ≡ lead_by_key here element id target
 by_id_elsewhere here element None targets.Nothing other = refl
 by_id_elsewhere here element None (targets.File name rest) other = refl
 by_id_elsewhere here element None (targets.Other value) other = refl
@@ -190,7 +190,8 @@ by_id_elsewhere here element id (targets.Local name reference) other = absurd (o
 
 pub by_id : (here : Here) (element : Element) (found : Option (List ℕ)) (id name : List ℕ) (reference : Reference)
     (target : Target) → found ≡ Some id → target ≡ targets.Local name reference
-    → lead_to here element name (topic_or_first here name reference.topic) id ≡ lead_by_key here element found target
+    → lead_of_document here element name (topic_or_first here name reference.topic) id
+    ≡ lead_by_key here element found target
 by_id here element found id name reference target some local = rw (some, local) refl
 
 pub lead_as : (here : Here) (one other : anchors.Lead) (result : Result Lead NoMemory) (old new : List Fault)
@@ -201,13 +202,13 @@ lead_as here one other result old new same is =
 
 -- a call about the document of a target
 pub local_founded : (target : Target) (name : List ℕ) (reference : Reference) (a b : List Told)
-    → target ≡ targets.Local name reference → StaysFounded (name ∷ []) a b → StaysFounded (names_of target) a b
+    → target ≡ targets.Local name reference → StaysFounded (name ∷ []) a b → StaysFounded (names_of_target target) a b
 local_founded target name reference a b local stays =
-    subst (λ t. StaysFounded (names_of t) a b) (sym local) stays
+    subst (λ t. StaysFounded (names_of_target t) a b) (sym local) stays
 
 -- a document without a page
 pub lead_missing : (here : Here) (element : Element) (name topic id : List ℕ) (lead : Lead) (old new : List Fault)
     → lead.href ≡ None → lead.is_own ≡ false → new ≡ old ++ fault_at element faults.LinkNoPage name ∷ []
-    → IsLead here (lead_to_page here element name topic id None) lead old new
+    → IsLead here (lead_of_page here element name topic id None) lead old new
 lead_missing here element name topic id lead old new leads owns put =
     record { href = leads; own = owns; faults = put }

@@ -9,5 +9,4 @@ mod LeadLaws
 mod LinkLaws
 mod NameLaws
 mod TypeLaws
-mod Walking
 mod WayLaws

@@ -1,5 +1,5 @@
 -- What links add.
-use Rattle.std.specs.Prelude.{◌≡◌, ◌&&◌, ◌||◌, ◌++◌, ℕ, Bool, true, false, not, List, [], ◌∷◌, Option, Some, None, Result, Ok, Err, OnOk, is_some, if◌then◌else◌}
+use Rattle.std.specs.Prelude.{◌≡◌, ◌&&◌, ◌||◌, ◌++◌, ℕ, Bool, true, false, not, List, [], ◌∷◌, Option, Some, None, is_some, if◌then◌else◌}
 use Rattle.std.specs.Option.{option_and_then, option_copied, option_to_list}
 use Rattle.std.proofs.Common.{refl, sym, ap, subst, ◌∙◌, append-nil, append_assoc}
 use Rattle.dita_doc.specs.declared.content.Anchor.{Anchor}
@@ -7,20 +7,16 @@ use Rattle.dita_doc.specs.declared.content.KeyAnswer.{KeyAnswer}
 use Rattle.dita_doc.specs.declared.content.PageLink.{PageLink}
 use Rattle.dita_doc.specs.declared.fault.Fault.{Fault}
 use Rattle.dita_doc.specs.declared.plan.Target.{Target}
+use Rattle.dita_doc.proofs.Tests.{or_false, or_true}
 use Rattle.map_spec.specs.Keys.{id_of_key}
 use Rattle.map_spec.specs.Written.{Element, Written}
-use Rattle.html_spec.specs.Anchors.{Added, Here, Linked, Read, defined_key, has_form, holds_link, is_link, is_reference_form, is_this_page, keyref_of, lead_by_key, lead_of, link_added, linked_added, linked_by_key, linked_by_read}
+use Rattle.html_spec.specs.Anchors.{Added, Here, Linked, HrefRead, defined_key, has_form, holds_link, is_link, is_reference_form, is_this_page, keyref_of, lead_by_key, lead_of_target, link_added, linked_added, linked_by_key, linked_by_read}
 use Rattle.xref_links.specs.Adding.{HasMore, IsGiven, IsLead, IsRead, added_with, alone, element_of, inside_of, label_with, link_to, read_as}
-use Rattle.xref_links.proofs.TypeLaws.{or_all, or_none}
 use Rattle.xref_links.specs.declared.keyed.Keyed.{Keyed}
 use Rattle.xref_links.specs.declared.lead.Lead.{Lead}
 use Rattle.xref_links.specs.declared.made.AnchorsMade.{AnchorsMade}
-use Rattle.xref_links.specs.declared.page.Page.{Page}
-use Rattle.xref_links.specs.declared.page.Standing.{Standing}
-
-pub on_ok : {T E : Type 0} (P Q : Type 0) (result : Result T E) → (P → Q) → OnOk result P → OnOk result Q
-on_ok P Q (Ok value) make p = make p
-on_ok P Q (Err error) make p = tt
+use Rattle.xref_links.specs.declared.page.PageRead.{PageRead}
+use Rattle.xref_links.specs.declared.page.PlacedElement.{PlacedElement}
 
 -- a link is listed by a link element that leads from the page
 by_tests : (is_link here : Bool) (link : Option PageLink)
@@ -38,7 +34,7 @@ listed types own is_link here href label same owns =
     ∙ ap (λ o. if is_link && not o then link_to href label else None) owns
     ∙ by_tests is_link here (link_to href label)
 
-module _ (here : Here) (page : Page) (standing : Standing) where
+module _ (here : Here) (page : PageRead) (standing : PlacedElement) where
   abbrev element : Element
   element = element_of page standing
 
@@ -84,7 +80,7 @@ module _ (here : Here) (page : Page) (standing : Standing) where
   -- by a defined key
 
   pub holds_keyed : (answer : KeyAnswer) → defined_key here element ≡ Some answer → true ≡ holds_link here element
-  holds_keyed answer e = rw e (sym (or_all (has_form is_reference_form element)))
+  holds_keyed answer e = rw e (sym (or_true (has_form is_reference_form element)))
 
   pub given_lead : (answer : KeyAnswer) (keyed : Keyed) (lead : Lead) (old new : List Fault)
       → IsGiven (keyref_of element) answer keyed
@@ -100,10 +96,10 @@ module _ (here : Here) (page : Page) (standing : Standing) where
   pub holds_written : (holds : Bool) → holds ≡ has_form is_reference_form element → defined_key here element ≡ None
       → holds ≡ holds_link here element
   holds_written holds is e =
-      is ∙ sym (or_none (has_form is_reference_form element))
+      is ∙ sym (or_false (has_form is_reference_form element))
       ∙ ap (λ (found : Option KeyAnswer). has_form is_reference_form element || is_some found) (sym e)
 
-  pub written_more : (read : Read) (target : Target) (old middle new : AnchorsMade)
+  pub written_more : (read : HrefRead) (target : Target) (old middle new : AnchorsMade)
       → IsRead read target old.faults middle.faults
       → middle.anchors ≡ old.anchors → middle.links ≡ old.links
       → HasMore middle new (linked_added here (alone page standing) (linked_by_read here element (read_as target)))
@@ -119,7 +115,7 @@ module _ (here : Here) (page : Page) (standing : Standing) where
             more.links ∙ ap (λ all. all ++ option_to_list (by target).link) same_links
             ∙ ap (λ t. old.links ++ option_to_list (by t).link) is.leads;
         faults =
-            more.faults ∙ ap (λ fs. fs ++ (lead_of here element target).faults) is.faults
-            ∙ append_assoc old.faults read.faults (lead_of here element target).faults
-            ∙ ap (λ t. old.faults ++ (read.faults ++ (lead_of here element t).faults)) is.leads;
+            more.faults ∙ ap (λ fs. fs ++ (lead_of_target here element target).faults) is.faults
+            ∙ append_assoc old.faults read.faults (lead_of_target here element target).faults
+            ∙ ap (λ t. old.faults ++ (read.faults ++ (lead_of_target here element t).faults)) is.leads;
       }

@@ -19,13 +19,13 @@ use Rattle.html_spec.specs.Anchors.{Here, format_of, in_topic, read_as, read_hre
 use Rattle.plan_nodes.specs.Given.{IsTold}
 use Rattle.plan_nodes.proofs.GivenLaws.{may_target}
 use Rattle.readers.specs.Founded.{AreAllowed, Grows, StaysFounded, homes, is_among}
-use Rattle.readers.specs.Named.{linked_by, linked_in, name_joined, names_of_element}
+use Rattle.readers.specs.Named.{link_names, linked_in, name_joined, names_of_element}
 use Rattle.readers.specs.Told.{Told, document, key}
 use Rattle.readers.proofs.AmongLaws.{among_back, among_either, among_front}
 use Rattle.readers.proofs.GrowthLaws.{are_allowed_before}
 use Rattle.readers.proofs.FoundedLaws.{among_one, given_allowed, stays_after, stays_among, stays_then}
 use Rattle.xref_links.specs.Adding.{IsRead}
-use Rattle.xref_links.specs.Names.{names_of, names_with}
+use Rattle.xref_links.specs.Names.{names_of_target, names_with}
 
 -- The document that an href leads to: an element that has the href alone names no other
 
@@ -83,9 +83,9 @@ module _ (here : Here) (topic : List ℕ) (element : Element) (m : List ℕ) whe
   Among names = IsTrue (is_among names m)
 
   by_test : (test : Bool) (name : List ℕ) (reference other : Reference)
-      → (Among (name ∷ []) → Among (linked_by element))
-      → Among (names_of (if test then targets.Local here.page.id.doc other else targets.Local name reference))
-      → Among (here.page.id.doc ∷ linked_by element)
+      → (Among (name ∷ []) → Among (link_names element))
+      → Among (names_of_target (if test then targets.Local here.page.id.doc other else targets.Local name reference))
+      → Among (here.page.id.doc ∷ link_names element)
   by_test true name reference other joined among =
       or_left (bytes_eq here.page.id.doc m) _ (⊎_elim (λ own. own) (λ none. absurd (false≢true none))
       (or_cases (bytes_eq here.page.id.doc m) false among))
@@ -93,8 +93,8 @@ module _ (here : Here) (topic : List ℕ) (element : Element) (m : List ℕ) whe
 
   by_target : (href : List ℕ) (target : Target)
       → ((name : List ℕ) (reference : Reference) → target ≡ targets.Local name reference → Among (name ∷ [])
-      → Among (linked_by element))
-      → Among (names_of (in_topic here topic href target)) → Among (here.page.id.doc ∷ linked_by element)
+      → Among (link_names element))
+      → Among (names_of_target (in_topic here topic href target)) → Among (here.page.id.doc ∷ link_names element)
   by_target href targets.Nothing joined among = absurd (false≢true among)
   by_target href (targets.Local name reference) joined among = by_test
       ((length reference.file == 0) && bytes_eq reference.topic (codes ".") && not (length reference.element == 0))
@@ -104,24 +104,24 @@ module _ (here : Here) (topic : List ℕ) (element : Element) (m : List ℕ) whe
 
   by_read : (href : List ℕ) (read : Option Target)
       → ((name : List ℕ) (reference : Reference) → read ≡ Some (targets.Local name reference) → Among (name ∷ [])
-      → Among (linked_by element))
-      → Among (names_of (read_as element href (option_map (in_topic here topic href) read)).target)
-      → Among (here.page.id.doc ∷ linked_by element)
+      → Among (link_names element))
+      → Among (names_of_target (read_as element href (option_map (in_topic here topic href) read)).target)
+      → Among (here.page.id.doc ∷ link_names element)
   by_read href None joined among = absurd (false≢true among)
   by_read href (Some target) joined among =
       by_target href target (λ name reference is. joined name reference (ap (λ t. Some t) is)) among
 
   joined_link : (href name : List ℕ) (reference : Reference) → attribute (codes "href") element ≡ Some href
       → target_by href (format_of element) (scope_of element) element.href_doc ≡ Some (targets.Local name reference)
-      → Among (name ∷ []) → Among (linked_by element)
+      → Among (name ∷ []) → Among (link_names element)
   joined_link href name reference written is among =
       subst (λ found. Among (option_to_list (option_and_then (name_joined element.href_doc) found))) (sym written)
       (subst (λ n. IsTrue (is_among (option_to_list (name_joined element.href_doc href)) n)) (among_one name m among)
       (href_named element.href_doc href (format_of element) (scope_of element) name reference is))
 
   by_href : (href : Option (List ℕ)) → attribute (codes "href") element ≡ href
-      → Among (names_of (read_href here topic element href).target)
-      → Among (here.page.id.doc ∷ linked_by element)
+      → Among (names_of_target (read_href here topic element href).target)
+      → Among (here.page.id.doc ∷ link_names element)
   by_href None written among = absurd (false≢true among)
   by_href (Some href) written among = by_read href
       (target_by href (format_of element) (scope_of element) element.href_doc)
@@ -142,17 +142,18 @@ pub read_founded : (id : PageId) (topic : List ℕ) (element : Element) (target 
     (old new : List Told)
     → ((here : Here) → here.page.id ≡ id
     → IsRead (read_href here topic element (attribute (codes "href") element)) target before after)
-    → StaysFounded (names_of target) old new → StaysFounded (id.doc ∷ linked_by element) old new
+    → StaysFounded (names_of_target target) old new → StaysFounded (id.doc ∷ link_names element) old new
 read_founded id topic element target before after old new read stays =
     let here = here_with id in
-    stays_among (names_of target) (id.doc ∷ linked_by element) old new
+    stays_among (names_of_target target) (id.doc ∷ link_names element) old new
     (λ m among. by_href here topic element m (attribute (codes "href") element) refl
-    (subst (λ t. IsTrue (is_among (names_of t) m)) (read here refl).leads among)) stays
+    (subst (λ t. IsTrue (is_among (names_of_target t) m)) (read here refl).leads among)) stays
 
 -- What the answer of a key leads to
 
 pub answer_allowed : (nodes : List PlanNode) (scope : ℕ) (text : List ℕ) (answer : KeyAnswer) (old new : List Told)
-    (roots : List (List ℕ)) → new ≡ key nodes scope text answer ∷ old → AreAllowed roots new (names_of answer.target)
+    (roots : List (List ℕ)) → new ≡ key nodes scope text answer ∷ old
+    → AreAllowed roots new (names_of_target answer.target)
 answer_allowed nodes scope text answer old new roots is =
     given_allowed roots (key nodes scope text answer) old new is
 
@@ -181,19 +182,19 @@ step_founded nodes page all left some a b c grows before within part next =
 
 module _ (nodes : Written) (element : Element) (inside rest : Written) (first : nodes ≡ Node element inside rest)
     (m : List ℕ) where
-  to_all : IsTrue (is_among (linked_by element ++ (linked_in inside ++ linked_in rest)) m)
+  to_all : IsTrue (is_among (link_names element ++ (linked_in inside ++ linked_in rest)) m)
       → IsTrue (is_among (linked_in nodes) m)
   to_all among = subst (λ (all : Written). IsTrue (is_among (linked_in all) m)) (sym first) among
 
-  pub link_first : IsTrue (is_among (linked_by element) m) → IsTrue (is_among (linked_in nodes) m)
-  link_first among = to_all (among_front (linked_by element) _ m among)
+  pub link_first : IsTrue (is_among (link_names element) m) → IsTrue (is_among (linked_in nodes) m)
+  link_first among = to_all (among_front (link_names element) _ m among)
 
   pub link_inside : IsTrue (is_among (linked_in inside) m) → IsTrue (is_among (linked_in nodes) m)
-  link_inside among = to_all (among_back (linked_by element) _ m
+  link_inside among = to_all (among_back (link_names element) _ m
       (among_front (linked_in inside) (linked_in rest) m among))
 
   pub link_behind : IsTrue (is_among (linked_in rest) m) → IsTrue (is_among (linked_in nodes) m)
-  link_behind among = to_all (among_back (linked_by element) _ m
+  link_behind among = to_all (among_back (link_names element) _ m
       (among_back (linked_in inside) (linked_in rest) m among))
 
 -- An element: the key, and what it leads to

@@ -18,21 +18,21 @@ use Rattle.map_spec.specs.Keys.{id_of_key, key_answer}
 use Rattle.map_spec.specs.Pages.{page_for}
 use Rattle.map_spec.specs.Written.{Element, Whole, Written, End}
 use Rattle.html_spec.specs.Anchors as anchors
-use Rattle.html_spec.specs.Anchors.{Added, Here, Read, added_of, if_defined, is_this_page, keyref_of}
+use Rattle.html_spec.specs.Anchors.{Added, Here, HrefRead, added_of, if_defined, is_this_page, keyref_of}
 use Rattle.map_spec.specs.Places as places
 use Rattle.map_spec.specs.Places.{TopicAt, standing_from}
 use Rattle.readers.specs.Setting.{Stand}
-use Rattle.xref_links.specs.Body.{element_at, written_at}
+use Rattle.xref_links.specs.Body.{body_element, written_at}
 use Rattle.xref_links.specs.declared.keyed.Keyed.{Keyed}
 use Rattle.xref_links.specs.declared.lead.Lead.{Lead}
 use Rattle.xref_links.specs.declared.made.AnchorsMade.{AnchorsMade}
-use Rattle.xref_links.specs.declared.page.Page.{Page}
-use Rattle.xref_links.specs.declared.page.Standing.{Standing}
+use Rattle.xref_links.specs.declared.page.PageRead.{PageRead}
+use Rattle.xref_links.specs.declared.page.PlacedElement.{PlacedElement}
 
 -- Where an element is read
 
 -- a page of the plan that a reader was made for, by a context of which it is the page
-pub record IsHere (stand : Stand) (page : Page) (here : Here) : Type 0 where
+pub record IsHere (stand : Stand) (page : PageRead) (here : Here) : Type 0 where
   pub key : (text : List ℕ)
       → key_answer here.world stand.setting.nodes (arc_value page.context.now).page.scope text ≡ here.key text
   pub pages : stand.setting.pages ≡ here.pages
@@ -44,21 +44,21 @@ pub record IsHere (stand : Stand) (page : Page) (here : Here) : Type 0 where
   pub name : here.page.name ≡ (arc_value page.context.now).name
 
 -- an element is one of the page's body
-pub record IsPlaced (page : Page) (standing : Standing) : Type 0 where
+pub record IsPlaced (page : PageRead) (standing : PlacedElement) : Type 0 where
   pub place : standing.place < length page.body.now.doc.nodes
   pub origin : standing.node.now.origin < length page.body.now.doc.origins
 
-abbrev pub element_of : Page → Standing → Element
-element_of page standing = element_at page.body.now standing.place standing.node.now
+abbrev pub element_of : PageRead → PlacedElement → Element
+element_of page standing = body_element page.body.now standing.place standing.node.now
 
-abbrev pub inside_of : Page → Standing → Written
+abbrev pub inside_of : PageRead → PlacedElement → Written
 inside_of page standing = written_at page.body.now (standing.place + 1) (content standing.inside)
 
-abbrev pub whole_of : Page → Standing → Whole
+abbrev pub whole_of : PageRead → PlacedElement → Whole
 whole_of page standing = (element_of page standing, inside_of page standing)
 
 -- the element where it stands
-abbrev pub stands : Page → Standing → Option TopicAt → Option Element → Written → places.Standing
+abbrev pub stands : PageRead → PlacedElement → Option TopicAt → Option Element → Written → places.Standing
 stands page standing around before behind = record {
   place = standing.place;
   whole = whole_of page standing;
@@ -68,17 +68,17 @@ stands page standing around before behind = record {
 }
 
 -- an element in a topic, of which its neighbours do not matter
-abbrev pub stands_in : Page → Standing → Option TopicAt → places.Standing
+abbrev pub stands_in : PageRead → PlacedElement → Option TopicAt → places.Standing
 stands_in page standing around = stands page standing around None End
 
 -- and one of which the topic does not matter
-abbrev pub alone : Page → Standing → places.Standing
+abbrev pub alone : PageRead → PlacedElement → places.Standing
 alone page standing = stands_in page standing None
 
 -- Parts
 
 -- what an href leads to, with its faults behind others
-pub record IsRead (read : Read) (target : Target) (old new : List Fault) : Type 0 where
+pub record IsRead (read : HrefRead) (target : Target) (old new : List Fault) : Type 0 where
   pub leads : target ≡ read.target
   pub faults : new ≡ old ++ read.faults
 
@@ -141,7 +141,7 @@ abbrev pub label_with : Bool → Written → List ℕ → List ℕ
 label_with is_link inside label = if is_link then anchors.link_label inside label else label
 
 -- a target by an href that could be read
-abbrev pub read_as : Target → Read
+abbrev pub read_as : Target → HrefRead
 read_as target = record { target = target; faults = [] }
 
 -- what an element adds that leads there and shows a text

@@ -12,8 +12,8 @@ use Rattle.readers.specs.Named.{name_at}
 abbrev pub href_home : Resolved → ℕ → List ℕ
 href_home body place = name_at body.doc.origins (unwrap_or (slice_get body.hrefs place) 0)
 
-abbrev pub element_at : Resolved → ℕ → doc.Node → Element
-element_at body place node = record {
+abbrev pub body_element : Resolved → ℕ → doc.Node → Element
+body_element body place node = record {
   name = node.text;
   attributes = node.attributes;
   doc = name_at body.doc.origins node.origin;

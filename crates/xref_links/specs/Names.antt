@@ -18,5 +18,5 @@ abbrev pub names_asked : List PlanNode → Context → Resolved → List (List �
 names_asked nodes context body = names_with nodes context.page.doc (linked_in (written_of body))
 
 -- the document that a target names
-abbrev pub names_of : Target → List (List ℕ)
-names_of target = option_to_list (local_name target)
+abbrev pub names_of_target : Target → List (List ℕ)
+names_of_target target = option_to_list (local_name target)

@@ -10,14 +10,14 @@ ghost use Rattle.html_spec.specs.Anchors as anchors_spec;
 ghost use Rattle.html_spec.specs.Anchors.{Here};
 ghost use Rattle.xref_links.specs.Adding as spec;
 
-use crate::page::{Page, Standing};
+use crate::page::{PageRead, PlacedElement};
 use dita_doc::{Fault, FaultCode, List, NoMemory, Node, Reference, Target, Text};
 use targets::{file_target, is_external, is_far, is_same_topic, target_by};
 
 // What the href of an element leads to; nothing, with a fault, if it can't be read.
 pub(crate) fn read_href<'a>(
-    page: Page<'a>,
-    standing: Standing<'a>,
+    page: PageRead<'a>,
+    standing: PlacedElement<'a>,
     faults: &mut List<Fault>,
 ) -> Result<Target, NoMemory>
     requires { spec.IsPlaced page standing }
@@ -42,7 +42,7 @@ pub(crate) fn read_href<'a>(
 }
 
 // `#./element` means the topic where the element stands, on this page.
-fn in_topic(page: Page<'_>, topic: &str, target: Target) -> Result<Target, NoMemory>
+fn in_topic(page: PageRead<'_>, topic: &str, target: Target) -> Result<Target, NoMemory>
     ensures { (here : Here) (href : List ℕ) → here.page.id ≡ (arc_value page.entry.context.now).page
         → IfOk result (λ read. read ≡ anchors_spec.in_topic here topic.now href target) }
 {
@@ -62,8 +62,8 @@ fn in_topic(page: Page<'_>, topic: &str, target: Target) -> Result<Target, NoMem
 // What the href of an image leads to, whatever its format; nothing, with a fault, if it can't be
 // read.
 pub(crate) fn read_image_href<'a>(
-    page: Page<'a>,
-    standing: Standing<'a>,
+    page: PageRead<'a>,
+    standing: PlacedElement<'a>,
     faults: &mut List<Fault>,
 ) -> Result<Target, NoMemory>
     requires { spec.IsPlaced page standing }

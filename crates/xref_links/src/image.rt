@@ -11,14 +11,14 @@ ghost use Rattle.xref_links.specs.Adding as spec;
 use crate::hrefs::read_image_href;
 use crate::lead::href_outside;
 use crate::made::AnchorsMade;
-use crate::page::{Page, Standing};
+use crate::page::{PageRead, PlacedElement};
 use dita_doc::{Anchor, Fault, List, NoMemory, Target, Text};
 use html_forms::{Form, form_of};
 
 // Adds the anchor of an image that leads where its key does, if that is defined.
 pub(crate) fn add_image<'a>(
-    page: Page<'a>,
-    standing: Standing<'a>,
+    page: PageRead<'a>,
+    standing: PlacedElement<'a>,
     target: Target,
     made: &mut AnchorsMade,
 ) -> Result<(), NoMemory>
@@ -42,8 +42,8 @@ pub(crate) fn add_image<'a>(
 // What an image leads to: without a target by the key the href counts, and a document of ours
 // counts as the file of its name.
 fn image_target<'a>(
-    page: Page<'a>,
-    standing: Standing<'a>,
+    page: PageRead<'a>,
+    standing: PlacedElement<'a>,
     target: Target,
     faults: &mut List<Fault>,
 ) -> Result<Target, NoMemory>
@@ -61,8 +61,8 @@ fn image_target<'a>(
 
 // The href of an image, if the page shows it.
 fn image_href(
-    page: Page<'_>,
-    standing: Standing<'_>,
+    page: PageRead<'_>,
+    standing: PlacedElement<'_>,
     target: Target,
 ) -> Result<Option<Text>, NoMemory>
     ensures { IfOk result (λ href. href ≡ (if anchors_spec.has_form anchors_spec.shows_href
@@ -76,7 +76,7 @@ fn image_href(
 }
 
 // Whether the page shows the href of an element of its form.
-fn shows_href(standing: Standing<'_>) -> bool
+fn shows_href(standing: PlacedElement<'_>) -> bool
     ensures { (name : List ℕ) → result ≡ anchors_spec.has_form anchors_spec.shows_href
         (walk_spec.element_of name standing.entry.node.now) }
 {

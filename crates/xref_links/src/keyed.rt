@@ -11,7 +11,7 @@ ghost use Rattle.readers.specs.Told.{Agrees};
 ghost use Rattle.xref_links.specs.Adding as spec;
 ghost use Rattle.xref_links.specs.Names as names_spec;
 
-use crate::page::{Page, Standing};
+use crate::page::{PageRead, PlacedElement};
 use dita_doc::{Fault, FaultCode, KeyAnswer, List, NoMemory, Target, Text};
 use doc_elements::append_faults;
 use readers::Asker;
@@ -27,11 +27,11 @@ pub(crate) struct Keyed<'a> {
 
 // What the key of an element gives, if it names one that is defined; its faults are appended, and
 // that it is undefined, unless an href stands beside it.
-#[tactic(auto, using(crate::proofs::Walking::walking))]
+#[tactic(auto, using(readers::proofs::Rules::walking))]
 pub(crate) fn defined_key<'a, A: Asker>(
-    page: Page<'a>,
+    page: PageRead<'a>,
     asker: &mut A,
-    standing: Standing<'a>,
+    standing: PlacedElement<'a>,
     faults: &mut List<Fault>,
 ) -> Result<Option<Keyed<'a>>, NoMemory>
     requires { spec.IsPlaced page standing }
@@ -39,7 +39,7 @@ pub(crate) fn defined_key<'a, A: Asker>(
         → spec.IsHere (A.stand asker.old) page.entry here → IfOk result (λ keyed. spec.HasKey here
         (spec.element_of page.entry standing.entry) keyed faults.old faults.new) }
     ensures given { (roots : List (List ℕ)) → IfOk result (λ keyed. AreAllowed roots
-        (A.told asker.new) (names_spec.names_of (spec.target_of keyed))) }
+        (A.told asker.new) (names_spec.names_of_target (spec.target_of keyed))) }
     ensures stand { A.stand asker.new ≡ A.stand asker.old }
     ensures founded { StaysFounded (founded_spec.homes (A.stand asker.old).setting.nodes)
         (A.told asker.old) (A.told asker.new) }
@@ -58,8 +58,8 @@ pub(crate) fn defined_key<'a, A: Asker>(
 // What an answer gives; its faults are appended, and that the key is undefined, unless an href
 // stands beside it.
 fn keyed_by<'a>(
-    page: Page<'a>,
-    standing: Standing<'a>,
+    page: PageRead<'a>,
+    standing: PlacedElement<'a>,
     key: &str,
     id: Option<&'a str>,
     answer: KeyAnswer,
@@ -85,8 +85,8 @@ fn keyed_by<'a>(
 
 // Appends the fault of an undefined key, unless an href stands beside it.
 fn put_undefined(
-    page: Page<'_>,
-    standing: Standing<'_>,
+    page: PageRead<'_>,
+    standing: PlacedElement<'_>,
     key: &str,
     faults: &mut List<Fault>,
 ) -> Result<(), NoMemory>

@@ -16,7 +16,7 @@ ghost use Rattle.readers.specs.Told.{Agrees};
 ghost use Rattle.xref_links.specs.Adding as spec;
 ghost use Rattle.xref_links.specs.Names as names_spec;
 
-use crate::page::{Page, Standing};
+use crate::page::{PageRead, PlacedElement};
 use dita_doc::{Fault, FaultCode, List, Name, NoMemory, PagePlan, Plan, Target, Text};
 use href_text::relative;
 use readers::Asker;
@@ -44,21 +44,21 @@ impl Lead {
 }
 
 // Where the target of an element leads. A document without a page leads nowhere, with a fault.
-#[tactic(auto, using(crate::proofs::Walking::walking))]
+#[tactic(auto, using(readers::proofs::Rules::walking))]
 pub(crate) fn lead_of<'a, A: Asker>(
-    page: Page<'a>,
+    page: PageRead<'a>,
     asker: &mut A,
-    standing: Standing<'a>,
+    standing: PlacedElement<'a>,
     target: &Target,
     faults: &mut List<Fault>,
 ) -> Result<Lead, NoMemory>
     requires { spec.IsPlaced page standing }
     ensures known { (here : Here) → Agrees here.world (A.told asker.new)
         → spec.IsHere (A.stand asker.old) page.entry here → IfOk result (λ lead. spec.IsLead here
-        (anchors_spec.lead_of here (spec.element_of page.entry standing.entry) target.now) lead
+        (anchors_spec.lead_of_target here (spec.element_of page.entry standing.entry) target.now) lead
         faults.old faults.new) }
     ensures stand { A.stand asker.new ≡ A.stand asker.old }
-    ensures founded { StaysFounded (names_spec.names_of target.now) (A.told asker.old)
+    ensures founded { StaysFounded (names_spec.names_of_target target.now) (A.told asker.old)
         (A.told asker.new) }
     ensures asks { AsksOnly documents_spec.nothing [] (A.told asker.old) (A.told asker.new) }
     ensures grows { Grows (A.told asker.old) (A.told asker.new) }
@@ -78,11 +78,11 @@ pub(crate) fn lead_of<'a, A: Asker>(
 
 // Where a document leads, in it to a topic, or to an element of a topic: to the document's page for
 // the context of this page.
-#[tactic(auto, using(crate::proofs::Walking::walking))]
+#[tactic(auto, using(readers::proofs::Rules::walking))]
 pub(crate) fn lead_to<'a, A: Asker>(
-    page: Page<'a>,
+    page: PageRead<'a>,
     asker: &mut A,
-    standing: Standing<'a>,
+    standing: PlacedElement<'a>,
     name: &Name,
     topic: &str,
     id: &str,
@@ -91,7 +91,7 @@ pub(crate) fn lead_to<'a, A: Asker>(
     requires { spec.IsPlaced page standing }
     ensures known { (here : Here) → Agrees here.world (A.told asker.new)
         → spec.IsHere (A.stand asker.old) page.entry here → IfOk result (λ lead. spec.IsLead here
-        (anchors_spec.lead_to here (spec.element_of page.entry standing.entry) name.now topic.now
+        (anchors_spec.lead_of_document here (spec.element_of page.entry standing.entry) name.now topic.now
         id.now) lead faults.old faults.new) }
     ensures stand { A.stand asker.new ≡ A.stand asker.old }
     ensures founded { StaysFounded (name.now ∷ []) (A.told asker.old) (A.told asker.new) }
@@ -107,7 +107,7 @@ pub(crate) fn lead_to<'a, A: Asker>(
 
 // Where a document leads that has the page of this number.
 fn lead_to_page(
-    page: Page<'_>,
+    page: PageRead<'_>,
     name: &Name,
     number: u32,
     topic: &str,
@@ -118,7 +118,7 @@ fn lead_to_page(
         → pages_spec.page_for here.pages name.now (arc_value page.entry.context.now).page
         ≡ Some number
         → IfOk result (λ lead. spec.IsLead here
-        (anchors_spec.lead_to_page here element name.now topic.now id.now (Some number))
+        (anchors_spec.lead_of_page here element name.now topic.now id.now (Some number))
         lead faults faults) }
 {
     let Some(other) = page_numbered(page.plan, number) else {
@@ -141,7 +141,7 @@ fn page_numbered(plan: &Plan, number: u32) -> Option<&PagePlan>
 }
 
 // The href of what is no document of ours.
-pub(crate) fn href_outside(page: Page<'_>, target: &Target) -> Result<Option<Text>, NoMemory>
+pub(crate) fn href_outside(page: PageRead<'_>, target: &Target) -> Result<Option<Text>, NoMemory>
     ensures { IfOk result (λ href. href
         ≡ spec.href_outside (arc_value page.entry.context.now).name target.now) }
 {

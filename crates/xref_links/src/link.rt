@@ -16,13 +16,13 @@ ghost use Rattle.readers.specs.Named as named_spec;
 ghost use Rattle.readers.specs.Told.{Agrees};
 ghost use Rattle.xref_links.specs.Adding as spec;
 ghost use Rattle.xref_links.specs.Names as names_spec;
-ghost use Rattle.xref_links.specs.declared.page.Page as page_spec;
+ghost use Rattle.xref_links.specs.declared.page.PageRead as page_spec;
 
 use crate::hrefs::read_href;
 use crate::keyed::Keyed;
 use crate::lead::{Lead, lead_of, lead_to};
 use crate::made::AnchorsMade;
-use crate::page::{Page, Standing};
+use crate::page::{PageRead, PlacedElement};
 use crate::types::Types;
 use dita_doc::{
     Anchor, Fault, LinkKind, List, Name, NoMemory, Node, PageLink, Reference, Siblings, Target,
@@ -34,12 +34,12 @@ use readers::Asker;
 use std::alloc::Global;
 
 // Adds what an element of a defined key adds: it leads where the key leads, and shows its text.
-#[tactic(auto, using(crate::proofs::Walking::walking))]
+#[tactic(auto, using(readers::proofs::Rules::walking))]
 pub(crate) fn add_keyed<'a, A: Asker>(
-    page: Page<'a>,
+    page: PageRead<'a>,
     asker: &mut A,
     types: Types,
-    standing: Standing<'a>,
+    standing: PlacedElement<'a>,
     keyed: &Keyed<'a>,
     made: &mut AnchorsMade,
 ) -> Result<(), NoMemory>
@@ -54,7 +54,7 @@ pub(crate) fn add_keyed<'a, A: Asker>(
         (anchors_spec.linked_added here (spec.alone page.entry standing.entry)
         (anchors_spec.linked_by_key here (spec.element_of page.entry standing.entry) answer))) }
     ensures stand { A.stand asker.new ≡ A.stand asker.old }
-    ensures founded { StaysFounded (names_spec.names_of keyed.now.target) (A.told asker.old)
+    ensures founded { StaysFounded (names_spec.names_of_target keyed.now.target) (A.told asker.old)
         (A.told asker.new) }
     ensures asks { AsksOnly documents_spec.nothing [] (A.told asker.old) (A.told asker.new) }
     ensures grows { Grows (A.told asker.old) (A.told asker.new) }
@@ -66,11 +66,11 @@ pub(crate) fn add_keyed<'a, A: Asker>(
 }
 
 // Where an element leads by its key: `key/id` to that element of the key's document.
-#[tactic(auto, using(crate::proofs::Walking::walking))]
+#[tactic(auto, using(readers::proofs::Rules::walking))]
 fn lead_by_key<'a, A: Asker>(
-    page: Page<'a>,
+    page: PageRead<'a>,
     asker: &mut A,
-    standing: Standing<'a>,
+    standing: PlacedElement<'a>,
     id: Option<&'a str>,
     target: &Target,
     faults: &mut List<Fault>,
@@ -81,7 +81,7 @@ fn lead_by_key<'a, A: Asker>(
         (anchors_spec.lead_by_key here (spec.element_of page.entry standing.entry)
         (option_copied id.entry) target.now) lead faults.old faults.new) }
     ensures stand { A.stand asker.new ≡ A.stand asker.old }
-    ensures founded { StaysFounded (names_spec.names_of target.now) (A.told asker.old)
+    ensures founded { StaysFounded (names_spec.names_of_target target.now) (A.told asker.old)
         (A.told asker.new) }
     ensures asks { AsksOnly documents_spec.nothing [] (A.told asker.old) (A.told asker.new) }
     ensures grows { Grows (A.told asker.old) (A.told asker.new) }
@@ -98,11 +98,11 @@ fn lead_by_key<'a, A: Asker>(
 }
 
 // Where a document leads, to an element of the topic that its reference names, or of its first.
-#[tactic(auto, using(crate::proofs::Walking::walking))]
+#[tactic(auto, using(readers::proofs::Rules::walking))]
 fn lead_to_id<'a, A: Asker>(
-    page: Page<'a>,
+    page: PageRead<'a>,
     asker: &mut A,
-    standing: Standing<'a>,
+    standing: PlacedElement<'a>,
     name: &Name,
     reference: &Reference,
     id: &str,
@@ -111,7 +111,7 @@ fn lead_to_id<'a, A: Asker>(
     requires { spec.IsPlaced page standing }
     ensures known { (here : Here) → Agrees here.world (A.told asker.new)
         → spec.IsHere (A.stand asker.old) page.entry here → IfOk result (λ lead. spec.IsLead here
-        (anchors_spec.lead_to here (spec.element_of page.entry standing.entry) name.now
+        (anchors_spec.lead_of_document here (spec.element_of page.entry standing.entry) name.now
         (anchors_spec.topic_or_first here name.now reference.now.topic) id.now) lead
         faults.old faults.new) }
     ensures stand { A.stand asker.new ≡ A.stand asker.old }
@@ -124,7 +124,7 @@ fn lead_to_id<'a, A: Asker>(
 }
 
 // The topic that a key's reference names, or the first of the document.
-#[tactic(auto, using(crate::proofs::Walking::walking))]
+#[tactic(auto, using(readers::proofs::Rules::walking))]
 fn topic_or_first<A: Asker>(
     alloc: Global,
     asker: &mut A,
@@ -145,12 +145,12 @@ fn topic_or_first<A: Asker>(
 }
 
 // Adds what a cross reference or a link adds that is read by its href.
-#[tactic(auto, using(crate::proofs::Walking::walking))]
+#[tactic(auto, using(readers::proofs::Rules::walking))]
 pub(crate) fn add_written<'a, A: Asker>(
-    page: Page<'a>,
+    page: PageRead<'a>,
     asker: &mut A,
     types: Types,
-    standing: Standing<'a>,
+    standing: PlacedElement<'a>,
     made: &mut AnchorsMade,
 ) -> Result<(), NoMemory>
     requires { spec.IsPlaced page standing }
@@ -166,7 +166,7 @@ pub(crate) fn add_written<'a, A: Asker>(
         (elements_spec.attribute (codes "href") (spec.element_of page.entry standing.entry)))))) }
     ensures stand { A.stand asker.new ≡ A.stand asker.old }
     ensures founded { StaysFounded ((arc_value page.entry.context.now).page.doc
-        ∷ named_spec.linked_by (spec.element_of page.entry standing.entry)) (A.told asker.old)
+        ∷ named_spec.link_names (spec.element_of page.entry standing.entry)) (A.told asker.old)
         (A.told asker.new) }
     ensures asks { AsksOnly documents_spec.nothing [] (A.told asker.old) (A.told asker.new) }
     ensures grows { Grows (A.told asker.old) (A.told asker.new) }
@@ -176,12 +176,12 @@ pub(crate) fn add_written<'a, A: Asker>(
 }
 
 // Adds what a cross reference or a link of this target adds.
-#[tactic(auto, using(crate::proofs::Walking::walking))]
+#[tactic(auto, using(readers::proofs::Rules::walking))]
 fn add_read<'a, A: Asker>(
-    page: Page<'a>,
+    page: PageRead<'a>,
     asker: &mut A,
     types: Types,
-    standing: Standing<'a>,
+    standing: PlacedElement<'a>,
     target: &Target,
     made: &mut AnchorsMade,
 ) -> Result<(), NoMemory>
@@ -195,7 +195,7 @@ fn add_read<'a, A: Asker>(
         (anchors_spec.linked_by_read here (spec.element_of page.entry standing.entry)
         (spec.read_as target.now)))) }
     ensures stand { A.stand asker.new ≡ A.stand asker.old }
-    ensures founded { StaysFounded (names_spec.names_of target.now) (A.told asker.old)
+    ensures founded { StaysFounded (names_spec.names_of_target target.now) (A.told asker.old)
         (A.told asker.new) }
     ensures asks { AsksOnly documents_spec.nothing [] (A.told asker.old) (A.told asker.new) }
     ensures grows { Grows (A.told asker.old) (A.told asker.new) }
@@ -210,7 +210,7 @@ fn add_read<'a, A: Asker>(
 // shown as a cross reference holds no link itself.
 fn add_linked(
     types: Types,
-    standing: Standing<'_>,
+    standing: PlacedElement<'_>,
     lead: Lead,
     holds: bool,
     label: Text,
@@ -248,8 +248,12 @@ fn list_link(href: &Option<Text>, label: &Text, links: &mut List<PageLink>) -> R
 }
 
 // The text of a link is that of its linktext, if it has one.
-fn own_label(alloc: Global, types: Types, standing: Standing<'_>) -> Result<Option<Text>, NoMemory>
-    ensures { (page : page_spec.Page) (other : List ℕ) → IfOk result (λ label.
+fn own_label(
+    alloc: Global,
+    types: Types,
+    standing: PlacedElement<'_>,
+) -> Result<Option<Text>, NoMemory>
+    ensures { (page : page_spec.PageRead) (other : List ℕ) → IfOk result (λ label.
         unwrap_or label other
         ≡ spec.label_with types.is_link (spec.inside_of page standing.entry) other) }
 {
@@ -266,10 +270,10 @@ fn own_label(alloc: Global, types: Types, standing: Standing<'_>) -> Result<Opti
 fn label_or(
     alloc: Global,
     types: Types,
-    standing: Standing<'_>,
+    standing: PlacedElement<'_>,
     other: &Text,
 ) -> Result<Text, NoMemory>
-    ensures { (page : page_spec.Page) → IfOk result (λ label. label
+    ensures { (page : page_spec.PageRead) → IfOk result (λ label. label
         ≡ spec.label_with types.is_link (spec.inside_of page standing.entry) other.now) }
 {
     match own_label(alloc, types, standing)? {
@@ -279,20 +283,20 @@ fn label_or(
 }
 
 // The text that an element shows which is read by its href.
-#[tactic(auto, using(crate::proofs::Walking::walking))]
+#[tactic(auto, using(readers::proofs::Rules::walking))]
 fn label_of<A: Asker>(
     alloc: Global,
     asker: &mut A,
     types: Types,
-    standing: Standing<'_>,
+    standing: PlacedElement<'_>,
     target: &Target,
 ) -> Result<Text, NoMemory>
-    ensures known { (here : Here) (page : page_spec.Page) → Agrees here.world (A.told asker.new)
+    ensures known { (here : Here) (page : page_spec.PageRead) → Agrees here.world (A.told asker.new)
         → IfOk result (λ label.
         label ≡ spec.label_with types.is_link (spec.inside_of page standing.entry)
         (anchors_spec.text_of_target here (spec.element_of page standing.entry) target.now)) }
     ensures stand { A.stand asker.new ≡ A.stand asker.old }
-    ensures founded { StaysFounded (names_spec.names_of target.now) (A.told asker.old)
+    ensures founded { StaysFounded (names_spec.names_of_target target.now) (A.told asker.old)
         (A.told asker.new) }
     ensures asks { AsksOnly documents_spec.nothing [] (A.told asker.old) (A.told asker.new) }
     ensures grows { Grows (A.told asker.old) (A.told asker.new) }
@@ -304,7 +308,7 @@ fn label_of<A: Asker>(
 }
 
 // The text for what an element's href leads to: a topic's title, else the href as written.
-#[tactic(auto, using(crate::proofs::Walking::walking))]
+#[tactic(auto, using(readers::proofs::Rules::walking))]
 fn text_of_target<A: Asker>(
     alloc: Global,
     asker: &mut A,
@@ -316,7 +320,7 @@ fn text_of_target<A: Asker>(
         label ≡ anchors_spec.text_of_target here (walk_spec.element_of name element.now)
         target.now) }
     ensures stand { A.stand asker.new ≡ A.stand asker.old }
-    ensures founded { StaysFounded (names_spec.names_of target.now) (A.told asker.old)
+    ensures founded { StaysFounded (names_spec.names_of_target target.now) (A.told asker.old)
         (A.told asker.new) }
     ensures asks { AsksOnly documents_spec.nothing [] (A.told asker.old) (A.told asker.new) }
     ensures grows { Grows (A.told asker.old) (A.told asker.new) }

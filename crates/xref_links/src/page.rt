@@ -9,7 +9,7 @@ use std::sync::Arc;
 
 // A page whose elements are read: the plan that it is of, its context, and its body.
 #[derive(Clone, Copy)]
-pub(crate) struct Page<'a> {
+pub(crate) struct PageRead<'a> {
     pub alloc: Global,
     pub plan: &'a Plan,
     pub context: &'a Arc<Context>,
@@ -19,23 +19,23 @@ pub(crate) struct Page<'a> {
 // An element where it stands: its place, what it holds, and the id of the nearest topic, which a
 // topic itself is.
 #[derive(Clone, Copy)]
-pub(crate) struct Standing<'a> {
+pub(crate) struct PlacedElement<'a> {
     pub place: u32,
     pub node: &'a Node,
     pub inside: Siblings<'a>,
     pub topic: &'a str,
 }
 
-impl<'a> Page<'a> {
+impl<'a> PageRead<'a> {
     ghost use Rattle.std.specs.Prelude.{◌≡◌, ◌++◌, ◌∷◌, [], OnOk};
     ghost use Rattle.map_spec.specs.Elements as elements_spec;
     ghost use Rattle.xref_links.specs.Adding as spec;
     ghost use Rattle.xref_links.specs.Body as body_spec;
 
     // The document in which an element was written.
-    fn home(self, standing: Standing<'a>) -> &'a Name
+    fn home(self, standing: PlacedElement<'a>) -> &'a Name
         requires { spec.IsPlaced self standing }
-        ensures { result.now ≡ (body_spec.element_at self.entry.body.now standing.entry.place
+        ensures { result.now ≡ (body_spec.body_element self.entry.body.now standing.entry.place
             standing.entry.node.now).doc }
     {
         let origins = self.body.doc.origins.as_slice();
@@ -43,7 +43,7 @@ impl<'a> Page<'a> {
     }
 
     // The document in which an element's href was written.
-    pub(crate) fn href_home(self, standing: Standing<'a>) -> &'a Name
+    pub(crate) fn href_home(self, standing: PlacedElement<'a>) -> &'a Name
         requires { spec.IsPlaced self standing }
         ensures { result.now ≡ body_spec.href_home self.entry.body.now standing.entry.place }
     {
@@ -56,7 +56,7 @@ impl<'a> Page<'a> {
     // Appends a fault of an element, where it was written.
     pub(crate) fn put_fault(
         self,
-        standing: Standing<'a>,
+        standing: PlacedElement<'a>,
         code: FaultCode,
         detail: &str,
         faults: &mut List<Fault>,

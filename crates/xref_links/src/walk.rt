@@ -27,7 +27,7 @@ use crate::image::add_image;
 use crate::keyed::{Keyed, defined_key};
 use crate::link::{add_keyed, add_written};
 use crate::made::AnchorsMade;
-use crate::page::{Page, Standing};
+use crate::page::{PageRead, PlacedElement};
 use crate::types::Types;
 use dita_doc::{Context, First, NoMemory, Node, Plan, Resolved, Siblings, Target};
 use readers::Asker;
@@ -67,7 +67,7 @@ pub fn anchors<A: Asker>(
     ensures asks { AsksOnly documents_spec.nothing [] (A.told asker.old) (A.told asker.new) }
     ensures grows { Grows (A.told asker.old) (A.told asker.new) }
 {
-    let page = Page {
+    let page = PageRead {
         alloc,
         plan,
         context,
@@ -77,8 +77,8 @@ pub fn anchors<A: Asker>(
 }
 
 // What `anchors` says, but of the asker's own world.
-#[tactic(auto, using(crate::proofs::Walking::walking))]
-fn anchors_of<A: Asker>(page: Page<'_>, asker: &mut A) -> Result<AnchorsMade, NoMemory>
+#[tactic(auto, using(readers::proofs::Rules::walking))]
+fn anchors_of<A: Asker>(page: PageRead<'_>, asker: &mut A) -> Result<AnchorsMade, NoMemory>
     ensures known { (here : Here) → Agrees here.world (A.told asker.new)
         → spec.IsHere (A.stand asker.old) page.entry here
         → IfOk result (λ made.
@@ -97,9 +97,9 @@ fn anchors_of<A: Asker>(page: Page<'_>, asker: &mut A) -> Result<AnchorsMade, No
 
 // Adds what these elements and those below them add; `topic` is the id of the nearest topic around.
 // It counts the places on the way, from that of the first of them, and gives the place behind them.
-#[tactic(auto, using(crate::proofs::Walking::walking))]
+#[tactic(auto, using(readers::proofs::Rules::walking))]
 fn walk<'a, A: Asker>(
-    page: Page<'a>,
+    page: PageRead<'a>,
     asker: &mut A,
     siblings: Siblings<'a>,
     place: u32,
@@ -108,7 +108,7 @@ fn walk<'a, A: Asker>(
 ) -> Result<u32, NoMemory>
     requires room { place + tree_spec.size_of (siblings_spec.content siblings)
         ≤ length page.body.now.doc.nodes }
-    requires document { siblings_spec.document siblings ≡ page.body.now.doc }
+    requires document { siblings_spec.doc_of_siblings siblings ≡ page.body.now.doc }
     ensures past { IfOk result (λ past.
         past ≡ place + tree_spec.size_of (siblings_spec.content siblings.entry)) }
     ensures known { (here : Here) (around : Option TopicAt) → Agrees here.world (A.told asker.new)
@@ -140,7 +140,7 @@ fn walk<'a, A: Asker>(
             } => {
                 let types = Types::of(node);
                 let nearest = topic_inside(types, node, topic);
-                let standing = Standing {
+                let standing = PlacedElement {
                     place: here,
                     node,
                     inside,
@@ -167,12 +167,12 @@ fn topic_inside<'a>(types: Types, element: &'a Node, topic: &'a str) -> &'a str
 }
 
 // Adds what an element adds. A key on one without a class that can be read says nothing.
-#[tactic(auto, using(crate::proofs::Walking::walking))]
+#[tactic(auto, using(readers::proofs::Rules::walking))]
 fn add<'a, A: Asker>(
-    page: Page<'a>,
+    page: PageRead<'a>,
     asker: &mut A,
     types: Types,
-    standing: Standing<'a>,
+    standing: PlacedElement<'a>,
     made: &mut AnchorsMade,
 ) -> Result<(), NoMemory>
     requires { spec.IsPlaced page standing }
@@ -186,7 +186,7 @@ fn add<'a, A: Asker>(
     ensures stand { A.stand asker.new ≡ A.stand asker.old }
     ensures founded { (nodes : List PlanNode) → (A.stand asker.old).setting.nodes ≡ nodes
         → StaysFounded (names_spec.names_with nodes (arc_value page.entry.context.now).page.doc
-        (named_spec.linked_by (spec.element_of page.entry standing.entry))) (A.told asker.old)
+        (named_spec.link_names (spec.element_of page.entry standing.entry))) (A.told asker.old)
         (A.told asker.new) }
     ensures asks { AsksOnly documents_spec.nothing [] (A.told asker.old) (A.told asker.new) }
     ensures grows { Grows (A.told asker.old) (A.told asker.new) }
@@ -199,12 +199,12 @@ fn add<'a, A: Asker>(
 }
 
 // Adds what an element adds behind the faults of its key.
-#[tactic(auto, using(crate::proofs::Walking::walking))]
+#[tactic(auto, using(readers::proofs::Rules::walking))]
 fn add_behind<'a, A: Asker>(
-    page: Page<'a>,
+    page: PageRead<'a>,
     asker: &mut A,
     types: Types,
-    standing: Standing<'a>,
+    standing: PlacedElement<'a>,
     keyed: Option<Keyed<'a>>,
     made: &mut AnchorsMade,
 ) -> Result<(), NoMemory>
@@ -219,9 +219,9 @@ fn add_behind<'a, A: Asker>(
         → OnOk result (spec.HasMore made.old made.new
         (anchors_spec.added_by here (spec.stands_in page.entry standing.entry around))) }
     ensures stand { A.stand asker.new ≡ A.stand asker.old }
-    ensures founded { StaysFounded (names_spec.names_of (spec.target_of keyed.entry)
+    ensures founded { StaysFounded (names_spec.names_of_target (spec.target_of keyed.entry)
         ++ (arc_value page.entry.context.now).page.doc
-        ∷ named_spec.linked_by (spec.element_of page.entry standing.entry)) (A.told asker.old)
+        ∷ named_spec.link_names (spec.element_of page.entry standing.entry)) (A.told asker.old)
         (A.told asker.new) }
     ensures asks { AsksOnly documents_spec.nothing [] (A.told asker.old) (A.told asker.new) }
     ensures grows { Grows (A.told asker.old) (A.told asker.new) }
@@ -236,12 +236,12 @@ fn add_behind<'a, A: Asker>(
 }
 
 // Adds what an element adds that is no image and names no defined key.
-#[tactic(auto, using(crate::proofs::Walking::walking))]
+#[tactic(auto, using(readers::proofs::Rules::walking))]
 fn add_unkeyed<'a, A: Asker>(
-    page: Page<'a>,
+    page: PageRead<'a>,
     asker: &mut A,
     types: Types,
-    standing: Standing<'a>,
+    standing: PlacedElement<'a>,
     made: &mut AnchorsMade,
 ) -> Result<(), NoMemory>
     requires { spec.IsPlaced page standing }
@@ -256,7 +256,7 @@ fn add_unkeyed<'a, A: Asker>(
         (anchors_spec.added_by here (spec.stands_in page.entry standing.entry around))) }
     ensures stand { A.stand asker.new ≡ A.stand asker.old }
     ensures founded { StaysFounded ((arc_value page.entry.context.now).page.doc
-        ∷ named_spec.linked_by (spec.element_of page.entry standing.entry)) (A.told asker.old)
+        ∷ named_spec.link_names (spec.element_of page.entry standing.entry)) (A.told asker.old)
         (A.told asker.new) }
     ensures asks { AsksOnly documents_spec.nothing [] (A.told asker.old) (A.told asker.new) }
     ensures grows { Grows (A.told asker.old) (A.told asker.new) }

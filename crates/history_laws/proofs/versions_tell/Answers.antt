@@ -2,7 +2,7 @@ use Rattle.std.proofs.Common.{◌≡◌, ℕ, Some, ap, sym, ◌∙◌, subst, a
 use Rattle.std.specs.List.{slice_get}
 use Rattle.std.proofs.lemmas.Option.{same_Some}
 use Rattle.dita_doc.specs.Bytes.{Bytes}
-use Rattle.dita_doc.specs.Desk.{Stored, found, nodes_in}
+use Rattle.dita_doc.specs.Desk.{Stored, stored_under, nodes_in}
 use Rattle.dita_doc.specs.History.{Entry, sources}
 use Rattle.dita_doc.specs.Pyx.{document_of}
 use Rattle.dita_doc.specs.Request.{Edit, Put, PutIf, Remove, Request, Single, Get, Names, Build, Group}
@@ -31,7 +31,7 @@ same_stored s t a b c d = λ i. record { name = a i; nodes = b i; bytes = c i; v
 
 -- both come from one entry, and have the name
 one_document : (history : Entries) (m n : ℕ) (name : Bytes) (stored again : Stored)
-    → found (sources history m) name ≡ Some stored → found (sources history n) name ≡ Some again
+    → stored_under (sources history m) name ≡ Some stored → stored_under (sources history n) name ≡ Some again
     → stored.version ≡ again.version → stored ≡ again
 one_document history m n name stored again is too same =
     let first = from_sources history m name stored is in

@@ -3,7 +3,7 @@ use Rattle.std.specs.List.{All}
 use Rattle.std.specs.Str.{IsUtf8}
 use Rattle.std.proofs.lemmas.List.Elements.{All-head, All-tail}
 use Rattle.dita_doc.specs.ClassValue.{words_of}
-use Rattle.plan_nodes.proofs.WordLaws.{utf8_words}
+use Rattle.dita_doc.proofs.Utf8Laws.{utf8_words}
 use Rattle.attr_cascade.proofs.TextLaws.{words_on}
 use Rattle.attr_cascade.proofs.tokens.words_in.Goals as goal
 

@@ -1,8 +1,8 @@
 use Rattle.std.proofs.Common.{◌≡◌, false, refl}
 use Rattle.dita_doc.specs.declared.plan.PlanKind.{PlanKind}
 use Rattle.dita_doc.specs.declared.plan.PlanKind.TheVariants.{Map, Reference, Included, DitavalRef, Group, RelTable, RelRow, RelCell}
+use Rattle.dita_doc.proofs.Lists.{get_read}
 use Rattle.map_spec.specs.Branches.{is_map_node}
-use Rattle.node_filter.proofs.HomeLaws.{node_there}
 use Rattle.branch_copies.proofs.branches.is_map_at.Goals as goal
 
 no_map : (kind : PlanKind) → (kind ≡ Map → ⊥) → false ≡ is_map_node kind
@@ -19,4 +19,4 @@ pub returns-in_default : goal.returns-in_default
 returns-in_default c =
     let node = c.in-Some.node.now in
     let found = c.in-Some.ensures.lookup in
-    rw (node_there c.args.nodes.now c.args.at node found.3.0 found.1) (no_map node.kind c.in_default.not-Map)
+    rw (get_read c.args.nodes.now c.args.at node found.3.0 found.1) (no_map node.kind c.in_default.not-Map)

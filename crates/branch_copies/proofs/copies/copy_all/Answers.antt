@@ -4,15 +4,15 @@ use Rattle.map_spec.specs.MapTree.{MapNode, MapTree, NoNodes, plan_nodes}
 use Rattle.plan_nodes.specs.Preorder.{without_end}
 use Rattle.node_filter.specs.Domains.{shown}
 use Rattle.branch_copies.specs.Read.{AreRead, HaveBranches}
-use Rattle.branch_copies.specs.Source.{IsSource}
-use Rattle.branch_copies.specs.declared.node.Source.{Source}
+use Rattle.branch_copies.specs.Originals.{IsSource}
+use Rattle.branch_copies.specs.declared.node.Originals.{Originals}
 use Rattle.branch_copies.proofs.EndLaws.{begun, ended_all, ends_of, finished, one_root, stopped}
 use Rattle.branch_copies.proofs.copies.copy_all.Goals as goal
 
 pub returns-in-Err-clause-copied : goal.returns-in-Err-clause-copied
 returns-in-Err-clause-copied c = λ world head below defined kind are homes declared names read have.
     let tree : MapTree = MapNode head below NoNodes in
-    let source : Source = record {
+    let source : Originals = record {
       nodes = c.args.nodes;
       homes = c.args.homes;
       declared = c.into_vec.result;
@@ -39,7 +39,7 @@ returns-in-Err-clause-copied c = λ world head below defined kind are homes decl
 pub returns-clause-copied : goal.returns-clause-copied
 returns-clause-copied c = λ world head below defined kind are homes declared names read have.
     let tree : MapTree = MapNode head below NoNodes in
-    let source : Source = record {
+    let source : Originals = record {
       nodes = c.args.nodes;
       homes = c.args.homes;
       declared = c.into_vec.result;

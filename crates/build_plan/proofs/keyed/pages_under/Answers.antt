@@ -17,21 +17,21 @@ returns-clause-known g c = λ world agrees.
 pub returns-clause-founded : goal.returns-clause-founded
 returns-clause-founded g c =
     let nodes = c.args.layer.now.nodes.now in
-    let setting = made_for nodes g.S.Since.stand.setting in
+    let setting = made_for nodes g.S.LogStart.stand.setting in
     let last = c.pages.new.asker in
-    let above = told_onto (made_for last.nodes.now g.S.Since.stand.setting) g.S.Since.told last.asked.now in
-    let stays = subst (λ notes. StaysFounded (homes nodes) (told_onto setting g.S.Since.told notes) above)
+    let above = told_onto (made_for last.nodes.now g.S.LogStart.stand.setting) g.S.LogStart.told last.asked.now in
+    let stays = subst (λ notes. StaysFounded (homes nodes) (told_onto setting g.S.LogStart.told notes) above)
     c.requires.asked (c.pages.ensures.founded refl) in
     record { by = λ roots allowed founded. last.carried.founded roots (stays.by roots allowed founded) }
 
 pub returns-clause-asks : goal.returns-clause-asks
 returns-clause-asks g c =
     let nodes = c.args.layer.now.nodes.now in
-    let setting = made_for nodes g.S.Since.stand.setting in
+    let setting = made_for nodes g.S.LogStart.stand.setting in
     let last = c.pages.new.asker in
-    let above = told_onto (made_for last.nodes.now g.S.Since.stand.setting) g.S.Since.told last.asked.now in
-    asks_below nothing (homes nodes) g.S.Since.told _ above
+    let above = told_onto (made_for last.nodes.now g.S.LogStart.stand.setting) g.S.LogStart.told last.asked.now in
+    asks_below nothing (homes nodes) g.S.LogStart.told _ above
     (record { keys = λ nodes scope text answer. refl; tried = λ names. refl; sought = λ name. refl })
     last.grown last.passed
-    (subst (λ notes. AsksOnly nothing (homes nodes) (told_onto setting g.S.Since.told notes) above)
+    (subst (λ notes. AsksOnly nothing (homes nodes) (told_onto setting g.S.LogStart.told notes) above)
     c.requires.asked c.pages.ensures.asks)

@@ -15,18 +15,18 @@ returns-in-Err-clause-known g c = λ world agrees.
 
 pub returns-in-Ok-clause-founded : goal.returns-in-Ok-clause-founded
 returns-in-Ok-clause-founded g c =
-    let setting = g.S.Since.stand.setting in
+    let setting = g.S.LogStart.stand.setting in
     let last = c.planned.new.asker in
     let stays = subst (λ notes. StaysFounded (build_names c.args.map.now (option_copied c.args.val))
-    (told_onto setting g.S.Since.told notes) (told_onto setting g.S.Since.told last.asked.now))
+    (told_onto setting g.S.LogStart.told notes) (told_onto setting g.S.LogStart.told last.asked.now))
     c.requires.asked c.planned.ensures.founded in
     record { by = λ roots allowed founded. last.carried.founded roots (stays.by roots allowed founded) }
 
 pub returns-in-Err-clause-founded : goal.returns-in-Err-clause-founded
 returns-in-Err-clause-founded g c =
-    let setting = g.S.Since.stand.setting in
+    let setting = g.S.LogStart.stand.setting in
     let last = c.planned.new.asker in
     let stays = subst (λ notes. StaysFounded (build_names c.args.map.now (option_copied c.args.val))
-    (told_onto setting g.S.Since.told notes) (told_onto setting g.S.Since.told last.asked.now))
+    (told_onto setting g.S.LogStart.told notes) (told_onto setting g.S.LogStart.told last.asked.now))
     c.requires.asked c.planned.ensures.founded in
     record { by = λ roots allowed founded. last.carried.founded roots (stays.by roots allowed founded) }

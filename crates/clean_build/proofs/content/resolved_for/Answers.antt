@@ -3,7 +3,7 @@ use Rattle.std.proofs.Common.{sym, subst}
 use Rattle.conref_targets.specs.Asking.{of_content}
 use Rattle.conref_pull.specs.Resolved.{IsResolved, page_made}
 use Rattle.conref_targets.specs.Rules.{AreRules, HasAll, ditavals}
-use Rattle.conref_targets.specs.Setting.{documents_in}
+use Rattle.conref_targets.specs.ResolveInput.{documents_in}
 use Rattle.conref_targets.specs.Tables.{AreTables}
 use Rattle.dita_doc.specs.declared.content.Resolved.{Resolved}
 use Rattle.dita_doc.specs.declared.plan.Context.{Context}

@@ -13,12 +13,12 @@ returns-clause-grows g c = c.run.new.asker.grown
 
 pub returns-clause-founded : goal.returns-clause-founded
 returns-clause-founded g c =
-    let start = g.S.Since.stand.setting in
+    let start = g.S.LogStart.stand.setting in
     let first = c.args.layer.now in
     let last = c.run.new.asker in
-    let names = homes start.nodes ++ g.W.PlanWork.about c.args.work in
-    let above = told_onto (made_for last.documents.now last.pages.now start) g.S.Since.told last.asked.now in
+    let names = homes start.nodes ++ g.W.PlanTask.about c.args.work in
+    let above = told_onto (made_for last.documents.now last.pages.now start) g.S.LogStart.told last.asked.now in
     let stays = subst (λ notes. StaysFounded names
-    (told_onto (made_for first.documents.now first.pages.now start) g.S.Since.told notes) above) c.requires.asked
+    (told_onto (made_for first.documents.now first.pages.now start) g.S.LogStart.told notes) above) c.requires.asked
     c.run.ensures.founded in
     record { by = λ roots allowed founded. last.carried.founded roots founded (stays.by roots allowed founded) }

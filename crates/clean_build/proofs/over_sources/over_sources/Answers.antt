@@ -10,5 +10,5 @@ over_later-requires-clause-kept g c = subst (λ world. AreKept world c.args.plan
 
 pub returns-clause-made : goal.returns-clause-made
 returns-clause-made g c =
-    subst (λ world. g.W.PlanWork.makes c.args.work world (made_for c.args.plan.now) c.in_ok-made.made)
+    subst (λ world. g.W.PlanTask.makes c.args.work world (made_for c.args.plan.now) c.in_ok-made.made)
     (ap world_of c.new-reader.ensures.sources ∙ c.requires.goes_on.sources) c.in_ok-made.ensures.made

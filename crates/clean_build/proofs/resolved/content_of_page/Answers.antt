@@ -7,9 +7,9 @@ use Rattle.dita_doc.specs.declared.content.Resolved.{Resolved}
 use Rattle.readers.proofs.FoundedLaws.{stays_after}
 use Rattle.readers.proofs.GrowthLaws.{agrees_before, grows_trans}
 use Rattle.readers.specs.Setting.{Stand}
-use Rattle.clean_build.specs.Ground.{IsReady}
+use Rattle.clean_build.specs.BuildInput.{IsReady}
 use Rattle.clean_build.specs.Made.{IsRootLine}
-use Rattle.clean_build.specs.Names.{names_of, names_of_page}
+use Rattle.clean_build.specs.Names.{names_of_build, names_of_page}
 use Rattle.clean_build.proofs.AskLaws.{asks_first, asks_page}
 use Rattle.clean_build.proofs.NameLaws.{stays_content, stays_doc, stays_with}
 use Rattle.clean_build.proofs.PageLaws.{content_rooted, content_rootless}
@@ -46,7 +46,7 @@ returns-in-Some-clause-founded g c =
     let ground = c.args.ground in
     let page = c.args.page.now in
     stays_after _ _ _ _ c.root_line.ensures.grows (stays_doc _ _ _ ground page c.root_line.ensures.founded)
-    (stays_with _ _ (names_of_page page ++ names_of ground) _ _ c.in_ok-root_line.ensures.stand
+    (stays_with _ _ (names_of_page page ++ names_of_build ground) _ _ c.in_ok-root_line.ensures.stand
     (stays_content _ _ _ ground page c.content_on_ground.ensures.founded))
 
 pub returns-in-Some-clause-grows : goal.returns-in-Some-clause-grows

@@ -7,9 +7,9 @@ use Rattle.part_spec.specs.Parts.{rooms}
 use Rattle.readers.proofs.FoundedLaws.{stays_after, stays_same}
 use Rattle.readers.proofs.GrowthLaws.{agrees_before, grows_trans}
 use Rattle.readers.specs.Setting.{Stand}
-use Rattle.clean_build.specs.Ground.{IsReady}
+use Rattle.clean_build.specs.BuildInput.{IsReady}
 use Rattle.clean_build.specs.Made.{page_behind}
-use Rattle.clean_build.specs.Names.{names_of}
+use Rattle.clean_build.specs.Names.{names_of_build}
 use Rattle.clean_build.proofs.NameLaws.{stays_links, stays_page, stays_with}
 use Rattle.clean_build.proofs.PageLaws.{page_nowhere, page_there}
 use Rattle.clean_build.proofs.ReadyLaws.{can_link}
@@ -59,7 +59,7 @@ returns-in_err-html-clause-founded g c =
     c.in-Some.ensures.lookup.3.0 c.in-Some.ensures.lookup.1 in
     let before = stays_links _ _ _ c.args.ground c.of.ensures.founded in
     stays_after _ _ _ _ c.of.ensures.grows before
-    (stays_with _ _ (names_of c.args.ground) _ _ c.in_ok-links.ensures.stand
+    (stays_with _ _ (names_of_build c.args.ground) _ _ c.in_ok-links.ensures.stand
     (stays_page _ _ _ c.args.ground page c.args.index there c.run.ensures.founded))
 
 pub returns-clause-founded : goal.returns-clause-founded
@@ -69,7 +69,7 @@ returns-clause-founded g c =
     c.in-Some.ensures.lookup.3.0 c.in-Some.ensures.lookup.1 in
     let before = stays_links _ _ _ c.args.ground c.of.ensures.founded in
     stays_after _ _ _ _ c.of.ensures.grows before
-    (stays_with _ _ (names_of c.args.ground) _ _ c.in_ok-links.ensures.stand
+    (stays_with _ _ (names_of_build c.args.ground) _ _ c.in_ok-links.ensures.stand
     (stays_page _ _ _ c.args.ground page c.args.index there c.run.ensures.founded))
 
 pub returns-in_err-html-clause-grows : goal.returns-in_err-html-clause-grows

@@ -6,17 +6,17 @@ use Rattle.clean_build.proofs.TermLaws.{are_few, are_many, not_wanted, page_made
 use Rattle.clean_build.proofs.terms.terms_page.Goals as goal
 
 pub returns-then-not-with_terms : goal.returns-then-not-with_terms
-returns-then-not-with_terms g c = not_wanted c.args.with_terms g.S.Since.stand.world c.args.ground.plan.now
+returns-then-not-with_terms g c = not_wanted c.args.with_terms g.S.LogStart.stand.world c.args.ground.plan.now
     (option_copied c.args.ground.val) c.if-not-with_terms.true
 
 pub returns-then-is_too_large : goal.returns-then-is_too_large
-returns-then-is_too_large g c = too_large c.args.with_terms g.S.Since.stand.world c.args.ground.plan.now
+returns-then-is_too_large g c = too_large c.args.with_terms g.S.LogStart.stand.world c.args.ground.plan.now
     (option_copied c.args.ground.val)
     (ap (λ total. nat_le total total_limit) (sym c.requires.gathered.put.total)
     ∙ are_many _ _ c.is_too_large.ensures c.if-is_too_large.true)
 
 pub returns : goal.returns
-returns g c = page_made c.args.with_terms g.S.Since.stand.world c.args.ground.plan.now
+returns g c = page_made c.args.with_terms g.S.LogStart.stand.world c.args.ground.plan.now
     (option_copied c.args.ground.val) c.args.terms.now c.in_ok-page.page c.if-not-with_terms.false
     (ap (λ total. nat_le total total_limit) (sym c.requires.gathered.put.total)
     ∙ are_few _ _ c.is_too_large.ensures c.if-is_too_large.false)

@@ -12,12 +12,12 @@ pub put_parts-requires-clause-links : goal.put_parts-requires-clause-links
 put_parts-requires-clause-links g c = c.in_ok-links.ensures.made (record { is = c.requires.plan; made = refl })
 
 pub put_parts-requires-clause-gathered : goal.put_parts-requires-clause-gathered
-put_parts-requires-clause-gathered g c = c.in_ok-gathered.ensures g.S.Since.stand.world
+put_parts-requires-clause-gathered g c = c.in_ok-gathered.ensures g.S.LogStart.stand.world
     (c.in_ok-links.ensures.made (record { is = c.requires.plan; made = refl }))
 
 pub returns-clause-built : goal.returns-clause-built
 returns-clause-built g c =
-    let world = g.S.Since.stand.world in
+    let world = g.S.LogStart.stand.world in
     let ground = c.args.ground in
     let plan = ground.plan.now in
     let val = option_copied ground.val in

@@ -9,7 +9,7 @@ use Rattle.clean_build.proofs.whole_build.put_contents.Goals as goal
 
 pub returns-clause-put : goal.returns-clause-put
 returns-clause-put g c =
-    let world = g.S.Since.stand.world in
+    let world = g.S.LogStart.stand.world in
     let plan = c.args.ground.plan.now in
     let val = option_copied c.args.ground.val in
     let has = c.requires.put in

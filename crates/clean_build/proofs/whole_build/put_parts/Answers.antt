@@ -16,7 +16,7 @@ use Rattle.clean_build.proofs.whole_build.put_parts.Goals as goal
 
 pub loop-index-init : goal.loop-index-init
 loop-index-init g c =
-    let world = g.S.Since.stand.world in
+    let world = g.S.LogStart.stand.world in
     let plan = c.args.ground.plan.now in record {
       goes_on = c.requires.goes_on;
       content = record {
@@ -29,7 +29,7 @@ loop-index-init g c =
 
 pub loop-index-preserved : goal.loop-index-preserved
 loop-index-preserved g c =
-    let world = g.S.Since.stand.world in
+    let world = g.S.LogStart.stand.world in
     let ground = c.args.ground in
     let plan = ground.plan.now in
     let val = option_copied ground.val in
@@ -64,12 +64,12 @@ pub put_contents-requires-clause-put : goal.put_contents-requires-clause-put
 put_contents-requires-clause-put g c =
     let enough = subst (λ (pages : List PagePlan). length pages ≤ c.loop-index.index) c.as_slice-page-items.ensures
     c.loop-index-test.false in
-    all_put g.S.Since.stand.world c.args.ground.plan.now (option_copied c.args.ground.val) c.loop-index.index
+    all_put g.S.LogStart.stand.world c.args.ground.plan.now (option_copied c.args.ground.val) c.loop-index.index
     c.loop-index.gathered enough c.loop-index.invariant.put
 
 pub returns-clause-terms : goal.returns-clause-terms
 returns-clause-terms g c =
     let enough = subst (λ (pages : List PagePlan). length pages ≤ c.loop-index.index) c.as_slice-page-items.ensures
     c.loop-index-test.false in
-    all_terms c.args.with_terms g.S.Since.stand.world c.args.ground.plan.now (option_copied c.args.ground.val)
+    all_terms c.args.with_terms g.S.LogStart.stand.world c.args.ground.plan.now (option_copied c.args.ground.val)
     c.loop-index.index c.loop-index.terms enough c.loop-index.invariant.terms

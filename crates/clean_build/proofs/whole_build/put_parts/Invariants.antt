@@ -8,9 +8,10 @@ use Rattle.clean_build.proofs.whole_build.put_parts.Given as goal
 
 abbrev pub invariant-loop-index : goal.invariant-loop-index
 invariant-loop-index g l = record {
-  goes_on : GoesOn g.S.Since.stand.world l.fn.ground.plan.now.documents l.lasting;
-  content : AreKnown g.S.Since.stand.world l.fn.ground.plan.now l.content;
-  put : HasPagesOf g.S.Since.stand.world l.fn.ground.plan.now (option_copied l.fn.ground.val) l.index l.gathered;
+  goes_on : GoesOn g.S.LogStart.stand.world l.fn.ground.plan.now.documents l.lasting;
+  content : AreKnown g.S.LogStart.stand.world l.fn.ground.plan.now l.content;
+  put : HasPagesOf g.S.LogStart.stand.world l.fn.ground.plan.now (option_copied l.fn.ground.val) l.index l.gathered;
   terms : l.terms
-      ≡ terms_before l.fn.with_terms g.S.Since.stand.world l.fn.ground.plan.now (option_copied l.fn.ground.val) l.index;
+      ≡ terms_before l.fn.with_terms g.S.LogStart.stand.world l.fn.ground.plan.now
+      (option_copied l.fn.ground.val) l.index;
 }

@@ -1,7 +1,7 @@
 use Rattle.std.specs.Prelude.{ℕ, Option}
 use Rattle.std.proofs.Common.{ap, ◌∙◌}
 use Rattle.clean_build.specs.Bodies.{content_of, terms_wanted}
-use Rattle.clean_build.specs.Ground.{context_for}
+use Rattle.clean_build.specs.BuildInput.{context_for}
 use Rattle.clean_build.proofs.NameLaws.{stays_content, stays_linked, stays_titled}
 use Rattle.clean_build.proofs.PageLaws.{page_shown}
 use Rattle.readers.proofs.GrowthLaws.{agrees_before, grows_trans}

@@ -1,7 +1,7 @@
 use Rattle.std.proofs.Common.{subst}
 use Rattle.readers.specs.Setting.{Stand}
 use Rattle.readers.specs.Told.{Agrees}
-use Rattle.conref_targets.specs.Setting.{documents_in}
+use Rattle.conref_targets.specs.ResolveInput.{documents_in}
 use Rattle.conref_pull.proofs.calls.resolve_page.Goals as goal
 
 pub returns-clause-known : goal.returns-clause-known

@@ -17,7 +17,7 @@ use Rattle.conref_targets.specs.Asking.{AreGiven, reused_of_doc}
 use Rattle.conref_targets.specs.Origin.{named_content}
 use Rattle.conref_targets.specs.Hrefs.{HaveNamed}
 use Rattle.conref_targets.specs.Rules.{ditavals, page_rules}
-use Rattle.conref_targets.specs.Setting.{documents_in, setting_of}
+use Rattle.conref_targets.specs.ResolveInput.{documents_in, setting_of}
 use Rattle.conref_targets.proofs.AskingLaws.{about_ditavals, about_next, about_rules_first, about_then, given_reused, none_among}
 use Rattle.conref_targets.proofs.OriginLaws.{content_named}
 use Rattle.conref_targets.proofs.HrefGivenLaws.{found_named}

@@ -17,8 +17,8 @@ use Rattle.std.proofs.lemmas.Result.{IfOk-weaker, on_ok_weaker}
 use Rattle.conref_spec.specs.Content.{Made, page_root, resolved_in}
 use Rattle.conref_targets.specs.Hrefs.{HaveNamed}
 use Rattle.conref_targets.specs.Rules.{ditavals, page_rules}
-use Rattle.conref_targets.specs.Setting.{setting_of}
-use Rattle.conref_targets.specs.Around.{Stands, alone_at, around_at, nothing_around, standing_shown}
+use Rattle.conref_targets.specs.ResolveInput.{setting_of}
+use Rattle.conref_targets.specs.Around.{StandsAround, alone_at, around_at, nothing_around, standing_shown}
 use Rattle.conref_targets.proofs.HrefGivenLaws.{found_named}
 use Rattle.conref_targets.proofs.RuleLaws.{rules_of_page}
 use Rattle.conref_pull.specs.PutHrefs.{HaveNamedIn}
@@ -162,7 +162,7 @@ returns-clause-known g c = λ world agrees rules tables.
     (walks_as c.node_at-done.result setting.pushed 0 (among_made here false around alone) all c.new-resolver.result
     c.node_at-done.new.self c.node_at-done.new.places
     (all_made setting around (c.in_ok-standing.standing.depth + 1) alone
-    ∙ ap (λ (stands : Stands). resolved_in setting stands.around (stands.depth + 1) alone)
+    ∙ ap (λ (stands : StandsAround). resolved_in setting stands.around (stands.depth + 1) alone)
     (c.in_ok-standing.ensures ∙ ap (λ (nodes : Written). around_at nothing_around nodes c.args.place)
     (ap named_tree c.deref.ensures ∙ root))
     ∙ ap (λ (nodes : Written). resolved_in setting meant.around (meant.depth + 1) (alone_at nodes c.args.place))

@@ -2,11 +2,12 @@ use Rattle.std.proofs.Common.{◌∙◌, ap, sym}
 use Rattle.readers.proofs.DocumentLaws.{asks_one}
 use Rattle.readers.proofs.FoundedLaws.{among_first, stays_one}
 use Rattle.readers.proofs.GrowthLaws.{agrees_before, grows_trans, told_answer}
+use Rattle.readers.proofs.OnlyLaws.{only_one}
 use Rattle.readers.specs.Documents.{nothing}
 use Rattle.readers.specs.Told.{tree_found}
 use Rattle.conref_push.specs.Into.{docs_of, froms}
 use Rattle.conref_push.proofs.AskedLaws.{given_asked}
-use Rattle.conref_push.proofs.SourceLaws.{asks_docs, stays_docs}
+use Rattle.conref_push.proofs.SourceLaws.{asks_docs, only_doc, only_docs, stays_docs}
 use Rattle.conref_push.proofs.pushed_doc.ask_all.Goals as goal
 
 pub returns-in_err-sources-clause-founded : goal.returns-in_err-sources-clause-founded
@@ -83,3 +84,12 @@ returns-clause-stand g c = c.of.ensures.stand ∙ c.in_ok-found.ensures.stand
 
 pub returns-clause-grows : goal.returns-clause-grows
 returns-clause-grows g c = grows_trans _ _ _ c.in_ok-found.ensures.grows c.of.ensures.grows
+
+pub returns-in_default-clause-only : goal.returns-in_default-clause-only
+returns-in_default-clause-only g c = only_one c.args.doc.now (docs_of c.args.doc.now c.args.pushes.now) _ _
+    (among_first c.args.doc.now (froms c.args.pushes.now))
+    (only_doc c.args.doc.now _ _ _ c.in_ok-found.ensures.told)
+
+pub returns-clause-only : goal.returns-clause-only
+returns-clause-only g c = only_docs c.args.doc.now c.args.pushes.now _ _ _
+    (only_doc c.args.doc.now _ _ _ c.in_ok-found.ensures.told) c.in_ok-sources.ensures.only

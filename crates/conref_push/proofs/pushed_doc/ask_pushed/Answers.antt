@@ -1,6 +1,8 @@
 use Rattle.std.proofs.Common.{subst}
+use Rattle.conref_push.specs.Into.{docs_of}
 use Rattle.conref_push.specs.Making.{AreAsked}
 use Rattle.conref_push.proofs.AskedLaws.{asked_given, asked_same}
+use Rattle.readers.specs.Only.{TellsOnly, is_document_of}
 use Rattle.conref_push.proofs.pushed_doc.ask_pushed.Goals as goal
 
 pub returns-clause-fixed : goal.returns-clause-fixed
@@ -21,3 +23,8 @@ returns-clause-given g c = λ world agrees.
     (subst (λ pushes. AreAsked world name pushes found) c.as_slice.ensures
     (c.in_ok-ask_all.ensures.known world agrees))
     c.in_ok-ask_all.ensures.given
+
+pub returns-clause-only : goal.returns-clause-only
+returns-clause-only g c = subst (λ pushes. TellsOnly (is_document_of (docs_of c.args.doc.now pushes))
+    (g.R.Reader.told c.args.reader.now) (g.R.Reader.told c.ask_all.new.reader))
+    c.as_slice.ensures c.in_ok-ask_all.ensures.only

@@ -5,7 +5,8 @@ use Rattle.dita_doc.specs.declared.doc.Doc.{Doc}
 use Rattle.map_spec.specs.Written.{written_in}
 use Rattle.map_spec.specs.Pushes.{pushed_from}
 use Rattle.readers.specs.Documents.{IsGiven}
-use Rattle.conref_push.specs.Into.{froms}
+use Rattle.readers.specs.Only.{TellsOnly, is_document_of}
+use Rattle.conref_push.specs.Into.{docs_of, froms}
 use Rattle.conref_push.specs.Making.{AreAsked, AreGroups}
 use Rattle.conref_push.specs.Sources.{AreSources}
 use Rattle.conref_push.proofs.AskedLaws.{asked_given, none_asked, some_asked}
@@ -38,3 +39,13 @@ returns-in_default-clause-known g c = λ world agrees.
     none_asked world c.args.doc.now c.args.pushes.now
     (subst (AreAsked world c.args.doc.now c.as_slice.result.now) c.in_default.is
     (c.in_ok-found.ensures.known world agrees))
+
+pub returns-clause-only : goal.returns-clause-only
+returns-clause-only g c = subst (λ pushes. TellsOnly (is_document_of (docs_of c.args.doc.now pushes))
+    (g.R.Reader.told c.args.reader.now) (g.R.Reader.told c.ask_all.new.reader))
+    c.as_slice.ensures c.in_ok-found.ensures.only
+
+pub returns-in_default-clause-only : goal.returns-in_default-clause-only
+returns-in_default-clause-only g c = subst (λ pushes. TellsOnly (is_document_of (docs_of c.args.doc.now pushes))
+    (g.R.Reader.told c.args.reader.now) (g.R.Reader.told c.ask_all.new.reader))
+    c.as_slice.ensures c.in_ok-found.ensures.only

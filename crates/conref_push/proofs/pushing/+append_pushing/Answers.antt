@@ -4,7 +4,7 @@ use Rattle.dita_doc.specs.Tree.{size_of}
 use Rattle.doc_elements.specs.Walk.{content_in, element_of}
 use Rattle.map_spec.specs.Written.{written_in}
 use Rattle.map_spec.specs.Places.{topic_inside}
-use Rattle.topic_find.proofs.WalkLaws.{size_written}
+use Rattle.map_lemmas.proofs.TreeLaws.{size_written}
 use Rattle.conref_push.specs.Sight.{element_before, sight_of}
 use Rattle.conref_push.proofs.SightLaws.{way_element, way_end, way_text}
 use Rattle.conref_push.proofs.pushing.+append_pushing.Goals as goal

@@ -10,7 +10,7 @@ use Rattle.readers.specs.Told.{Told}
 use Rattle.readers.proofs.GrowthLaws.{agrees_before, grows_trans, told_answer}
 use Rattle.conref_targets.specs.Asking.{Asks}
 use Rattle.conref_targets.specs.Found.{IsKeyed}
-use Rattle.conref_targets.specs.Setting.{setting_of}
+use Rattle.conref_targets.specs.ResolveInput.{setting_of}
 use Rattle.conref_targets.proofs.AskingLaws.{about_after, about_key, given_target}
 use Rattle.conref_targets.proofs.FindLaws.{keyed_none, keyed_some, target_there}
 use Rattle.conref_targets.proofs.find.find_by_key.Goals as goal

@@ -5,7 +5,7 @@ use Rattle.std.proofs.Common.{List, ℕ}
 use Rattle.href_text.specs.Joined.{joined}
 use Rattle.map_spec.specs.Target.{if_read}
 use Rattle.conref_spec.specs.Content.{by_conref, found_in}
-use Rattle.conref_targets.specs.Setting.{setting_of}
+use Rattle.conref_targets.specs.ResolveInput.{setting_of}
 use Rattle.conref_targets.proofs.AskingLaws.{about_among, first_page}
 use Rattle.conref_targets.proofs.FileLaws.{value_among}
 use Rattle.conref_targets.proofs.FindLaws.{joined_to, none_search, same_topic, search_as, unjoined, unread}

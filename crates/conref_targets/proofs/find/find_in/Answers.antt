@@ -4,7 +4,7 @@ use Rattle.std.specs.declared.sync.Arc.{Arc}
 use Rattle.dita_doc.specs.declared.doc.Doc.{Doc}
 use Rattle.readers.specs.Documents.{IsGiven}
 use Rattle.readers.specs.Named.{named_found}
-use Rattle.conref_targets.specs.Setting.{setting_of}
+use Rattle.conref_targets.specs.ResolveInput.{setting_of}
 use Rattle.conref_targets.proofs.AskingLaws.{about_pushed}
 use Rattle.conref_targets.proofs.FindLaws.{given_found, not_stored}
 use Rattle.conref_targets.proofs.find.find_in.Goals as goal

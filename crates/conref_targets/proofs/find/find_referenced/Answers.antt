@@ -3,7 +3,7 @@ use Rattle.std.specs.Option.{option_copied}
 use Rattle.doc_elements.specs.Walk.{element_of}
 use Rattle.readers.specs.Setting.{Stand}
 use Rattle.readers.proofs.GrowthLaws.{agrees_before, grows_trans}
-use Rattle.conref_targets.specs.Setting.{setting_of}
+use Rattle.conref_targets.specs.ResolveInput.{setting_of}
 use Rattle.conref_targets.specs.Sought.{sought_shown}
 use Rattle.conref_targets.proofs.AskingLaws.{about_after, about_among, none_among}
 use Rattle.conref_targets.proofs.FindLaws.{sought_first, sought_none, sought_second, value_there}

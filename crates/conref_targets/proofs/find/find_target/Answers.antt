@@ -4,7 +4,7 @@ use Rattle.dita_doc.specs.declared.plan.Target.{Target}
 use Rattle.map_spec.specs.Pages.{local_name}
 use Rattle.conref_spec.specs.Content.{found_in, key_named}
 use Rattle.conref_targets.specs.Asking.{AreGiven}
-use Rattle.conref_targets.specs.Setting.{setting_of}
+use Rattle.conref_targets.specs.ResolveInput.{setting_of}
 use Rattle.conref_targets.proofs.AskingLaws.{about_given, about_same}
 use Rattle.conref_targets.proofs.FindLaws.{search_as}
 use Rattle.conref_targets.proofs.find.find_target.Goals as goal

@@ -3,12 +3,12 @@ use Rattle.dita_doc.specs.declared.doc.Attribute.{Attribute}
 use Rattle.dita_doc.specs.declared.fault.FaultCode.TheVariants as fault_codes
 use Rattle.doc_elements.specs.Walk.{element_of}
 use Rattle.map_spec.specs.Elements.{fault_at}
-use Rattle.map_spec.specs.Judged.{group_faults, is_group}
+use Rattle.map_spec.specs.Judged.{group_faults, has_groups}
 use Rattle.conref_targets.specs.Judging.{with_attributes}
 use Rattle.conref_targets.proofs.judge.append_group_faults.Given as goal
 
 abbrev pub invariant-loop-attribute : goal.invariant-loop-attribute
 invariant-loop-attribute l = l.faults
     ++ map (λ (written : Attribute). fault_at (element_of l.origin l.element) fault_codes.GroupValue written.name)
-    (filter (is_group l.declared) (drop l.attribute-index l.attribute-items))
+    (filter (has_groups l.declared) (drop l.attribute-index l.attribute-items))
     ≡ l.fn.faults ++ group_faults l.declared (with_attributes l.attributes (element_of l.origin l.element))

@@ -1,7 +1,7 @@
 use Rattle.std.proofs.Common.{ℕ, List, [], Some, None, refl, slice_get, sym, ap, ◌∙◌}
 use Rattle.std.specs.Option.{option_copied}
 use Rattle.dita_doc.specs.declared.doc.Doc.{Doc}
-use Rattle.readers.specs.Named.{named, named_tree}
+use Rattle.readers.specs.Named.{under_names, named_tree}
 use Rattle.conref_targets.specs.Parts.{end_place, ends_of}
 use Rattle.conref_targets.proofs.RangeEndLaws.{ends_behind, ends_here, ends_none, range_as, stored_there}
 use Rattle.conref_targets.proofs.ranges.range_end.Goals as goal
@@ -30,5 +30,5 @@ returns-clause-range c = λ documents meant are is here.
     (stored_there documents meant c.args.found.now is c.deref.result.now c.deref.ensures)
     ∙ ap (λ (d : Doc). slice_get (ends_of (named_tree d)) c.args.found.now.place) (c.deref.ensures ∙ sym c.deref-2.ensures))
     (λ part there fits. c.end_of_range.ensures part there (fits ∙ sym c.unwrap_or.ensures)
-    ∙ ap (λ (id : List ℕ). end_place id c.args.target.now.end (named c.deref-2.result.now.origins part))
+    ∙ ap (λ (id : List ℕ). end_place id c.args.target.now.end (under_names c.deref-2.result.now.origins part))
     (c.as_str-2.ensures ∙ sym c.as_str.ensures)))

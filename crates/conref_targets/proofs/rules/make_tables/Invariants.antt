@@ -1,5 +1,5 @@
 use Rattle.std.proofs.Common.{◌≡◌, take}
-use Rattle.conref_targets.specs.Shown.{shown}
+use Rattle.dita_doc.specs.Shown.{shown}
 use Rattle.conref_targets.proofs.rules.make_tables.Given as goal
 
 abbrev pub invariant-loop-at : goal.invariant-loop-at

@@ -1,6 +1,6 @@
 use Rattle.std.proofs.Common.{◌≡◌, ◌++◌, drop}
+use Rattle.dita_doc.specs.Shown.{shown}
 use Rattle.conref_targets.specs.Rules.{all_kept}
-use Rattle.conref_targets.specs.Shown.{shown}
 use Rattle.conref_targets.proofs.rules.push_filters.Given as goal
 
 abbrev pub invariant-loop-filter : goal.invariant-loop-filter

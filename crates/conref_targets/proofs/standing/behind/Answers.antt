@@ -1,14 +1,14 @@
 use Rattle.std.proofs.Common.{List, arith, ap, sym, ◌∙◌}
 use Rattle.std.proofs.lemmas.List.{at_drop_all}
 use Rattle.dita_doc.specs.declared.doc.Node.{Node}
-use Rattle.conref_targets.specs.Around.{Stands, entered_all, standing_shown}
+use Rattle.conref_targets.specs.Around.{StandsAround, entered_all, standing_shown}
 use Rattle.conref_targets.proofs.StandingLaws.{entered_depth, entered_more}
 use Rattle.conref_targets.proofs.standing.behind.Goals as goal
 
 pub loop-node-preserved : goal.loop-node-preserved
 loop-node-preserved c = record {
   small = (let before = c.loop-node.invariant.small in
-      let deep = ap (λ (stands : Stands). stands.depth) c.in_ok-standing.ensures in
+      let deep = ap (λ (stands : StandsAround). stands.depth) c.in_ok-standing.ensures in
       let one = entered_depth c.args.place c.node-item.result (standing_shown c.loop-node.standing) in
       omega (arith, before, deep, one));
   same = sym (entered_more c.args.place c.args.nodes.now c.loop-node.node-index c.node-item.result

@@ -1,5 +1,5 @@
 use Rattle.std.proofs.Common.{List, Vec, Global, ℕ, arith, ◌+◌, ◌++◌, ◌∷◌, [], ap, min, refl, sym, ◌∙◌}
-use Rattle.readers.specs.Named.{named}
+use Rattle.readers.specs.Named.{under_names}
 use Rattle.conref_targets.specs.Parts.{ends_from}
 use Rattle.conref_targets.proofs.EndLaws.{left_as, left_element, left_missing, left_none, left_text}
 use Rattle.conref_targets.proofs.tables.+put_ends.Goals as goal
@@ -24,10 +24,11 @@ loop-preserved t c = record {
         (λ held at size.
         (let bound = w.min.ensures ∙ ap (λ n. min n c.args.to) c.max-place.ensures in
         w.in_ok-put_ends.ensures held at (size ∙ sym bound)
-        ∙ ap (λ (es : List ℕ). es ++ ends_from w.min.result (c.loop.place + 1) (named c.args.doc.now.origins held))
+        ∙ ap (λ (es : List ℕ). es
+        ++ ends_from w.min.result (c.loop.place + 1) (under_names c.args.doc.now.origins held))
         c.in_ok-push.ensures.items
         ∙ ap (λ n. (c.loop.ends.items ++ c.args.to ∷ []) ++ ends_from n (c.loop.place + 1)
-        (named c.args.doc.now.origins held)) bound)))
+        (under_names c.args.doc.now.origins held)) bound)))
     | else-is_element w ↦
         left_as c.args.doc.now _ _ _ c.args.to _ _ _
         (ap (λ (v : Vec ℕ Global). v.items) w.ends-is ∙ c.in_ok-push.ensures.items) c.max-place.ensures

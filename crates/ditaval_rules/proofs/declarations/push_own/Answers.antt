@@ -3,7 +3,7 @@ use Rattle.std.proofs.lemmas.List.{append-nil, map-append}
 use Rattle.std.specs.Prelude.{Option, option_map}
 use Rattle.std.specs.Option.{option_to_list}
 use Rattle.ditaval_rules.specs.Declarations.{AreBefore, Declaring, declaring_of, IsLastAround}
-use Rattle.ditaval_rules.specs.declared.declarations.Entry.{Entry}
+use Rattle.ditaval_rules.specs.declared.declarations.DeclaredEntry.{DeclaredEntry}
 use Rattle.ditaval_rules.proofs.DeclarationLaws.{declaring_named, entry_of, one_more, own_is}
 use Rattle.ditaval_rules.proofs.declarations.push_own.Goals as goal
 
@@ -16,7 +16,7 @@ returns-in_ok-push-clause-before c =
     let same : c.len.result ≡ length c.args.entries.now.items =
     c.len.ensures ∙ sym c.as_slice.ensures.len ∙ ap length c.as_slice.ensures.value in
     let seen : IsLastAround c.args.entries.now.items c.args.place c.len.result c.last_around-outer.result =
-    subst (λ (l : List Entry). IsLastAround l c.args.place c.len.result c.last_around-outer.result)
+    subst (λ (l : List DeclaredEntry). IsLastAround l c.args.place c.len.result c.last_around-outer.result)
     c.as_slice.ensures.value c.last_around-outer.ensures in
     let last : IsLastAround c.args.entries.now.items c.args.place (length c.args.entries.now.items) entry.outer =
     subst (λ (n : ℕ). IsLastAround c.args.entries.now.items c.args.place n c.last_around-outer.result) same seen in

@@ -1,8 +1,9 @@
 use Rattle.std.proofs.Common.{[], None, unwrap_or, ap, ◌∙◌}
+use Rattle.dita_doc.proofs.Lists.{read_or}
 use Rattle.map_spec.specs.Titles.{first_of_document}
 use Rattle.map_spec.specs.Written.{written_in}
 use Rattle.doc_elements.specs.Walk.{content_in}
-use Rattle.doc_titles.proofs.TopicLaws.{first_id, read_or}
+use Rattle.doc_titles.proofs.TopicLaws.{first_id}
 use Rattle.doc_titles.proofs.topics.first_of.Goals as goal
 
 pub returns-in_ok-from_str-in-Some : goal.returns-in_ok-from_str-in-Some

@@ -1,8 +1,8 @@
 use Rattle.std.proofs.Common.{◌≡◌, ◌∙◌, ap, sym, subst, map}
 use Rattle.std.proofs.lemmas.Result.{IfOk-weaker}
+use Rattle.dita_doc.specs.Shown.{shown}
 use Rattle.flag_marks.specs.Marks.{attributes_at, marks_from}
 use Rattle.flag_marks.specs.Places.{AreAtElements}
-use Rattle.flag_marks.specs.Shown.{shown}
 use Rattle.flag_marks.proofs.FlagLaws.{none_from}
 use Rattle.flag_marks.proofs.PlaceLaws.{marks_at_elements}
 use Rattle.flag_marks.proofs.mark.marks_by.Goals as goal

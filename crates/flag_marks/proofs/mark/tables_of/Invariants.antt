@@ -1,5 +1,5 @@
 use Rattle.std.proofs.Common.{◌≡◌, ◌++◌, drop}
-use Rattle.flag_marks.specs.Shown.{shown}
+use Rattle.dita_doc.specs.Shown.{shown}
 use Rattle.flag_marks.proofs.mark.tables_of.Given as goal
 
 abbrev pub invariant-loop-some : goal.invariant-loop-some

@@ -3,9 +3,9 @@ use Rattle.std.specs.List.{All}
 use Rattle.std.specs.Str.{IsUtf8}
 use Rattle.std.proofs.lemmas.List.Elements.{All-tail}
 use Rattle.dita_doc.specs.ClassValue.{words_of}
+use Rattle.dita_doc.proofs.Utf8Laws.{utf8_words}
 use Rattle.flag_marks.specs.Marks.{marks_of_tokens}
 use Rattle.flag_marks.proofs.TokenLaws.{token_put}
-use Rattle.flag_marks.proofs.WordLaws.{utf8_words}
 use Rattle.flag_marks.proofs.value.push_words.Goals as goal
 
 pub loop-word-init : goal.loop-word-init

@@ -1,15 +1,17 @@
 use Rattle.std.proofs.Common.{◌+◌, ◌-◌, ◌<◌, ◌∙◌, ap, arith, length, refl, subst, sym}
 use Rattle.dita_doc.specs.HtmlEscapes.{escaped}
-use Rattle.dita_doc.specs.Siblings.{content, document}
+use Rattle.dita_doc.specs.Siblings.{content, doc_of_siblings}
 use Rattle.dita_doc.specs.Tree.{size_of}
 use Rattle.dita_doc.specs.declared.doc.Doc.{Doc}
-use Rattle.html_blocks.specs.Walk.{content_of, names_of, overlay_of}
+use Rattle.dita_doc.proofs.PlaceLaws.{end_first}
+use Rattle.dita_doc.proofs.TreeLaws.{origin_fits}
+use Rattle.html_blocks.specs.Walk.{content_of, origins_of, overlay_of}
 use Rattle.html_tables.specs.Walk.{element_named}
 use Rattle.html_tables.proofs.WalkLaws.{size_named}
 use Rattle.html_spec.specs.Blocks.{shown, shown_from}
-use Rattle.readers.specs.Named.{name_at, named}
+use Rattle.readers.specs.Named.{name_at, under_names}
 use Rattle.html_blocks.proofs.ContextLaws.{kept_within}
-use Rattle.html_blocks.proofs.NodeLaws.{end_first, first_named, origin_fits, text_named}
+use Rattle.html_blocks.proofs.NodeLaws.{first_named, text_named}
 use Rattle.html_blocks.proofs.WayLaws.{more_text, shown_end, shown_first, shown_text, way_ends, way_more}
 use Rattle.html_blocks.proofs.body.+append.Goals as goal
 
@@ -18,7 +20,7 @@ append_siblings-returns-in-End t c = λ around is.
     let left = c.loop-node.left in
     way_ends _ _ _ _
     (shown_end around (overlay_of c.args.overlay.now) c.loop-node.here (content_of left)
-    (ap (named (names_of left)) c.in-End.ensures.content))
+    (ap (under_names (origins_of left)) c.in-End.ensures.content))
     (c.loop-node.invariant.way around is)
 
 pub append_siblings-loop-node-preserved-in-Chars : goal.append_siblings-loop-node-preserved-in-Chars
@@ -30,9 +32,10 @@ append_siblings-loop-node-preserved-in-Chars t c = record {
       let rest = c.in-Chars.rest in
       way_more _ _ _ _ _ (shown (escaped node.text))
       (shown_from around overlay (c.loop-node.here + 1) (content_of rest))
-      (shown_text around overlay c.loop-node.here (content_of left) node.text (name_at (names_of left) node.origin)
+      (shown_text around overlay c.loop-node.here (content_of left) node.text (name_at (origins_of left) node.origin)
       (content_of rest)
-      (text_named (document left) (content left) node.text node.origin node.line (content rest) (document rest)
+      (text_named (doc_of_siblings left) (content left) node.text node.origin node.line (content rest)
+      (doc_of_siblings rest)
       c.in-Chars.ensures.content c.in-Chars.ensures.document))
       (more_text _ _ _ (λ group names known. known) c.in_ok-append_characters-in-Chars.ensures refl)
       (c.loop-node.invariant.way around is);
@@ -55,7 +58,7 @@ append_siblings-overflow_add-here-in-Element t c =
 
 pub append_siblings-invariant_of-element : goal.append_siblings-invariant_of-element
 append_siblings-invariant_of-element t c =
-    let home = document c.loop-node.left in
+    let home = doc_of_siblings c.loop-node.left in
     record {
       written = subst (λ (doc : Doc). c.in-Element.node.now.origin < length doc.origins)
           (sym c.in-Element.ensures.document.0)
@@ -72,15 +75,16 @@ append_siblings-loop-node-preserved t c =
     let rest = c.in-Element.rest in
     let end = end_first left node (content inside) (content rest) c.in-Element.place c.in-Element.ensures.content
     c.in-Element.ensures.place c.in-Element.ensures.node in
-    let count = size_named (names_of inside) (content inside) in
+    let count = size_named (origins_of inside) (content inside) in
     record {
       way = λ around is.
           let way = c.loop-node.invariant.way around is in
           way_more _ _ _ _ _ _ _
           (shown_first around (overlay_of c.args.overlay.now) here (content_of left)
-          (element_named (names_of inside) node) (content_of inside) (content_of rest) (here + (node.end - c.in-Element.place))
-          (first_named (document left) (content left) node.text node.attributes node.origin node.line (content inside)
-          (content rest) (document inside) (document rest) c.in-Element.ensures.content
+          (element_named (origins_of inside) node) (content_of inside) (content_of rest) (here + (node.end - c.in-Element.place))
+          (first_named (doc_of_siblings left) (content left) node.text node.attributes node.origin node.line
+          (content inside)
+          (content rest) (doc_of_siblings inside) (doc_of_siblings rest) c.in-Element.ensures.content
           c.in-Element.ensures.document.0 c.in-Element.ensures.document.1)
           (omega (arith, end, count)))
           (c.in_ok-append_element-in-Element.ensures around (kept_within _ _ c.args.context around way.kept is)) way;

@@ -1,11 +1,11 @@
 use Rattle.std.proofs.Common.{◌∙◌, ap}
 use Rattle.dita_doc.specs.Siblings.{content}
 use Rattle.dita_doc.specs.declared.doc.Doc.{Doc}
+use Rattle.dita_doc.proofs.PlaceLaws.{root_fits}
 use Rattle.html_blocks.specs.Walk.{content_of, overlay_of}
 use Rattle.html_spec.specs.Blocks.{Overlay, outside, shown_from}
-use Rattle.readers.specs.Named.{named, named_tree}
+use Rattle.readers.specs.Named.{under_names, named_tree}
 use Rattle.html_blocks.proofs.BodyLaws.{body_shown, overlays}
-use Rattle.html_blocks.proofs.NodeLaws.{root_fits}
 use Rattle.html_blocks.proofs.WayLaws.{html_all, more_as}
 use Rattle.html_blocks.proofs.body.body_html.Goals as goal
 
@@ -21,8 +21,8 @@ returns c = λ nodes are.
     let marks = c.args.marks.now in
     let overlay : Overlay = record { anchors = anchors; marks = marks } in
     let siblings = c.of-siblings.result in
-    let same = ap (λ (home : Doc). named home.origins (content siblings)) c.of-siblings.ensures.document
-    ∙ ap (named body.doc.origins) c.of-siblings.ensures.content in
+    let same = ap (λ (home : Doc). under_names home.origins (content siblings)) c.of-siblings.ensures.document
+    ∙ ap (under_names body.doc.origins) c.of-siblings.ensures.content in
     let all = shown_from outside overlay 0 (named_tree body.doc) in
     body_shown body nodes anchors marks c.into_html.result are
     (html_all c.new-page.result c.append_siblings.new.page c.into_html.result all c.new-page.ensures.text

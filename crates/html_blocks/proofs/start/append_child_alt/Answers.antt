@@ -1,7 +1,7 @@
 use Rattle.std.proofs.Common.{◌∙◌, Some, [], ap, codes, sym}
 use Rattle.dita_doc.specs.Siblings.{content}
 use Rattle.doc_elements.specs.Walk.{found_in}
-use Rattle.html_blocks.specs.Walk.{content_of, names_of}
+use Rattle.html_blocks.specs.Walk.{content_of, origins_of}
 use Rattle.map_spec.specs.Elements.{first_child, text_of}
 use Rattle.html_spec.specs.Blocks.{attribute_text}
 use Rattle.html_blocks.proofs.BareLaws.{child_found}
@@ -16,7 +16,7 @@ returns-in-None c =
     (attribute_text (codes "alt") (Some (text_of (first_child token (content_of inside)))))
     (ap (λ text. attribute_text (codes "alt") (Some text))
     (ap (λ found. text_of (found_in [] found)) (sym c.in-None.is)
-    ∙ child_found token (names_of inside) [] (content inside) _ (c.first_child.ensures [])))
+    ∙ child_found token (origins_of inside) [] (content inside) _ (c.first_child.ensures [])))
     c.append_attribute-in-None.ensures
 
 pub returns-in_ok-text-in-Some : goal.returns-in_ok-text-in-Some
@@ -29,5 +29,5 @@ returns-in_ok-text-in-Some c =
     (c.as_str.ensures
     ∙ c.in_ok-text-in-Some.ensures []
     ∙ ap (λ found. text_of (found_in [] found)) (sym c.in-Some.is)
-    ∙ child_found token (names_of inside) [] (content inside) _ (c.first_child.ensures [])))
+    ∙ child_found token (origins_of inside) [] (content inside) _ (c.first_child.ensures [])))
     c.append_attribute.ensures

@@ -2,7 +2,7 @@ use Rattle.std.proofs.Common.{[], Some, ap, codes, false}
 use Rattle.std.specs.Option.{option_copied}
 use Rattle.html_blocks.specs.Marks.{class_with}
 use Rattle.html_blocks.specs.Opened.{file_text, image_by}
-use Rattle.html_blocks.specs.Walk.{element_of, inside_of, names_of}
+use Rattle.html_blocks.specs.Walk.{element_of, inside_of, origins_of}
 use Rattle.html_spec.specs.Blocks.{marks_at}
 use Rattle.readers.specs.Named.{name_at}
 use Rattle.html_blocks.proofs.TagLaws.{start_parts, text_last}
@@ -11,7 +11,7 @@ use Rattle.html_blocks.proofs.start.append_image.Goals as goal
 pub returns : goal.returns
 returns c = λ around topic.
     let element = element_of c.args.image in
-    let name = name_at (names_of c.args.image.inside) c.args.image.node.now.origin in
+    let name = name_at (origins_of c.args.image.inside) c.args.image.node.now.origin in
     let href = option_copied c.args.link.href in
     let marks = marks_at c.args.marks.now.marks.now c.args.image.place in
     let file = file_text href element (inside_of c.args.image) in

@@ -2,7 +2,7 @@ use Rattle.std.proofs.Common.{◌∙◌, None, Some, ap, if◌then◌else◌}
 use Rattle.std.specs.Option.{option_copied}
 use Rattle.html_blocks.specs.Marks.{class_with}
 use Rattle.html_blocks.specs.Opened.{class_by, is_topic, more_by, start_by}
-use Rattle.html_blocks.specs.Walk.{element_of, names_of}
+use Rattle.html_blocks.specs.Walk.{element_of, origins_of}
 use Rattle.html_forms.specs.Shown.{form_shown_of}
 use Rattle.html_spec.specs.Blocks.{marks_at}
 use Rattle.readers.specs.Named.{name_at}
@@ -13,7 +13,7 @@ pub returns : goal.returns
 returns c = λ around is.
     let form = form_shown_of c.args.form in
     let element = element_of c.args.element in
-    let name = name_at (names_of c.args.element.inside) c.args.element.node.now.origin in
+    let name = name_at (origins_of c.args.element.inside) c.args.element.node.now.origin in
     let href = option_copied c.args.link.href in
     let marks = marks_at c.args.marks.now.marks.now c.args.element.place in
     text_last c.append.result c.args.out.now c.append_name.new.out c.append_class.new.out c.append_more.new.out

@@ -3,7 +3,7 @@ use Rattle.dita_doc.specs.Siblings.{content}
 use Rattle.dita_doc.specs.Tree.{size_of}
 use Rattle.html_tables.specs.Walk.{content_named, element_named}
 use Rattle.html_spec.specs.Blocks.{cells_from, context_in, row_for}
-use Rattle.readers.specs.Named.{name_at, named}
+use Rattle.readers.specs.Named.{name_at, under_names}
 use Rattle.html_tables.proofs.WalkLaws.{cells_first, cells_text, kept_context, more_again, size_named, way_ends, way_more, way_same}
 use Rattle.html_tables.proofs.table.+append_cells.Goals as goal
 
@@ -12,7 +12,7 @@ returns-in-End t c = record {
   past = omega (arith, c.loop-rest.invariant.room, ap size_of c.in-End.ensures.content);
   cells = λ names around is.
       way_ends _ _ _ _
-      (ap (λ all. cells_from around c.loop-rest.here (named names all)) c.in-End.ensures.content)
+      (ap (λ all. cells_from around c.loop-rest.here (under_names names all)) c.in-End.ensures.content)
       (c.loop-rest.invariant.way names around is);
 }
 
@@ -20,7 +20,7 @@ pub loop-rest-preserved-in-Chars : goal.loop-rest-preserved-in-Chars
 loop-rest-preserved-in-Chars t c = record {
   way = λ names around is.
       way_same _ _ _ _ _
-      (cells_text around c.loop-rest.here _ _ _ _ (ap (named names) c.in-Chars.ensures.content))
+      (cells_text around c.loop-rest.here _ _ _ _ (ap (under_names names) c.in-Chars.ensures.content))
       (c.loop-rest.invariant.way names around is);
   size = omega (arith, ap size_of c.in-Chars.ensures.content);
   room = omega (arith, ap size_of c.in-Chars.ensures.content);
@@ -40,7 +40,7 @@ loop-rest-preserved t c = record {
       ∙ ap (λ some. c.loop-rest.here + 1 + some) (sym (size_named names (content c.in-Element.inside))) in
       way_more _ _ _ _ _ _ _
       (cells_first around c.loop-rest.here _ element inside (content_named names c.in-Element.rest) _
-      (ap (named names) c.in-Element.ensures.content) past)
+      (ap (under_names names) c.in-Element.ensures.content) past)
       (more_again _ _ _ _ _ entered.more more) way;
   size = omega (arith, ap size_of c.in-Element.ensures.content);
   room = omega (arith, c.in_ok-here-in-Element.ensures.past, ap size_of c.in-Element.ensures.content);

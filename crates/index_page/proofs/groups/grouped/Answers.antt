@@ -1,6 +1,6 @@
 use Rattle.std.proofs.Common.{◌≡◌, ◌∷◌, ◌+◌, List, ◌∙◌, ap, drop, refl, sym}
 use Rattle.std.specs.Map.{keys_of}
-use Rattle.index_page.specs.declared.rows.Row.{Row}
+use Rattle.index_page.specs.declared.rows.TermRow.{TermRow}
 use Rattle.index_page.proofs.GroupLaws.{row_at, row_step, text_step, with_rows, with_texts}
 use Rattle.index_page.proofs.groups.grouped.Goals as goal
 
@@ -8,8 +8,8 @@ pub loop-row-preserved : goal.loop-row-preserved
 loop-row-preserved c =
     let at = c.loop-row.row-index in
     let rows = c.args.rows.now in
-    let row : Row = c.row-item.result in
-    let more : List Row = drop (at + 1) rows in
+    let row : TermRow = c.row-item.result in
+    let more : List TermRow = drop (at + 1) rows in
     let before = c.loop-row.groups.entries in
     let after = c.put.new.groups.entries in
     let rest : drop at rows ≡ row ∷ more = row_at rows at row c.loop-row-test.true c.row-item.is in

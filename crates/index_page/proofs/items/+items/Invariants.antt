@@ -1,5 +1,5 @@
 use Rattle.std.proofs.Common.{◌≡◌, ◌+◌, ◌-◌, ◌*◌, ◌++◌}
-use Rattle.html_spec.specs.Terms.{item, items_of, pages_of}
+use Rattle.html_spec.specs.Terms.{item, items_of, index_pages}
 use Rattle.index_page.specs.Rows.{entries_of}
 use Rattle.index_page.proofs.GroupLaws.{written}
 use Rattle.index_page.proofs.items.+items.Given as goal
@@ -12,6 +12,6 @@ decreases-append_item l = 2 * l.levels + 1
 
 abbrev pub invariant-append_items-loop-text : goal.invariant-append_items-loop-text
 invariant-append_items-loop-text l =
-    let pages = pages_of l.pages.plan.now l.pages.titles.now in
+    let pages = index_pages l.pages.plan.now l.pages.titles.now in
     l.out ++ written (item pages (items_of (l.levels - 1) pages)) l.text-iterator
     ≡ l.fn.out ++ items_of l.levels pages (entries_of l.rows)

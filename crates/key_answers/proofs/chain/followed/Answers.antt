@@ -4,9 +4,10 @@ use Rattle.std.specs.BTreeMap.{is_at}
 use Rattle.std.specs.List.{list_any}
 use Rattle.std.specs.Ordering.{nat_cmp}
 use Rattle.std.specs.Prelude.{◌==◌, suc}
+use Rattle.dita_doc.proofs.Orders.{numbers_same}
 use Rattle.map_spec.specs.Keys.{chain_from}
 use Rattle.plan_nodes.specs.Home.{value_at}
-use Rattle.key_answers.proofs.ChainLaws.{cmp_same, ends_again, ends_here, ends_undefined, goes_on, met_more, no_steps}
+use Rattle.key_answers.proofs.ChainLaws.{ends_again, ends_here, ends_undefined, goes_on, met_more, no_steps}
 use Rattle.key_answers.proofs.SeenLaws.{scope_same, value_same}
 use Rattle.key_answers.proofs.chain.followed.Goals as goal
 
@@ -29,7 +30,7 @@ loop-step-preserved c = record {
   known = λ other.
       met_more c.loop-step.met.items c.push.new.self.items c.in-Some.at other
       (set.contains nat_cmp c.loop-step.known other) (set.contains nat_cmp c.insert.new.self other) (is_at (nat_cmp c.in-Some.at) other)
-      (c.in_ok-insert.ensures.updates.0 other) (cmp_same c.in-Some.at other) (c.loop-step.invariant.known other)
+      (c.in_ok-insert.ensures.updates.0 other) (numbers_same c.in-Some.at other) (c.loop-step.invariant.known other)
       c.in_ok-push.ensures.items;
   same = λ world are left all.
       let nodes = c.args.defined.nodes.now in

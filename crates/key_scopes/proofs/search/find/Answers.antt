@@ -7,7 +7,7 @@ use Rattle.key_scopes.specs.Rising.{by_names, node_of, outermost_from}
 use Rattle.key_scopes.specs.Table.{Table}
 use Rattle.key_scopes.proofs.FindLaws.{found_scope, found_within, from_within, within_table}
 use Rattle.key_scopes.proofs.NestedLaws.{nested_by}
-use Rattle.map_spec.specs.Scopes.{found}
+use Rattle.map_spec.specs.Scopes.{definition_found}
 use Rattle.key_scopes.proofs.search.find.Goals as goal
 
 pub returns : goal.returns
@@ -34,5 +34,5 @@ returns c = λ world nodes is.
     (c.by_dots.ensures world nodes is from
     ∙ ap (outermost_from (by_names world nodes key) all) c.from_of-from.ensures)
     ∙ sym here
-    ∙ ap (λ n. found world nodes n key) c.scope_within-scope.ensures
+    ∙ ap (λ n. definition_found world nodes n key) c.scope_within-scope.ensures
     ∙ sym (found_scope world nodes table is key c.args.scope)

@@ -1,7 +1,7 @@
 use Rattle.std.proofs.Common.{rules, ◌≡◌, ◌∙◌, ap, arith, sym, subst, option_map, Some, None, find, take, drop, ◌+◌, if◌then◌else◌}
 use Rattle.std.specs.Option.{option_copied}
 use Rattle.std.proofs.lemmas.List.{take_rest}
-use Rattle.key_scopes.specs.Children.{AreChildNames, all_names, is_named, named}
+use Rattle.key_scopes.specs.Children.{AreChildNames, all_names, is_named, those_named}
 use Rattle.key_scopes.specs.Table.{Table}
 use Rattle.key_scopes.specs.Ways.{AreInTurn, is_behind, is_earlier, way_in, way_of}
 use Rattle.key_scopes.proofs.TurnLaws.{all_in_turn, filter_in_turn}
@@ -31,9 +31,9 @@ loop-dot-preserved c =
     let last = option_map way_of c.args.after in
     let dot = c.loop-dot.dot in
     let told : AreChildNames scopes c.args.table.now.names c.args.table.now.longest
-    → find (is_behind last) (named scope (take dot key) (all_names scopes)) ≡ option_copied c.name_behind.result =
+    → find (is_behind last) (those_named scope (take dot key) (all_names scopes)) ≡ option_copied c.name_behind.result =
     λ children.
-    let same : c.named.result.now ≡ named scope (take dot key) (all_names scopes) =
+    let same : c.named.result.now ≡ those_named scope (take dot key) (all_names scopes) =
     c.named.ensures scopes (subst (λ (t : Table). AreChildNames scopes t.names t.longest) (sym c.table.view_is) children) in
     ap (find (is_behind last)) (sym same)
     ∙ sym (c.name_behind.ensures.value (subst AreInTurn (sym same)

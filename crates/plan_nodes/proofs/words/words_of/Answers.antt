@@ -4,7 +4,7 @@ use Rattle.std.specs.Str.{IsUtf8}
 use Rattle.std.proofs.lemmas.List.{append-nil}
 use Rattle.std.proofs.lemmas.List.Elements.{All-head, All-tail}
 use Rattle.dita_doc.specs.ClassValue.{words_of}
-use Rattle.plan_nodes.proofs.WordLaws.{utf8_words}
+use Rattle.dita_doc.proofs.Utf8Laws.{utf8_words}
 use Rattle.plan_nodes.proofs.words.words_of.Goals as goal
 
 pub loop-word-init : goal.loop-word-init

@@ -1,4 +1,5 @@
 use Rattle.std.proofs.Common.{◌∷◌, ◌∙◌, [], subst}
+use Rattle.pushed_docs.proofs.AskedLaws.{touched_only}
 use Rattle.pushed_docs.proofs.KeptLaws.{kept_given, kept_known}
 use Rattle.pushed_docs.proofs.MadeLaws.{touched_asks, touched_founded}
 use Rattle.readers.specs.Documents.{of_pushes}
@@ -69,3 +70,8 @@ returns-clause-asks g c = touched_asks _ c.args.name.now c.in_ok-list.list _ _ _
 
 pub returns-clause-grows : goal.returns-clause-grows
 returns-clause-grows g c = grows_trans _ _ _ c.in_ok-list.ensures.grows c.ask_pushed.ensures.grows
+
+pub returns-clause-only : goal.returns-clause-only
+returns-clause-only g c = λ world agrees.
+    touched_only world _ c.args.name.now c.in_ok-list.list _ _ _ c.in_ok-list.ensures.told c.ask_pushed.ensures.grows
+    agrees c.in_ok-ask_pushed.ensures.only

@@ -1,16 +1,19 @@
-use Rattle.std.proofs.Common.{◌≡◌, ◌∙◌, ◌∷◌, [], IfOk, refl, subst, sym}
+use Rattle.std.proofs.Common.{◌≡◌, ◌∙◌, ◌∷◌, [], IfOk, OnOk, refl, subst, sym}
+use Rattle.std.proofs.lemmas.Result.{on_ok_weaker}
 use Rattle.conref_push.specs.Table.{IsPushTable}
 use Rattle.map_spec.specs.Pushes.{pushed, pushes_into}
-use Rattle.pushed_docs.proofs.AskedLaws.{asked_asks, asked_founded, asked_grows, pushes_alike}
+use Rattle.pushed_docs.proofs.AskedLaws.{asked_asks, asked_founded, asked_grows, found_only, pushes_alike}
 use Rattle.pushed_docs.proofs.MadeLaws.{itself_given, itself_known}
 use Rattle.readers.specs.Documents.{of_pushes}
 use Rattle.readers.specs.Named.{named_found}
+use Rattle.readers.specs.Only.{TellsOnly, is_of_pushed}
 use Rattle.readers.specs.Setting.{Stand}
 use Rattle.readers.specs.Told.{Agrees, pushes}
 use Rattle.readers.proofs.DocumentLaws.{asks_after, asks_none}
 use Rattle.readers.proofs.FoundedLaws.{stays_after}
 use Rattle.readers.proofs.GivenLaws.{given_later}
 use Rattle.readers.proofs.GrowthLaws.{agrees_before, grows_equal, grows_trans, told_answer}
+use Rattle.readers.proofs.OnlyLaws.{pushed_pushes}
 use Rattle.pushed_docs.proofs.made.made_pushed.Goals as goal
 
 pub returns-then-branch-clause-known : goal.returns-then-branch-clause-known
@@ -124,3 +127,26 @@ returns-clause-founded g c = stays_after (c.args.name.now ∷ []) _ _ _ (asked_g
 pub returns-clause-asks : goal.returns-clause-asks
 returns-clause-asks g c = asks_after of_pushes (c.args.name.now ∷ []) _ _ _ (asked_grows c.args.name.now _ _ _ c.in_ok-found.ensures.grows c.is_itself.ensures.told)
     (asked_asks c.args.name.now _ _ _ c.in_ok-found.ensures.asks c.is_itself.ensures.told) c.touched.ensures.asks
+
+pub returns-then-branch-clause-only : goal.returns-then-branch-clause-only
+returns-then-branch-clause-only g c = λ world agrees.
+    let stand = g.P.Reader.stand c.args.asker.now in
+    let documents = stand.setting.documents in
+    let told = g.P.Reader.told c.tell_pushes.new.self in
+    let between = g.P.Reader.told c.is_itself.new.self in
+    found_only world documents c.args.name.now _ _ _ between told c.in_ok-found.ensures.told c.is_itself.ensures.told
+    (pushed_pushes world documents c.args.name.now c.in_ok-tell_pushes.field-0 between told
+    (subst (λ (s : Stand). told ≡ pushes s.setting.documents c.args.name.now c.in_ok-tell_pushes.field-0 ∷ between)
+    (c.is_itself.ensures.stand ∙ c.in_ok-found.ensures.stand) c.in_ok-tell_pushes.ensures.told))
+
+pub returns-clause-only : goal.returns-clause-only
+returns-clause-only g c = λ world agrees.
+    let stand = g.P.Reader.stand c.args.asker.now in
+    let told = g.P.Reader.told c.touched.new.self in
+    let between = g.P.Reader.told c.is_itself.new.self in
+    on_ok_weaker c.touched.result
+    (found_only world stand.setting.documents c.args.name.now _ _ _ between told c.in_ok-found.ensures.told
+    c.is_itself.ensures.told)
+    (subst (λ (s : Stand). OnOk c.touched.result
+    (TellsOnly (is_of_pushed world s.setting.documents c.args.name.now) between told))
+    (c.is_itself.ensures.stand ∙ c.in_ok-found.ensures.stand) (c.touched.ensures.only world agrees))

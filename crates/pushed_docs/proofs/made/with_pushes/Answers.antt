@@ -1,7 +1,7 @@
 use Rattle.std.proofs.Common.{◌∷◌, ◌∙◌, [], Option, Some, None, ap, subst, sym}
 use Rattle.conref_push.specs.Into.{named_doc}
 use Rattle.dita_doc.specs.declared.doc.Doc.{Doc}
-use Rattle.pushed_docs.proofs.AskedLaws.{made_named}
+use Rattle.pushed_docs.proofs.AskedLaws.{made_named, touched_only}
 use Rattle.pushed_docs.proofs.MadeLaws.{made_given, touched_asks, touched_founded, touched_known}
 use Rattle.readers.specs.Documents.{IsGiven, of_pushes}
 use Rattle.readers.specs.Named.{named_found}
@@ -100,3 +100,13 @@ returns-clause-asks g c = touched_asks _ c.args.name.now c.in_ok-list.list _ _ _
 
 pub returns-clause-grows : goal.returns-clause-grows
 returns-clause-grows g c = grows_trans _ _ _ c.in_ok-list.ensures.grows c.pushed.ensures.grows
+
+pub returns-in-Some-clause-only : goal.returns-in-Some-clause-only
+returns-in-Some-clause-only g c = λ world agrees.
+    touched_only world _ c.args.name.now c.in_ok-list.list _ _ _ c.in_ok-list.ensures.told c.pushed.ensures.grows agrees
+    c.in_ok-doc.ensures.only
+
+pub returns-clause-only : goal.returns-clause-only
+returns-clause-only g c = λ world agrees.
+    touched_only world _ c.args.name.now c.in_ok-list.list _ _ _ c.in_ok-list.ensures.told c.pushed.ensures.grows agrees
+    c.in_ok-doc.ensures.only

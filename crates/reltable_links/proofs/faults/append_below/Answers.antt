@@ -1,9 +1,10 @@
 use Rattle.std.proofs.Common.{[], ◌++◌, ◌∙◌, append-nil, ap, refl, sym}
 use Rattle.std.specs.Prelude.{nat_lt}
 use Rattle.std.specs.List.{flat_map}
+use Rattle.dita_doc.proofs.Lists.{filter_none}
 use Rattle.reltable_links.specs.Below.{is_below_one}
 use Rattle.reltable_links.specs.RowTable.{lost_fault}
-use Rattle.reltable_links.proofs.BelowLaws.{done_more, none_before, none_passes}
+use Rattle.reltable_links.proofs.BelowLaws.{done_more, none_before}
 use Rattle.reltable_links.proofs.FaultLaws.{faults_more}
 use Rattle.reltable_links.proofs.faults.append_below.Goals as goal
 
@@ -11,7 +12,7 @@ pub loop-cell-init : goal.loop-cell-init
 loop-cell-init c = record {
   are = λ order rise.
       sym (ap (λ lost. c.args.faults.now ++ flat_map (lost_fault c.args.plan.now) lost)
-      (none_passes (is_below_one []) (λ at. refl) c.args.lost.now)
+      (filter_none (is_below_one []) (λ at. refl) c.args.lost.now)
       ∙ append-nil c.args.faults.now);
   done = none_before;
 }

@@ -1,9 +1,11 @@
 use Rattle.std.proofs.Common.{[], ◌++◌, ◌∙◌, append-nil, ap, refl, subst, sym, take}
+use Rattle.std.proofs.lemmas.Bool.{and_right}
 use Rattle.std.specs.Prelude.{false, filter, nat_lt}
 use Rattle.dita_doc.specs.declared.content.LinkKind.TheVariants as links
+use Rattle.dita_doc.proofs.Lists.{filter_none}
 use Rattle.link_groups.specs.LinkLists.{HoldsLinks, links_to_nodes}
 use Rattle.reltable_links.specs.Linked.{is_target, is_target_below}
-use Rattle.reltable_links.proofs.BelowLaws.{and_none, done_more, none_before, none_passes}
+use Rattle.reltable_links.proofs.BelowLaws.{done_more, none_before}
 use Rattle.reltable_links.proofs.ReachLaws.{targets_more}
 use Rattle.reltable_links.proofs.linked.append_below.Goals as goal
 
@@ -12,7 +14,7 @@ loop-cell-init c = record {
   holds = λ own all rise order holds.
       subst (λ l. HoldsLinks own l c.args.links.now) (sym (
       ap (λ nodes. all ++ links_to_nodes own links.Related nodes)
-      (none_passes (is_target_below []) (λ node. and_none node.is_target false refl) c.args.nodes.now)
+      (filter_none (is_target_below []) (λ node. and_right node.is_target false refl) c.args.nodes.now)
       ∙ append-nil all)) holds;
   done = none_before;
 }

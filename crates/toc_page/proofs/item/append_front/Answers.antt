@@ -4,7 +4,7 @@ use Rattle.std.specs.List.{flat_map}
 use Rattle.dita_doc.specs.HtmlEscapes.{escaped}
 use Rattle.html_spec.specs.Blocks.{start_tag}
 use Rattle.html_spec.specs.Contents.{data_text, href_by, label_of, linked}
-use Rattle.link_spec.specs.Links.{target_of}
+use Rattle.link_spec.specs.Links.{plan_target}
 use Rattle.readers.proofs.DocumentLaws.{asks_after}
 use Rattle.readers.proofs.FoundedLaws.{stays_after}
 use Rattle.readers.proofs.GrowthLaws.{agrees_before, grows_trans}
@@ -67,5 +67,5 @@ returns-clause-known g c = λ world agrees is pages there title.
     ∙ ap (λ all. (out ++ start_tag (codes "li") (flat_map data_text all))
     ++ linked c.in_ok-href.href (escaped c.in_ok-label.label)) c.as_slice.ensures
     ∙ (λ i. (out ++ start) ++ linked (href i) (escaped (label i)))
-    ∙ append_assoc out start (linked (href_by plan c.args.at (target_of plan c.args.at))
+    ∙ append_assoc out start (linked (href_by plan c.args.at (plan_target plan c.args.at))
     (escaped (label_of world plan c.args.at c.args.node.now)))

@@ -1,13 +1,13 @@
 use Rattle.std.proofs.Common.{◌∙◌, ◌++◌, ap, refl, subst, sym}
 use Rattle.std.specs.Prelude.{codes}
 use Rattle.dita_doc.specs.HtmlEscapes.{escaped}
-use Rattle.key_scopes.proofs.TreeLaws.{tree_parents}
 use Rattle.html_spec.specs.Contents.{items, list_text}
 use Rattle.plan_nodes.specs.Preorder.{HasParentsBefore, tables_around}
 use Rattle.readers.proofs.DocumentLaws.{asks_after, asks_none}
 use Rattle.readers.proofs.FoundedLaws.{stays_after}
 use Rattle.readers.proofs.GrowthLaws.{agrees_before, grows_trans}
 use Rattle.readers.specs.Setting.{Stand}
+use Rattle.key_scopes.proofs.TreeLaws.{tree_parents}
 use Rattle.toc_page.proofs.NameLaws.{homes_stay}
 use Rattle.toc_page.proofs.page.body_of.Goals as goal
 

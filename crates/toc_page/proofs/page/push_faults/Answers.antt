@@ -1,12 +1,11 @@
 use Rattle.std.proofs.Common.{◌∙◌, ap, refl, sym}
 use Rattle.dita_doc.specs.declared.content.PushList.{PushList}
 use Rattle.readers.proofs.DocumentLaws.{asks_after, asks_told}
-use Rattle.readers.proofs.FoundedLaws.{stays_after, stays_one, stays_told}
+use Rattle.readers.proofs.FoundedLaws.{document_among, stays_after, stays_one, stays_told}
 use Rattle.readers.proofs.GrowthLaws.{agrees_before, grows_one, grows_trans, told_answer}
 use Rattle.readers.specs.Setting.{Stand}
 use Rattle.toc_page.specs.Made.{faults_in}
 use Rattle.toc_page.proofs.FaultLaws.{faults_more}
-use Rattle.toc_page.proofs.Walking.{document_among}
 use Rattle.toc_page.proofs.page.push_faults.Goals as goal
 
 pub loop-document-preserved : goal.loop-document-preserved

@@ -1,6 +1,6 @@
 use Rattle.std.proofs.Common.{[], Some, unwrap_or, refl, ap, ◌∙◌}
+use Rattle.dita_doc.proofs.Lists.{read_or}
 use Rattle.map_spec.specs.Places.{TopicAt}
-use Rattle.topic_find.proofs.WalkLaws.{read_or}
 use Rattle.topic_find.proofs.elements.topic_inside.Goals as goal
 
 pub returns-then-is_topic : goal.returns-then-is_topic

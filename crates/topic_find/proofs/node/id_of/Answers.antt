@@ -1,5 +1,5 @@
 use Rattle.std.proofs.Common.{[], unwrap_or, ap, ◌∙◌}
-use Rattle.topic_find.proofs.WalkLaws.{read_or}
+use Rattle.dita_doc.proofs.Lists.{read_or}
 use Rattle.topic_find.proofs.node.id_of.Goals as goal
 
 pub returns : goal.returns

@@ -2,9 +2,9 @@ use Rattle.std.proofs.Common.{◌+◌, option_map, sym, ap, ◌∙◌, arith}
 use Rattle.dita_doc.specs.Siblings.{content}
 use Rattle.dita_doc.specs.Tree.{size_of}
 use Rattle.map_spec.specs.Written.{written_in}
+use Rattle.map_lemmas.proofs.TreeLaws.{size_written}
 use Rattle.topic_find.specs.Walk.{content_in, element_of, topic_at}
 use Rattle.topic_find.proofs.TableLaws.{way_element, way_end, way_text}
-use Rattle.topic_find.proofs.WalkLaws.{size_written}
 use Rattle.topic_find.proofs.table.+add_elements.Goals as goal
 
 pub returns-in-End : goal.returns-in-End

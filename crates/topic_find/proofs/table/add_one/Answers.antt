@@ -1,6 +1,7 @@
 use Rattle.std.proofs.Common.{option_map, sym, ap, ◌∙◌}
+use Rattle.dita_doc.proofs.Lists.{on_ok}
 use Rattle.topic_find.specs.Walk.{element_of, topic_at}
-use Rattle.topic_find.proofs.TableLaws.{next_element, next_outside, next_topic, next_unnamed, on_ok}
+use Rattle.topic_find.proofs.TableLaws.{next_element, next_outside, next_topic, next_unnamed}
 use Rattle.topic_find.proofs.table.add_one.Goals as goal
 
 pub returns-then-is_topic : goal.returns-then-is_topic

@@ -1,7 +1,8 @@
 use Rattle.std.proofs.Common.{◌∙◌, ap, refl, true}
+use Rattle.dita_doc.proofs.Lists.{on_ok}
 use Rattle.html_spec.specs.Anchors.{linked_by_key}
 use Rattle.xref_links.specs.Adding.{element_of, inside_of, label_with}
-use Rattle.xref_links.proofs.LinkLaws.{given_lead, holds_keyed, linked_more, on_ok}
+use Rattle.xref_links.proofs.LinkLaws.{given_lead, holds_keyed, linked_more}
 use Rattle.xref_links.proofs.link.add_keyed.Goals as goal
 
 pub returns-clause-known : goal.returns-clause-known

@@ -1,10 +1,11 @@
 use Rattle.std.proofs.Common.{◌∙◌, refl}
 use Rattle.std.specs.Prelude.{[]}
+use Rattle.dita_doc.proofs.Lists.{on_ok}
 use Rattle.html_spec.specs.Anchors.{linked_by_read}
 use Rattle.readers.proofs.GrowthLaws.{agrees_before, grows_trans}
 use Rattle.xref_links.specs.Adding.{element_of, read_as}
 use Rattle.xref_links.proofs.HereLaws.{here_kept}
-use Rattle.xref_links.proofs.LinkLaws.{holds_written, linked_more, on_ok}
+use Rattle.xref_links.proofs.LinkLaws.{holds_written, linked_more}
 use Rattle.readers.specs.Documents.{nothing}
 use Rattle.readers.proofs.DocumentLaws.{asks_after}
 use Rattle.readers.proofs.FoundedLaws.{stays_after}

@@ -1,10 +1,11 @@
 use Rattle.std.specs.Arc.{arc_value}
 use Rattle.std.proofs.Common.{refl}
 use Rattle.std.specs.Prelude.{codes}
+use Rattle.dita_doc.proofs.Lists.{on_ok}
 use Rattle.map_spec.specs.Elements.{attribute}
 use Rattle.html_spec.specs.Anchors.{read_href}
 use Rattle.xref_links.specs.Adding.{element_of}
-use Rattle.xref_links.proofs.LinkLaws.{on_ok, written_more}
+use Rattle.xref_links.proofs.LinkLaws.{written_more}
 use Rattle.xref_links.proofs.NameLaws.{read_founded}
 use Rattle.readers.proofs.DocumentLaws.{asks_same}
 use Rattle.readers.proofs.FoundedLaws.{stays_same}

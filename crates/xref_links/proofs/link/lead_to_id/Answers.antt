@@ -1,5 +1,5 @@
 use Rattle.std.proofs.Common.{[], ◌∙◌, ap}
-use Rattle.html_spec.specs.Anchors.{lead_to}
+use Rattle.html_spec.specs.Anchors.{lead_of_document}
 use Rattle.readers.proofs.GrowthLaws.{agrees_before, grows_trans}
 use Rattle.xref_links.specs.Adding.{element_of}
 use Rattle.xref_links.proofs.HereLaws.{here_kept}
@@ -12,7 +12,7 @@ use Rattle.xref_links.proofs.link.lead_to_id.Goals as goal
 pub returns-clause-known : goal.returns-clause-known
 returns-clause-known g c = λ here agrees is.
     lead_as here _ _ c.lead_to.result c.args.faults.now c.lead_to.new.faults
-    (ap (λ topic. lead_to here (element_of c.args.page c.args.standing) c.args.name.now topic c.args.id.now)
+    (ap (λ topic. lead_of_document here (element_of c.args.page c.args.standing) c.args.name.now topic c.args.id.now)
     (c.as_str.ensures ∙ c.in_ok-topic.ensures.known here (agrees_before here.world _ _ c.lead_to.ensures.grows agrees)))
     (c.lead_to.ensures.known here agrees (here_kept _ _ c.args.page here c.in_ok-topic.ensures.stand is))
 

@@ -4,6 +4,7 @@ use Rattle.std.specs.Prelude.{[], slice_get, Some}
 use Rattle.dita_doc.specs.Siblings.{content}
 use Rattle.dita_doc.specs.Tree.{size_of}
 use Rattle.dita_doc.specs.declared.doc.Doc.{Doc}
+use Rattle.dita_doc.proofs.TreeLaws.{origin_fits}
 use Rattle.map_spec.specs.Written.{End, Node, Written}
 use Rattle.readers.proofs.DocumentLaws.{asks_after, asks_same}
 use Rattle.readers.proofs.FoundedLaws.{stays_same}
@@ -13,9 +14,9 @@ use Rattle.readers.specs.Founded.{is_among}
 use Rattle.readers.specs.Setting.{Stand}
 use Rattle.map_spec.specs.Places.{topic_inside}
 use Rattle.xref_links.specs.Adding.{added_from}
-use Rattle.xref_links.specs.Body.{element_at, written_at}
-use Rattle.readers.specs.Named.{linked_by, linked_in}
-use Rattle.xref_links.proofs.BodyLaws.{origin_fits, size_written}
+use Rattle.xref_links.specs.Body.{body_element, written_at}
+use Rattle.readers.specs.Named.{link_names, linked_in}
+use Rattle.xref_links.proofs.BodyLaws.{size_written}
 use Rattle.xref_links.proofs.HereLaws.{here_kept, types_at}
 use Rattle.xref_links.proofs.NameLaws.{link_behind, link_first, link_inside, step_founded}
 use Rattle.xref_links.proofs.WayLaws.{added_first, one_at, topic_of_one, topic_within, way_begins, way_ends, way_goes, way_same}
@@ -81,7 +82,7 @@ loop-rest-preserved g t c =
     let body = c.args.page.body.now in
     let at = c.loop-rest.here in
     let node = c.in-Element.node.now in
-    let element = element_at body at node in
+    let element = body_element body at node in
     let held = content c.in-Element.inside in
     let later = content c.in-Element.rest in
     let past = c.in_ok-here-in-Element.ensures.past in
@@ -124,7 +125,7 @@ loop-rest-preserved g t c =
           (linked_in (written_at body at (content c.loop-rest.left))) (linked_in inside) _ _ _
           (grows_trans _ _ _ c.loop-rest.invariant.grows c.in_ok-add-in-Element.ensures.grows)
           (step_founded nodes (arc_value c.args.page.context.now).page.doc _
-          (linked_in (written_at body at (content c.loop-rest.left))) (linked_by element) _ _ _
+          (linked_in (written_at body at (content c.loop-rest.left))) (link_names element) _ _ _
           c.loop-rest.invariant.grows (c.loop-rest.invariant.founded nodes same) c.loop-rest.invariant.within
           (λ m among. link_first _ element inside rest first m among)
           (c.in_ok-add-in-Element.ensures.founded nodes known))
@@ -141,9 +142,9 @@ pub returns-in_err-add-in-Element-clause-founded : goal.returns-in_err-add-in-El
 returns-in_err-add-in-Element-clause-founded g t c = λ nodes same.
     let body = c.args.page.body.now in
     let at = c.loop-rest.here in
-    let element = element_at body at c.in-Element.node.now in
+    let element = body_element body at c.in-Element.node.now in
     step_founded nodes (arc_value c.args.page.context.now).page.doc _
-    (linked_in (written_at body at (content c.loop-rest.left))) (linked_by element) _ _ _
+    (linked_in (written_at body at (content c.loop-rest.left))) (link_names element) _ _ _
     c.loop-rest.invariant.grows (c.loop-rest.invariant.founded nodes same) c.loop-rest.invariant.within
     (λ m among. link_first _ element _ _ (ap (written_at body at) c.in-Element.ensures.content) m among)
     (c.in_err-add-in-Element.ensures.founded nodes
@@ -153,7 +154,7 @@ pub returns-in_err-here-in-Element-clause-founded : goal.returns-in_err-here-in-
 returns-in_err-here-in-Element-clause-founded g t c = λ nodes same.
     let body = c.args.page.body.now in
     let at = c.loop-rest.here in
-    let element = element_at body at c.in-Element.node.now in
+    let element = body_element body at c.in-Element.node.now in
     let known = ap (λ (stand : Stand). stand.setting.nodes) c.loop-rest.invariant.stand ∙ same in
     let then_known = ap (λ (stand : Stand). stand.setting.nodes) c.in_ok-add-in-Element.ensures.stand ∙ known in
     let first = ap (written_at body at) c.in-Element.ensures.content in
@@ -162,7 +163,7 @@ returns-in_err-here-in-Element-clause-founded g t c = λ nodes same.
     (linked_in (written_at body (at + 1) (content c.in-Element.inside))) _ _ _
     (grows_trans _ _ _ c.loop-rest.invariant.grows c.in_ok-add-in-Element.ensures.grows)
     (step_founded nodes (arc_value c.args.page.context.now).page.doc _
-    (linked_in (written_at body at (content c.loop-rest.left))) (linked_by element) _ _ _
+    (linked_in (written_at body at (content c.loop-rest.left))) (link_names element) _ _ _
     c.loop-rest.invariant.grows (c.loop-rest.invariant.founded nodes same) c.loop-rest.invariant.within
     (λ m among. link_first _ element _ _ first m among) (c.in_ok-add-in-Element.ensures.founded nodes known))
     c.loop-rest.invariant.within (λ m among. link_inside _ element _ _ first m among)

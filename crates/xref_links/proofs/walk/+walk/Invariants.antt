@@ -1,6 +1,6 @@
 use Rattle.std.specs.Arc.{arc_value}
 use Rattle.std.proofs.Common.{◌≡◌, ◌+◌, ◌≤◌, ℕ, List, IsTrue, Option, length}
-use Rattle.dita_doc.specs.Siblings.{content, document}
+use Rattle.dita_doc.specs.Siblings.{content, doc_of_siblings}
 use Rattle.dita_doc.specs.Tree.{size_of}
 use Rattle.dita_doc.specs.declared.plan.PlanNode.{PlanNode}
 use Rattle.html_spec.specs.Anchors.{Here}
@@ -28,7 +28,7 @@ invariant-loop-rest g l = record {
   size : size_of (content l.left) ≤ size_of (content l.fn.siblings);
   room : l.here + size_of (content l.left) ≡ l.fn.place + size_of (content l.fn.siblings);
   fits : l.here + size_of (content l.left) ≤ length l.page.body.now.doc.nodes;
-  home : document l.left ≡ l.page.body.now.doc;
+  home : doc_of_siblings l.left ≡ l.page.body.now.doc;
   stand : g.A.Reader.stand l.asker ≡ g.A.Reader.stand l.fn.asker;
   founded : (nodes : List PlanNode) → (g.A.Reader.stand l.fn.asker).setting.nodes ≡ nodes
       → StaysFounded (names_with nodes (arc_value l.page.context.now).page.doc

@@ -1,12 +1,12 @@
 use Rattle.std.specs.Arc.{arc_value}
 use Rattle.std.proofs.Common.{[], ◌∙◌, refl}
+use Rattle.dita_doc.proofs.Lists.{on_ok}
 use Rattle.readers.proofs.GrowthLaws.{agrees_before, grows_trans}
 use Rattle.xref_links.specs.Adding.{element_of, target_of}
-use Rattle.readers.specs.Named.{linked_by}
-use Rattle.xref_links.specs.Names.{names_of}
+use Rattle.readers.specs.Named.{link_names}
+use Rattle.xref_links.specs.Names.{names_of_target}
 use Rattle.xref_links.proofs.AddLaws.{typed_by, typed_more}
 use Rattle.xref_links.proofs.HereLaws.{here_kept}
-use Rattle.xref_links.proofs.LinkLaws.{on_ok}
 use Rattle.xref_links.proofs.NameLaws.{behind_founded, key_founded}
 use Rattle.readers.specs.Documents.{nothing}
 use Rattle.readers.proofs.DocumentLaws.{asks_after}
@@ -29,14 +29,14 @@ returns-clause-known g c = λ here around agrees is types topic.
 pub returns-clause-founded : goal.returns-clause-founded
 returns-clause-founded g c = λ nodes same.
     behind_founded nodes _ (arc_value c.args.page.context.now).page.doc
-    (linked_by (element_of c.args.page c.args.standing)) (names_of (target_of c.in_ok-keyed.keyed)) _ _ _ same
+    (link_names (element_of c.args.page c.args.standing)) (names_of_target (target_of c.in_ok-keyed.keyed)) _ _ _ same
     c.in_ok-keyed.ensures.grows c.in_ok-keyed.ensures.founded (λ roots. c.in_ok-keyed.ensures.given roots)
     c.add_behind.ensures.founded
 
 pub returns-in_err-keyed-clause-founded : goal.returns-in_err-keyed-clause-founded
 returns-in_err-keyed-clause-founded g c = λ nodes same.
     key_founded nodes _ (arc_value c.args.page.context.now).page.doc
-    (linked_by (element_of c.args.page c.args.standing)) _ _ same c.in_err-keyed.ensures.founded
+    (link_names (element_of c.args.page c.args.standing)) _ _ same c.in_err-keyed.ensures.founded
 
 pub returns-in_err-keyed-clause-stand : goal.returns-in_err-keyed-clause-stand
 returns-in_err-keyed-clause-stand g c = c.defined_key.ensures.stand

@@ -1,14 +1,14 @@
 use Rattle.std.specs.Arc.{arc_value}
 use Rattle.std.proofs.Common.{Option, subst, sym}
 use Rattle.dita_doc.specs.declared.plan.Target.{Target}
+use Rattle.dita_doc.proofs.Lists.{on_ok}
 use Rattle.html_spec.specs.Anchors.{defined_key, image_added, image_by, keyref_of}
 use Rattle.readers.specs.Founded.{StaysFounded}
 use Rattle.xref_links.specs.Adding.{HasMore, alone, element_of, target_of}
-use Rattle.readers.specs.Named.{linked_by}
-use Rattle.xref_links.specs.Names.{names_of}
+use Rattle.readers.specs.Named.{link_names}
+use Rattle.xref_links.specs.Names.{names_of_target}
 use Rattle.xref_links.specs.declared.keyed.Keyed.{Keyed}
 use Rattle.xref_links.proofs.AddLaws.{image_more, key_defined, key_undefined, keyed_more}
-use Rattle.xref_links.proofs.LinkLaws.{on_ok}
 use Rattle.xref_links.proofs.NameLaws.{href_part, key_part}
 use Rattle.xref_links.proofs.walk.add_behind.Goals as goal
 
@@ -38,9 +38,10 @@ returns-in-Some-clause-known g c = λ here around agrees is types topic key.
 pub returns-in-Some-clause-founded : goal.returns-in-Some-clause-founded
 returns-in-Some-clause-founded g c =
     let page = c.args.page in
-    let links = linked_by (element_of page c.args.standing) in
-    key_part (names_of (target_of c.args.keyed)) (arc_value page.context.now).page.doc links _ _
-    (subst (λ (keyed : Option Keyed). StaysFounded (names_of (target_of keyed)) (g.A.Reader.told c.args.asker.now)
+    let links = link_names (element_of page c.args.standing) in
+    key_part (names_of_target (target_of c.args.keyed)) (arc_value page.context.now).page.doc links _ _
+    (subst (λ (keyed : Option Keyed). StaysFounded (names_of_target (target_of keyed))
+    (g.A.Reader.told c.args.asker.now)
     (g.A.Reader.told c.add_keyed.new.asker)) (sym c.in-Some.is) c.add_keyed.ensures.founded)
 
 pub returns-in-None-clause-known : goal.returns-in-None-clause-known
@@ -51,8 +52,8 @@ returns-in-None-clause-known g c = λ here around agrees is types topic key.
 
 pub returns-in-None-clause-founded : goal.returns-in-None-clause-founded
 returns-in-None-clause-founded g c =
-    href_part (names_of (target_of c.args.keyed)) (arc_value c.args.page.context.now).page.doc
-    (linked_by (element_of c.args.page c.args.standing)) _ _ c.add_unkeyed.ensures.founded
+    href_part (names_of_target (target_of c.args.keyed)) (arc_value c.args.page.context.now).page.doc
+    (link_names (element_of c.args.page c.args.standing)) _ _ c.add_unkeyed.ensures.founded
 
 pub returns-in-Some-clause-stand : goal.returns-in-Some-clause-stand
 returns-in-Some-clause-stand g c = c.add_keyed.ensures.stand

@@ -1,6 +1,6 @@
 use Rattle.std.proofs.Common.{◌∙◌, sym}
+use Rattle.dita_doc.proofs.Lists.{on_ok}
 use Rattle.xref_links.proofs.AddLaws.{other_more, read_more}
-use Rattle.xref_links.proofs.LinkLaws.{on_ok}
 use Rattle.xref_links.proofs.walk.add_unkeyed.Goals as goal
 
 pub returns-then-not-is_linked-clause-known : goal.returns-then-not-is_linked-clause-known

@@ -1,7 +1,8 @@
 use Rattle.std.proofs.Common.{◌≡◌, ◌∙◌, Some, ap, refl, slice_get, subst, sym}
 use Rattle.std.proofs.lemmas.Option.{same_Some}
 use Rattle.dita_doc.specs.declared.plan.PlanNode.{PlanNode}
-use Rattle.doc_elements.specs.Walk.{Found, content_in, element_of, found_in}
+use Rattle.dita_doc.proofs.Lists.{get_read}
+use Rattle.doc_elements.specs.Walk.{FoundElement, content_in, element_of, found_in}
 use Rattle.map_spec.specs.MapTree.{node_of}
 use Rattle.plan_nodes.specs.Home.{doc_of}
 use Rattle.readers.proofs.FoundedLaws.{stays_same}
@@ -9,7 +10,7 @@ use Rattle.readers.proofs.GrowthLaws.{grows_same}
 use Rattle.branch_copies.specs.BranchRead.{IsBranchOf}
 use Rattle.branch_copies.proofs.AppendedLaws.{none_appended, one_appended}
 use Rattle.branch_copies.proofs.DitavalrefLaws.{asks_ref, ditavals_same, stays_ref}
-use Rattle.node_filter.proofs.HomeLaws.{node_there, whole_found}
+use Rattle.node_filter.proofs.HomeLaws.{whole_found}
 use Rattle.branch_copies.proofs.StandLaws.{whole_here}
 use Rattle.branch_copies.proofs.branches.Branches.read.Goals as goal
 
@@ -25,9 +26,9 @@ returns-clause-known g c = λ world head parent end agrees are here known.
     let nodes = c.args.nodes.now in
     let place = c.args.place in
     let node : PlanNode = c.in-Some.node.now in
-    let found : Found = (c.in-Some-whole.element, c.in-Some-whole.inside) in
+    let found : FoundElement = (c.in-Some-whole.element, c.in-Some-whole.inside) in
     let lookup = c.in-Some.ensures.lookup in
-    let looked : slice_get nodes place ≡ Some node = node_there nodes place node lookup.3.0 lookup.1 in
+    let looked : slice_get nodes place ≡ Some node = get_read nodes place node lookup.3.0 lookup.1 in
     let node_is : node ≡ node_of head parent end = same_Some _ _ (sym looked ∙ here) in
     one_appended world nodes c.args.ditavals.now.read.items c.read_branch.new.ditavals.read.items
     c.read_branch.new.ditavals.known.entries c.args.self.now _ place parent end head found c.in_ok-branch.branch here
@@ -42,42 +43,42 @@ pub returns-in_err-branch-clause-founded : goal.returns-in_err-branch-clause-fou
 returns-in_err-branch-clause-founded g c =
     let found = c.in-Some.ensures.lookup in
     stays_ref c.args.nodes.now c.args.homes.now c.args.place c.in-Some.node.now
-    (c.in-Some-whole.element, c.in-Some-whole.inside) (node_there _ _ _ found.3.0 found.1) c.in-Some-whole.ensures _ _
+    (c.in-Some-whole.element, c.in-Some-whole.inside) (get_read _ _ _ found.3.0 found.1) c.in-Some-whole.ensures _ _
     c.requires.given c.read_branch.ensures.founded
 
 pub returns-in_err-branch-clause-asks : goal.returns-in_err-branch-clause-asks
 returns-in_err-branch-clause-asks g c = λ is.
     let found = c.in-Some.ensures.lookup in
     asks_ref c.args.nodes.now c.args.homes.now c.args.place c.in-Some.node.now
-    (c.in-Some-whole.element, c.in-Some-whole.inside) (node_there _ _ _ found.3.0 found.1) c.in-Some-whole.ensures _ _
+    (c.in-Some-whole.element, c.in-Some-whole.inside) (get_read _ _ _ found.3.0 found.1) c.in-Some-whole.ensures _ _
     c.requires.given is c.read_branch.ensures.asks
 
 pub returns-in_err-push-clause-founded : goal.returns-in_err-push-clause-founded
 returns-in_err-push-clause-founded g c =
     let found = c.in-Some.ensures.lookup in
     stays_ref c.args.nodes.now c.args.homes.now c.args.place c.in-Some.node.now
-    (c.in-Some-whole.element, c.in-Some-whole.inside) (node_there _ _ _ found.3.0 found.1) c.in-Some-whole.ensures _ _
+    (c.in-Some-whole.element, c.in-Some-whole.inside) (get_read _ _ _ found.3.0 found.1) c.in-Some-whole.ensures _ _
     c.requires.given c.read_branch.ensures.founded
 
 pub returns-in_err-push-clause-asks : goal.returns-in_err-push-clause-asks
 returns-in_err-push-clause-asks g c = λ is.
     let found = c.in-Some.ensures.lookup in
     asks_ref c.args.nodes.now c.args.homes.now c.args.place c.in-Some.node.now
-    (c.in-Some-whole.element, c.in-Some-whole.inside) (node_there _ _ _ found.3.0 found.1) c.in-Some-whole.ensures _ _
+    (c.in-Some-whole.element, c.in-Some-whole.inside) (get_read _ _ _ found.3.0 found.1) c.in-Some-whole.ensures _ _
     c.requires.given is c.read_branch.ensures.asks
 
 pub returns-clause-founded : goal.returns-clause-founded
 returns-clause-founded g c =
     let found = c.in-Some.ensures.lookup in
     stays_ref c.args.nodes.now c.args.homes.now c.args.place c.in-Some.node.now
-    (c.in-Some-whole.element, c.in-Some-whole.inside) (node_there _ _ _ found.3.0 found.1) c.in-Some-whole.ensures _ _
+    (c.in-Some-whole.element, c.in-Some-whole.inside) (get_read _ _ _ found.3.0 found.1) c.in-Some-whole.ensures _ _
     c.requires.given c.read_branch.ensures.founded
 
 pub returns-clause-asks : goal.returns-clause-asks
 returns-clause-asks g c = λ is.
     let found = c.in-Some.ensures.lookup in
     asks_ref c.args.nodes.now c.args.homes.now c.args.place c.in-Some.node.now
-    (c.in-Some-whole.element, c.in-Some-whole.inside) (node_there _ _ _ found.3.0 found.1) c.in-Some-whole.ensures _ _
+    (c.in-Some-whole.element, c.in-Some-whole.inside) (get_read _ _ _ found.3.0 found.1) c.in-Some-whole.ensures _ _
     c.requires.given is c.read_branch.ensures.asks
 
 pub returns-in_default-clause-stand : goal.returns-in_default-clause-stand

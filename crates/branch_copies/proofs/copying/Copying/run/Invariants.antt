@@ -4,7 +4,7 @@ use Rattle.map_spec.specs.Branches.{Branch}
 use Rattle.reader_spec.specs.World.{World}
 use Rattle.branch_copies.specs.Going.{Going}
 use Rattle.branch_copies.specs.Left.{left}
-use Rattle.branch_copies.specs.Source.{IsSource}
+use Rattle.branch_copies.specs.Originals.{IsSource}
 use Rattle.branch_copies.proofs.copying.Copying.run.Given as goal
 
 abbrev pub invariant-loop-work : goal.invariant-loop-work

@@ -1,6 +1,6 @@
 use Rattle.std.proofs.Common.{◌<◌, arith, refl, sym, subst, ◌∙◌}
 use Rattle.branch_copies.specs.Going.{chains_of}
-use Rattle.branch_copies.specs.Source.{SeesFirst}
+use Rattle.branch_copies.specs.Originals.{SeesFirst}
 use Rattle.branch_copies.proofs.StepLaws.{none_made, step_excluded, step_next, step_ref, walk_none}
 use Rattle.branch_copies.proofs.copying.Copying.step.Goals as goal
 

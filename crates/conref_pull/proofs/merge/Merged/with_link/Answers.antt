@@ -1,12 +1,13 @@
 use Rattle.std.proofs.Common.{IfOk, subst}
+use Rattle.std.proofs.lemmas.Option.{none-some}
 use Rattle.map_spec.specs.Written.{Element}
 use Rattle.conref_pull.specs.Merging.{IsMerged, part_of, taking}
 use Rattle.conref_pull.specs.declared.merge.Merged.{Merged}
-use Rattle.conref_pull.proofs.MergeLaws.{none_some, pair_first}
+use Rattle.conref_pull.proofs.MergeLaws.{pair_first}
 use Rattle.conref_pull.proofs.merge.Merged.with_link.Goals as goal
 
 pub returns-in_default-clause-merged : goal.returns-in_default-clause-merged
-returns-in_default-clause-merged c = λ own one merged is. absurd (none_some _ (c.in_default.ensures.target one is))
+returns-in_default-clause-merged c = λ own one merged is. absurd (none-some _ (c.in_default.ensures.target one is))
 
 pub returns-clause-merged : goal.returns-clause-merged
 returns-clause-merged c = λ own one merged is.

@@ -8,12 +8,12 @@ use Rattle.conref_pull.specs.Linked.{AreGivenTo, IsGivenIf}
 use Rattle.readers.proofs.GivenLaws.{given_later}
 use Rattle.readers.proofs.GrowthLaws.{agrees_before, grows_trans}
 use Rattle.conref_targets.specs.Origin.{whole_of}
-use Rattle.conref_targets.specs.Setting.{setting_of}
+use Rattle.conref_targets.specs.ResolveInput.{setting_of}
 use Rattle.conref_targets.proofs.AskingLaws.{about_then, given_reused, given_some, whole_element}
 use Rattle.conref_pull.specs.Linked.{IsStep}
 use Rattle.conref_pull.specs.State.{path_within}
 use Rattle.conref_pull.specs.Step.{step_of}
-use Rattle.conref_pull.specs.declared.chain.Link.{Link}
+use Rattle.conref_pull.specs.declared.chain.TakenTarget.{TakenTarget}
 use Rattle.conref_pull.specs.declared.resolver.Resolver.{Resolver}
 use Rattle.conref_pull.proofs.LinkAskLaws.{links_later, links_more}
 use Rattle.conref_pull.proofs.FollowLaws.{follow_ended, follow_lost, follow_on, followed_there, page_same_setting, step_room}
@@ -32,7 +32,7 @@ returns-in_err-end-clause-asks g t c = λ nodes same.
     (ap (λ (context : Bor Context). context.now.page.doc) c.in_ok-link.ensures.page.context)
     (given_some _ _ _ (whole_element c.in-Some-whole.target _ c.in-Some-whole.ensures.names)
     (given_reused _ (arc_value c.in-Some.link.doc)
-    (subst (λ (link : Option Link). IsGivenIf (g.A.Reader.told c.take.new.asker) link) c.in-Some.is
+    (subst (λ (link : Option TakenTarget). IsGivenIf (g.A.Reader.told c.take.new.asker) link) c.in-Some.is
     c.in_ok-link.ensures.given))) c.take.ensures.grows (c.take.ensures.asks nodes same)
     (c.follow.ensures.asks nodes
     (ap (λ (stand : Stand). stand.setting.nodes) c.take.ensures.stand ∙ same))
@@ -43,7 +43,7 @@ returns-in_err-push-clause-asks g t c = λ nodes same.
     (ap (λ (context : Bor Context). context.now.page.doc) c.in_ok-link.ensures.page.context)
     (given_some _ _ _ (whole_element c.in-Some-whole.target _ c.in-Some-whole.ensures.names)
     (given_reused _ (arc_value c.in-Some.link.doc)
-    (subst (λ (link : Option Link). IsGivenIf (g.A.Reader.told c.take.new.asker) link) c.in-Some.is
+    (subst (λ (link : Option TakenTarget). IsGivenIf (g.A.Reader.told c.take.new.asker) link) c.in-Some.is
     c.in_ok-link.ensures.given))) c.take.ensures.grows (c.take.ensures.asks nodes same)
     (c.follow.ensures.asks nodes
     (ap (λ (stand : Stand). stand.setting.nodes) c.take.ensures.stand ∙ same))
@@ -54,17 +54,17 @@ returns-clause-asks g t c = λ nodes same.
     (ap (λ (context : Bor Context). context.now.page.doc) c.in_ok-link.ensures.page.context)
     (given_some _ _ _ (whole_element c.in-Some-whole.target _ c.in-Some-whole.ensures.names)
     (given_reused _ (arc_value c.in-Some.link.doc)
-    (subst (λ (link : Option Link). IsGivenIf (g.A.Reader.told c.take.new.asker) link) c.in-Some.is
+    (subst (λ (link : Option TakenTarget). IsGivenIf (g.A.Reader.told c.take.new.asker) link) c.in-Some.is
     c.in_ok-link.ensures.given))) c.take.ensures.grows (c.take.ensures.asks nodes same)
     (c.follow.ensures.asks nodes
     (ap (λ (stand : Stand). stand.setting.nodes) c.take.ensures.stand ∙ same))
 
 pub returns-clause-given : goal.returns-clause-given
 returns-clause-given g t c = λ given.
-    subst (λ (links : List Link). AreGivenTo (g.A.Reader.told c.follow.new.asker) links) (sym c.in_ok-push.ensures.items)
+    subst (λ (links : List TakenTarget). AreGivenTo (g.A.Reader.told c.follow.new.asker) links) (sym c.in_ok-push.ensures.items)
     (links_more _ _ _ (c.in_ok-end.ensures.given (links_later _ _ _ c.take.ensures.grows given))
     (given_later _ _ _ c.follow.ensures.grows
-    (subst (λ (link : Option Link). IsGivenIf (g.A.Reader.told c.take.new.asker) link) c.in-Some.is
+    (subst (λ (link : Option TakenTarget). IsGivenIf (g.A.Reader.told c.take.new.asker) link) c.in-Some.is
     c.in_ok-link.ensures.given)))
 
 pub returns-in_default-clause-known : goal.returns-in_default-clause-known
@@ -80,7 +80,7 @@ returns-in_default-whole-clause-known g t c = λ world at steps inside agrees ar
     (let setting = setting_of world (g.A.Reader.stand c.args.asker.now).setting c.args.self.now.context.now.page
     c.args.self.now.rules in
     let element = element_of c.args.origin.now c.args.element.now in
-    let step = subst (λ (link : Option Link). IsStep setting.pushed (step_of setting c.args.topic.now at
+    let step = subst (λ (link : Option TakenTarget). IsStep setting.pushed (step_of setting c.args.topic.now at
     (path_within c.args.self.now c.args.links) element) c.args.self.now c.take.new.self c.take.new.places link)
     c.in-Some.is (c.in_ok-link.ensures.known world at agrees are deep room) in
     follow_lost setting c.args.topic.now at c.args.links element inside c.args.self.now c.take.new.self
@@ -95,10 +95,10 @@ returns-clause-known g t c = λ world at steps inside agrees are deep some far r
     let setting = setting_of world stand.setting old.context.now.page old.rules in
     let element = element_of c.args.origin.now c.args.element.now in
     let links = c.args.links in
-    let taken = subst (λ (link : Option Link). IsStep setting.pushed (step_of setting c.args.topic.now at
+    let taken = subst (λ (link : Option TakenTarget). IsStep setting.pushed (step_of setting c.args.topic.now at
     (path_within old links) element) old mid c.take.new.places link) c.in-Some.is
     (c.in_ok-link.ensures.known world at (agrees_before world _ _ c.in_ok-end.ensures.grows agrees) are deep room) in
-    let few : links < 32 = subst (λ (link : Option Link). IsSome link → links < 32) c.in-Some.is
+    let few : links < 32 = subst (λ (link : Option TakenTarget). IsSome link → links < 32) c.in-Some.is
     c.in_ok-link.ensures.limit refl in
     let target = c.in-Some-whole.target in
     follow_on setting c.args.topic.now at links element inside old mid c.take.new.places room c.in-Some.link taken target

@@ -1,5 +1,6 @@
 use Rattle.std.proofs.Common.{arith, rules, ◌∷◌, refl, ap, sym, ◌∙◌, slice_get}
-use Rattle.dita_doc.specs.Siblings.{document}
+use Rattle.std.proofs.lemmas.Option.{none-some}
+use Rattle.dita_doc.specs.Siblings.{doc_of_siblings}
 use Rattle.dita_doc.specs.declared.doc.Doc.{Doc}
 use Rattle.doc_elements.specs.Walk.{element_of}
 use Rattle.conref_targets.specs.Origin.{named_content}
@@ -11,7 +12,7 @@ use Rattle.conref_pull.proofs.OpenedLaws.{kept_not, kept_put, taken_goes, taken_
 use Rattle.conref_pull.proofs.WalkNodeLaws.{behind_among, place_nothing, place_puts, place_walks, put_there, sibling_text, siblings_end, siblings_ready, text_put}
 use Rattle.conref_pull.proofs.WalkAskLaws.{about_same, agrees_before, among_same, among_then, asks_behind, asks_call, asks_counted, asks_followed, asks_last, asks_next, asks_on, asks_part, asks_target, given_later, given_some, grows_same, grows_trans, inside_among, link_later, links_later, node_reused, none_among, origin_there, page_around, page_faults, page_judged, page_on, page_one, page_same, page_then, reused_given}
 use Rattle.conref_pull.proofs.WalkHrefLaws.{around_put, counted_put, left_named, maker_counted, maker_faults, maker_then, named_later, nodes_later, origin_later, origin_named, place_put, place_text, put_later, same_put, sibling_put, written_named}
-use Rattle.conref_pull.proofs.WalkLoopLaws.{drop_all, element_smaller, first_within, given_links, links_are, node_next, node_none, not_none, node_stops, range_ends, range_goes_on, range_next, range_ready, range_stops, ranges_end, ranges_over, ranges_ready, rest_within, sibling_next, seen_as, siblings_smaller, some_node, sibling_stops, splits}
+use Rattle.conref_pull.proofs.WalkLoopLaws.{drop_all, element_smaller, first_within, given_links, links_are, node_next, node_none, node_stops, range_ends, range_goes_on, range_next, range_ready, range_stops, ranges_end, ranges_over, ranges_ready, rest_within, sibling_next, seen_as, siblings_smaller, some_node, sibling_stops, splits}
 use Rattle.conref_pull.proofs.resolver.Resolver.+resolve.Goals as goal
 
 pub node_at-element-requires : goal.node_at-element-requires
@@ -336,7 +337,7 @@ element-returns-clause-known g t c = λ world here place agrees ready there.
 
 pub element_with-returns-in_default-clause-known : goal.element_with-returns-in_default-clause-known
 element_with-returns-in_default-clause-known g t c = λ world here place agrees ready there declares.
-    absurd (origin_there (document c.args.inside) place c.args.node.now there
+    absurd (origin_there (doc_of_siblings c.args.inside) place c.args.node.now there
     (ap (λ (d : Doc). slice_get d.origins c.args.node.now.origin) (sym c.doc.ensures) ∙ sym c.in_default.ensures))
 
 pub element_with-returns-then-branch-clause-known : goal.element_with-returns-then-branch-clause-known
@@ -392,7 +393,7 @@ merged-returns-then-branch-clause-known g t c = λ world here farthest nearer ag
 
 pub merged-returns-in_default-clause-known : goal.merged-returns-in_default-clause-known
 merged-returns-in_default-clause-known g t c = λ world here farthest nearer agrees ready linked types.
-    absurd (not_none _ (c.in_default.ensures.target here.path c.args.chain.now.end farthest nearer linked))
+    absurd (none-some _ (c.in_default.ensures.target here.path c.args.chain.now.end farthest nearer linked))
 
 pub merged-returns-in_err-siblings-clause-known : goal.merged-returns-in_err-siblings-clause-known
 merged-returns-in_err-siblings-clause-known g t c = λ world here farthest nearer agrees ready linked types.

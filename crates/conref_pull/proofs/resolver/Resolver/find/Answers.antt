@@ -1,5 +1,5 @@
 use Rattle.doc_elements.specs.Walk.{element_of}
-use Rattle.conref_targets.specs.Setting.{setting_of}
+use Rattle.conref_targets.specs.ResolveInput.{setting_of}
 use Rattle.conref_targets.specs.Sought.{sought_shown}
 use Rattle.conref_pull.proofs.SeekLaws.{sought_in}
 use Rattle.conref_pull.proofs.resolver.Resolver.find.Goals as goal

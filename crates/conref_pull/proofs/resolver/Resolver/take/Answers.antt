@@ -3,7 +3,7 @@ use Rattle.std.specs.Option.{option_copied}
 use Rattle.doc_elements.specs.Walk.{element_of}
 use Rattle.conref_spec.specs.Content as content
 use Rattle.conref_targets.specs.Asking.{IsGivenIn}
-use Rattle.conref_targets.specs.Setting.{setting_of}
+use Rattle.conref_targets.specs.ResolveInput.{setting_of}
 use Rattle.conref_targets.specs.Sought.{sought_found, sought_shown}
 use Rattle.conref_targets.specs.declared.find.Found.{Found}
 use Rattle.conref_targets.proofs.AskingLaws.{about_among, among_both}

@@ -8,7 +8,7 @@ use Rattle.doc_maker.specs.Building.{behind}
 use Rattle.doc_maker.specs.Made.{building}
 use Rattle.map_spec.specs.Written.{Chars, End, side_by_side, size, written_in}
 use Rattle.map_spec.specs.Pushes.{itself_or, pushed_from}
-use Rattle.topic_find.proofs.WalkLaws.{size_written}
+use Rattle.map_lemmas.proofs.TreeLaws.{size_written}
 use Rattle.conref_push.specs.Into.{froms}
 use Rattle.conref_push.specs.Making.{IsFrom, at_place_or_none}
 use Rattle.conref_push.proofs.MakingLaws.{among_group, end_there, from_group, place_acting, place_put, pushed_node, way_end, way_on}

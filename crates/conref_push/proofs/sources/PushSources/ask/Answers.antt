@@ -2,8 +2,9 @@ use Rattle.std.proofs.Common.{refl, sym}
 use Rattle.readers.proofs.DocumentLaws.{asks_same}
 use Rattle.readers.proofs.FoundedLaws.{stays_same}
 use Rattle.readers.proofs.GrowthLaws.{grows_same, told_answer}
+use Rattle.readers.proofs.OnlyLaws.{only_same}
 use Rattle.conref_push.proofs.AskedLaws.{given_put}
-use Rattle.conref_push.proofs.SourceLaws.{sources_more, sources_put}
+use Rattle.conref_push.proofs.SourceLaws.{only_doc, sources_more, sources_put}
 use Rattle.conref_push.proofs.sources.PushSources.ask.Goals as goal
 
 pub returns-then-contains_key-clause-known : goal.returns-then-contains_key-clause-known
@@ -84,3 +85,9 @@ returns-clause-asks g c = c.doc.ensures.asks
 
 pub returns-clause-grows : goal.returns-clause-grows
 returns-clause-grows g c = c.doc.ensures.grows
+
+pub returns-then-contains_key-clause-only : goal.returns-then-contains_key-clause-only
+returns-then-contains_key-clause-only g c = only_same _ _ _ refl
+
+pub returns-clause-only : goal.returns-clause-only
+returns-clause-only g c = only_doc c.args.name.now _ _ _ c.in_ok-doc.ensures.told

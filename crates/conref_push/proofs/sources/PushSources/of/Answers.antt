@@ -2,7 +2,9 @@ use Rattle.std.proofs.Common.{◌∙◌, refl, take}
 use Rattle.readers.proofs.DocumentLaws.{asks_after, asks_one, asks_same}
 use Rattle.readers.proofs.FoundedLaws.{stays_after, stays_one, stays_same}
 use Rattle.readers.proofs.GrowthLaws.{agrees_before, grows_same, grows_trans}
+use Rattle.readers.proofs.OnlyLaws.{only_after, only_one, only_same}
 use Rattle.readers.specs.Documents.{nothing}
+use Rattle.readers.specs.Only.{is_document_of}
 use Rattle.conref_push.specs.Into.{froms}
 use Rattle.conref_push.proofs.AskedLaws.{given_none}
 use Rattle.conref_push.proofs.SourceLaws.{from_among, sources_all, sources_none, sources_step}
@@ -15,6 +17,7 @@ loop-push-init g c = record {
   stand = refl;
   founded = stays_same _ _ _ refl;
   asks = asks_same nothing _ _ _ refl;
+  only = only_same _ _ _ refl;
   grows = grows_same _;
 }
 
@@ -34,6 +37,8 @@ loop-push-preserved g c =
           (stays_one one.from (froms pushes) _ _ among c.in_ok-ask.ensures.founded);
       asks = asks_after nothing (froms pushes) _ _ _ c.loop-push.invariant.grows c.loop-push.invariant.asks
           (asks_one nothing one.from (froms pushes) _ _ among c.in_ok-ask.ensures.asks);
+      only = only_after (is_document_of (froms pushes)) _ _ _ c.loop-push.invariant.only
+          (only_one one.from (froms pushes) _ _ among c.in_ok-ask.ensures.only);
       grows = grows_trans _ _ _ c.loop-push.invariant.grows c.in_ok-ask.ensures.grows;
     }
 
@@ -78,3 +83,6 @@ returns-clause-asks g c = c.loop-push.invariant.asks
 
 pub returns-clause-grows : goal.returns-clause-grows
 returns-clause-grows g c = c.loop-push.invariant.grows
+
+pub returns-clause-only : goal.returns-clause-only
+returns-clause-only g c = c.loop-push.invariant.only

@@ -1,9 +1,9 @@
 use Rattle.std.proofs.Common.{◌∙◌, refl, take}
 use Rattle.readers.proofs.DocumentLaws.{asks_after, asks_same}
-use Rattle.readers.proofs.FoundedLaws.{none_allowed, stays_after, stays_one, stays_same}
+use Rattle.readers.proofs.FoundedLaws.{document_among, none_allowed, stays_after, stays_one, stays_same}
 use Rattle.readers.proofs.GrowthLaws.{agrees_before, grows_same, grows_trans}
 use Rattle.conref_push.specs.Aimed.{push_targets}
-use Rattle.conref_push.proofs.AimLaws.{asks_item, item_among}
+use Rattle.conref_push.proofs.AimLaws.{asks_item}
 use Rattle.conref_push.proofs.AllowedLaws.{allowed_all, allowed_next}
 use Rattle.conref_push.proofs.GatherLaws.{gathered_next, gathered_none, gathered_table}
 use Rattle.conref_push.proofs.table.PushTable.of.Goals as goal
@@ -23,7 +23,7 @@ pub loop-name-preserved : goal.loop-name-preserved
 loop-name-preserved g c =
     let documents = c.args.documents.now in
     let at = c.loop-name.name-index in
-    let among = item_among documents at c.name-item.result c.loop-name-test.true c.name-item.is in
+    let among = document_among documents at c.name-item.result c.loop-name-test.true c.name-item.is in
     record {
       known = λ world agrees.
           gathered_next world documents at c.name-item.result c.put_document.new.targets c.put_document.new.self
@@ -46,7 +46,7 @@ returns-in_err-put_document-clause-founded g c =
     let documents = c.args.documents.now in
     stays_after documents _ _ _ c.loop-name.invariant.grows c.loop-name.invariant.founded
     (stays_one c.name-item.result documents _ _
-    (item_among documents c.loop-name.name-index c.name-item.result c.loop-name-test.true c.name-item.is)
+    (document_among documents c.loop-name.name-index c.name-item.result c.loop-name-test.true c.name-item.is)
     c.in_err-put_document.ensures.founded)
 
 pub returns-in_err-put_document-clause-asks : goal.returns-in_err-put_document-clause-asks
@@ -54,7 +54,7 @@ returns-in_err-put_document-clause-asks g c =
     let documents = c.args.documents.now in
     asks_after push_targets documents _ _ _ c.loop-name.invariant.grows c.loop-name.invariant.asks
     (asks_item documents c.name-item.result _ _
-    (item_among documents c.loop-name.name-index c.name-item.result c.loop-name-test.true c.name-item.is)
+    (document_among documents c.loop-name.name-index c.name-item.result c.loop-name-test.true c.name-item.is)
     c.in_err-put_document.ensures.asks)
 
 pub returns-clause-known : goal.returns-clause-known

@@ -1,5 +1,5 @@
 use Rattle.std.proofs.Common.{◌∙◌, refl, subst, sym}
-use Rattle.topic_find.proofs.TableLaws.{on_ok}
+use Rattle.dita_doc.proofs.Lists.{on_ok}
 use Rattle.conref_push.specs.Sight.{sight_of}
 use Rattle.conref_push.specs.Table.{IsChanged, with_push}
 use Rattle.conref_push.specs.Targets.{IsNoted}

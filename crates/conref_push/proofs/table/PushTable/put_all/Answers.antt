@@ -13,11 +13,11 @@ use Rattle.conref_push.proofs.AimLaws.{asks_seen, stays_seen}
 use Rattle.conref_push.proofs.GatherLaws.{gathered_acts, gathered_all, gathered_quiet, gathered_step}
 use Rattle.conref_push.proofs.table.PushTable.put_all.Goals as goal
 
-pub returns-then-not-acts_in-clause-known : goal.returns-then-not-acts_in-clause-known
-returns-then-not-acts_in-clause-known g c = λ world all acting agrees gathered.
+pub returns-then-not-has_conaction_in-clause-known : goal.returns-then-not-has_conaction_in-clause-known
+returns-then-not-has_conaction_in-clause-known g c = λ world all acting agrees gathered.
     let name = c.args.name.now in
     gathered_quiet world all acting name (written_in name (tree_of c.args.doc.now.nodes)) c.args.targets.now
-    c.args.self.now (c.if-not-acts_in.ensures name) gathered
+    c.args.self.now (c.if-not-has_conaction_in.ensures name) gathered
 
 pub loop-pushing-init : goal.loop-pushing-init
 loop-pushing-init g c = record {
@@ -25,7 +25,7 @@ loop-pushing-init g c = record {
       (let name = c.args.name.now in
       gathered_acts world all acting name (written_in name (tree_of c.args.doc.now.nodes)) c.args.targets.now
       c.args.self.now (record { entries = c.set_acts.new.self; faults = c.args.self.now.faults })
-      (c.if-not-acts_in.ensures name) c.in_ok-set_acts.ensures refl gathered);
+      (c.if-not-has_conaction_in.ensures name) c.in_ok-set_acts.ensures refl gathered);
   stand = refl;
   founded = stays_same _ _ _ refl;
   asks = asks_same nothing _ _ _ refl;

@@ -1,12 +1,12 @@
 use Rattle.std.proofs.Common.{◌∷◌, ◌∙◌, [], Some, ap, sym}
 use Rattle.dita_doc.specs.Tree.{tree_of}
 use Rattle.dita_doc.specs.declared.doc.Doc.{Doc}
+use Rattle.dita_doc.proofs.Lists.{on_ok}
 use Rattle.map_spec.specs.Pushes.{all_pushes}
 use Rattle.readers.proofs.DocumentLaws.{asks_one}
 use Rattle.readers.proofs.FoundedLaws.{among_first}
 use Rattle.readers.proofs.GrowthLaws.{agrees_before, grows_same, grows_trans, told_answer}
 use Rattle.readers.specs.Told.{document, tree_found}
-use Rattle.topic_find.proofs.TableLaws.{on_ok}
 use Rattle.conref_push.specs.Aimed.{push_targets}
 use Rattle.conref_push.specs.Table.{acts_among}
 use Rattle.conref_push.proofs.AimLaws.{asks_put, stays_put}

@@ -1,5 +1,5 @@
 use Rattle.std.proofs.Common.{◌∷◌, ◌++◌, ◌∙◌, [], ap, refl, subst}
-use Rattle.topic_find.proofs.WalkLaws.{read_or}
+use Rattle.dita_doc.proofs.Lists.{read_or}
 use Rattle.doc_elements.specs.Walk.{element_of}
 use Rattle.map_spec.specs.Elements.{fault_at}
 use Rattle.conref_push.specs.Gathered.{fault_seen}

@@ -1,5 +1,5 @@
 use Rattle.std.proofs.Common.{◌∙◌, sym}
-use Rattle.topic_find.proofs.TableLaws.{on_ok}
+use Rattle.dita_doc.proofs.Lists.{on_ok}
 use Rattle.conref_push.specs.Sight.{sight_of}
 use Rattle.conref_push.proofs.GatherLaws.{gathered_found, gathered_nowhere}
 use Rattle.conref_push.proofs.table.PushTable.put_one.Goals as goal

@@ -1,9 +1,9 @@
 use Rattle.std.proofs.Common.{◌++◌, List, ℕ, ap, sym, option_to_list, ◌∙◌}
 use Rattle.std.proofs.lemmas.List.Concat.{flat_map-append}
 use Rattle.std.specs.Borrow.{Bor}
+use Rattle.dita_doc.specs.Shown.{shown}
 use Rattle.dita_doc.specs.declared.content.Rule.{Rule}
 use Rattle.conref_targets.specs.Rules.{all_kept, rules_kept}
-use Rattle.conref_targets.specs.Shown.{shown}
 use Rattle.conref_targets.proofs.rules.RuleLists.of_page.Goals as goal
 
 pub returns : goal.returns

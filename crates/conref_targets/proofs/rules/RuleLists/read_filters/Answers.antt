@@ -1,11 +1,10 @@
 use Rattle.std.proofs.Common.{◌∙◌, subst, arith}
 use Rattle.std.proofs.lemmas.List.{take_all}
 use Rattle.readers.proofs.DocumentLaws.{asks_after, asks_one}
-use Rattle.readers.proofs.FoundedLaws.{stays_after, stays_one}
+use Rattle.readers.proofs.FoundedLaws.{document_among, stays_after, stays_one}
 use Rattle.readers.proofs.GrowthLaws.{agrees_before, grows_trans}
 use Rattle.conref_targets.specs.Rules.{HasAll}
 use Rattle.conref_targets.proofs.RuleLaws.{keeps_trans, read_next}
-use Rattle.conref_targets.proofs.Telling.{name_among}
 use Rattle.conref_targets.proofs.rules.RuleLists.read_filters.Goals as goal
 
 pub loop-filter-preserved : goal.loop-filter-preserved
@@ -20,11 +19,11 @@ loop-filter-preserved g c = record {
   stand = c.in_ok-read_one.ensures.stand ∙ c.loop-filter.invariant.stand;
   founded = stays_after _ _ _ _ c.loop-filter.invariant.grows c.loop-filter.invariant.founded
       (stays_one c.filter-item.result _ _ _
-      (name_among c.args.filters.now c.loop-filter.filter-index c.filter-item.result c.loop-filter-test.true
+      (document_among c.args.filters.now c.loop-filter.filter-index c.filter-item.result c.loop-filter-test.true
       c.filter-item.is) c.in_ok-read_one.ensures.founded);
   asks = asks_after _ _ _ _ _ c.loop-filter.invariant.grows c.loop-filter.invariant.asks
       (asks_one _ c.filter-item.result _ _ _
-      (name_among c.args.filters.now c.loop-filter.filter-index c.filter-item.result c.loop-filter-test.true
+      (document_among c.args.filters.now c.loop-filter.filter-index c.filter-item.result c.loop-filter-test.true
       c.filter-item.is) c.in_ok-read_one.ensures.asks);
   grows = grows_trans _ _ _ c.loop-filter.invariant.grows c.in_ok-read_one.ensures.grows;
 }
@@ -38,14 +37,14 @@ pub returns-in_err-read_one-clause-founded : goal.returns-in_err-read_one-clause
 returns-in_err-read_one-clause-founded g c =
     stays_after _ _ _ _ c.loop-filter.invariant.grows c.loop-filter.invariant.founded
     (stays_one c.filter-item.result _ _ _
-    (name_among c.args.filters.now c.loop-filter.filter-index c.filter-item.result c.loop-filter-test.true
+    (document_among c.args.filters.now c.loop-filter.filter-index c.filter-item.result c.loop-filter-test.true
     c.filter-item.is) c.read_one.ensures.founded)
 
 pub returns-in_err-read_one-clause-asks : goal.returns-in_err-read_one-clause-asks
 returns-in_err-read_one-clause-asks g c =
     asks_after _ _ _ _ _ c.loop-filter.invariant.grows c.loop-filter.invariant.asks
     (asks_one _ c.filter-item.result _ _ _
-    (name_among c.args.filters.now c.loop-filter.filter-index c.filter-item.result c.loop-filter-test.true
+    (document_among c.args.filters.now c.loop-filter.filter-index c.filter-item.result c.loop-filter-test.true
     c.filter-item.is) c.read_one.ensures.asks)
 
 pub returns-in_err-read_one-clause-grows : goal.returns-in_err-read_one-clause-grows

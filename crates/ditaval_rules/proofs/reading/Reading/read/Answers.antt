@@ -2,7 +2,7 @@ use Rattle.std.proofs.Common.{◌∷◌, ◌++◌, [], refl, sym, ap, ◌∙◌}
 use Rattle.std.proofs.lemmas.Bool.{OnFalse_at}
 use Rattle.std.proofs.lemmas.Result.{on_ok_weaker}
 use Rattle.dita_doc.specs.declared.fault.FaultCode.TheVariants as faults
-use Rattle.ditaval_rules.specs.Rules.{rule_with, fault_at}
+use Rattle.ditaval_rules.specs.Rules.{rule_with, prop_fault}
 use Rattle.ditaval_rules.specs.Reading.{prop_of}
 use Rattle.ditaval_rules.proofs.ReadingLaws.{none_by_action, rule_by_action, subject_of_rule, made_rule, reads_bad, reads_new, reads_twice}
 use Rattle.ditaval_rules.proofs.reading.Reading.read.Goals as goal
@@ -12,7 +12,7 @@ returns-in_default c =
     let none = none_by_action (prop_of c.args.prop.now) _ c.value_of-value.ensures (sym c.in_default.is ∙ c.action_in.ensures) in
     on_ok_weaker c.push_fault.result (λ told. reads_bad c.args.name.now (prop_of c.args.prop.now) c.args.self.now _ none
     c.requires refl refl
-    (told ∙ ap (λ detail. c.args.self.now.faults ++ fault_at c.args.name.now c.args.prop.now.line faults.BadAction detail ∷ [])
+    (told ∙ ap (λ detail. c.args.self.now.faults ++ prop_fault c.args.name.now c.args.prop.now.line faults.BadAction detail ∷ [])
     c.value_of-value.ensures)) c.push_fault.ensures
 
 pub returns-then-not-branch : goal.returns-then-not-branch
@@ -24,7 +24,7 @@ returns-then-not-branch c =
     on_ok_weaker c.push_fault-then-not-branch.result (λ told. reads_twice c.args.name.now (prop_of c.args.prop.now)
     c.args.self.now _ _ _ is subject c.requires (sym c.if-not-branch.true ∙ c.in_ok-insert.ensures.added)
     (OnFalse_at c.if-not-branch.true c.in_ok-insert.ensures.unchanged) refl
-    (told ∙ ap (λ att. c.args.self.now.faults ++ fault_at c.args.name.now c.args.prop.now.line faults.DitavalTwice att ∷ [])
+    (told ∙ ap (λ att. c.args.self.now.faults ++ prop_fault c.args.name.now c.args.prop.now.line faults.DitavalTwice att ∷ [])
     subject.att)) c.push_fault-then-not-branch.ensures
 
 pub returns : goal.returns

@@ -22,6 +22,6 @@ pub returns-clause-content : goal.returns-clause-content
 returns-clause-content c =
     let content = spec.whole (made_spec.building c.args.self) in
     let is = ap made_spec.building c.maker.view_is ∙ c.close_all.ensures.top in
-    ap₂ (λ origins nodes. named_spec.named origins (tree_of nodes)) c.into_names.ensures.names c.from_vec.ensures
+    ap₂ (λ origins nodes. named_spec.under_names origins (tree_of nodes)) c.into_names.ensures.names c.from_vec.ensures
     ∙ finish_named c.maker.inside.origins c.maker.inside.nodes.items c.maker.inside.hrefs.items
     c.maker.inside.opened.items content is

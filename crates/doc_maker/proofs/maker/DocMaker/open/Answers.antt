@@ -1,8 +1,9 @@
 use Rattle.std.proofs.Common.{◌≡◌, ◌+◌, ◌-◌, ◌∙◌, ap, arith, length, rules}
 use Rattle.std.specs.Vec.{vec_len}
+use Rattle.dita_doc.proofs.Lists.{on_err}
 use Rattle.doc_maker.specs.Building as spec
 use Rattle.doc_maker.specs.Made as made_spec
-use Rattle.doc_maker.proofs.MakerLaws.{names_made, names_still, on_err, open_made, open_seen, taken_again}
+use Rattle.doc_maker.proofs.MakerLaws.{names_made, names_still, open_made, open_seen, taken_again}
 use Rattle.doc_maker.proofs.OriginLaws.{longer_more, stays}
 use Rattle.doc_maker.proofs.maker.DocMaker.open.Goals as goal
 

@@ -1,8 +1,9 @@
 use Rattle.std.proofs.Common.{◌≡◌, ◌+◌, ◌∙◌, ◌++◌, ◌∷◌, [], ap, length, rules}
+use Rattle.dita_doc.proofs.Lists.{on_err}
 use Rattle.doc_maker.specs.Building as spec
 use Rattle.doc_maker.specs.Made as made_spec
 use Rattle.map_spec.specs.Written as written_spec
-use Rattle.doc_maker.proofs.MakerLaws.{chars_made, chars_put, chars_seen, names_made, names_still, on_err}
+use Rattle.doc_maker.proofs.MakerLaws.{chars_made, chars_put, chars_seen, names_made, names_still}
 use Rattle.doc_maker.proofs.maker.DocMaker.put_chars.Goals as goal
 
 pub invariant_of-self : goal.invariant_of-self

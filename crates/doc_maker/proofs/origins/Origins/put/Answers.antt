@@ -1,6 +1,6 @@
 use Rattle.std.proofs.Common.{◌∙◌, ap, [], ◌∷◌, ◌++◌, refl, subst, sym}
+use Rattle.dita_doc.proofs.Lists.{on_err}
 use Rattle.doc_maker.specs.Origins as spec
-use Rattle.doc_maker.proofs.MakerLaws.{on_err}
 use Rattle.doc_maker.proofs.OriginLaws.{longer_equal, longer_same, places_pushed, pushed_at}
 use Rattle.doc_maker.proofs.origins.Origins.put.Goals as goal
 

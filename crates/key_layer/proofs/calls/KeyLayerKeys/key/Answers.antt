@@ -10,7 +10,7 @@ use Rattle.readers.proofs.LayerLaws.{grows_tried, note_known, note_settled, stay
 use Rattle.key_layer.specs.Ready.{made_for}
 use Rattle.key_layer.proofs.AnswerLaws.{answer_held, answer_moved}
 use Rattle.key_layer.proofs.PassingLaws.{note_plain, note_remembered}
-use Rattle.key_layer.proofs.TellingLaws.{told_settled}
+use Rattle.key_layer.proofs.TellingLaws.{nodes_settled}
 use Rattle.key_layer.proofs.calls.KeyLayerKeys.key.Goals as goal
 
 pub invariant_of-self-in-Some-clause-carried : goal.invariant_of-self-in-Some-clause-carried
@@ -22,13 +22,13 @@ invariant_of-self-in-Some-clause-carried g c =
     in
     note_known _ _ (key c.args.self.now.nodes.now c.args.scope c.args.key.now c.in-Some.answer) _ _ _ _
     c.args.self.now.carried
-    (c.in_ok-note.ensures.note (made_for c.args.self.now.nodes.now g.S.Since.stand.setting)) c.tell.ensures.either
+    (c.in_ok-note.ensures.note (made_for c.args.self.now.nodes.now g.S.LogStart.stand.setting)) c.tell.ensures.either
     is.known is.given
 
 pub invariant_of-self-in-Some-clause-passed : goal.invariant_of-self-in-Some-clause-passed
 invariant_of-self-in-Some-clause-passed g c = note_remembered _ _
     (key c.args.self.now.nodes.now c.args.scope c.args.key.now c.in-Some.answer) _ _ _ _ c.args.self.now.passed
-    (c.in_ok-note.ensures.note (made_for c.args.self.now.nodes.now g.S.Since.stand.setting)) c.tell.ensures.either
+    (c.in_ok-note.ensures.note (made_for c.args.self.now.nodes.now g.S.LogStart.stand.setting)) c.tell.ensures.either
     (λ rule plain. plain.keys _ _ _ _)
 
 pub invariant_of-self-2-clause-carried : goal.invariant_of-self-2-clause-carried
@@ -38,33 +38,35 @@ invariant_of-self-2-clause-carried g c =
     in
     note_settled _ _ (key c.make_answer.new.self.nodes.now c.args.scope c.args.key.now c.in_ok-answer-2.answer)
     _ _ _ _ _ _ c.make_answer.new.self.carried c.in_ok-answer-2.ensures.ok refl
-    (c.in_ok-note-2.ensures.note (made_for c.make_answer.new.self.nodes.now g.S.Since.stand.setting)) c.settle.ensures
+    (c.in_ok-note-2.ensures.note (made_for c.make_answer.new.self.nodes.now g.S.LogStart.stand.setting))
+    c.settle.ensures
     is.known is.given
 
 pub invariant_of-self-2-clause-passed : goal.invariant_of-self-2-clause-passed
 invariant_of-self-2-clause-passed g c = note_plain _ _
     (key c.make_answer.new.self.nodes.now c.args.scope c.args.key.now c.in_ok-answer-2.answer) _ _ _ _ _ _
     c.make_answer.new.self.passed c.in_ok-answer-2.ensures.ok refl
-    (c.in_ok-note-2.ensures.note (made_for c.make_answer.new.self.nodes.now g.S.Since.stand.setting)) c.settle.ensures
+    (c.in_ok-note-2.ensures.note (made_for c.make_answer.new.self.nodes.now g.S.LogStart.stand.setting))
+    c.settle.ensures
     (λ rule plain. plain.keys _ _ _ _)
 
 pub returns-in-Some-clause-founded : goal.returns-in-Some-clause-founded
 returns-in-Some-clause-founded g c = stays_tried _ _ _ _ _ _
-    (ap names_asked (c.in_ok-note.ensures.note (made_for c.args.self.now.nodes.now g.S.Since.stand.setting)))
+    (ap names_asked (c.in_ok-note.ensures.note (made_for c.args.self.now.nodes.now g.S.LogStart.stand.setting)))
     c.tell.ensures.either
 
 pub returns-in-Some-clause-asks : goal.returns-in-Some-clause-asks
 returns-in-Some-clause-asks g c = asks_tried _ _ _ _ _ _ _
-    (ap documents_asked (c.in_ok-note.ensures.note (made_for c.args.self.now.nodes.now g.S.Since.stand.setting)))
+    (ap documents_asked (c.in_ok-note.ensures.note (made_for c.args.self.now.nodes.now g.S.LogStart.stand.setting)))
     c.tell.ensures.either
 
 pub returns-in-Some-clause-grows : goal.returns-in-Some-clause-grows
 returns-in-Some-clause-grows g c = grows_tried _ _ _ _ _ c.tell.ensures.either
 
 pub returns-clause-told : goal.returns-clause-told
-returns-clause-told g c = told_settled g.S.Since.stand.setting g.S.Since.told _ _ _ _ _ _ _ _
+returns-clause-told g c = nodes_settled g.S.LogStart.stand.setting g.S.LogStart.told _ _ _ _ _ _ _ _
     c.in_ok-answer-2.ensures.nodes
-    (c.in_ok-note-2.ensures.note (made_for c.args.self.now.nodes.now g.S.Since.stand.setting)
+    (c.in_ok-note-2.ensures.note (made_for c.args.self.now.nodes.now g.S.LogStart.stand.setting)
     ∙ ap (key c.args.self.now.nodes.now c.args.scope c.args.key.now) (sym c.in_ok-note-2.ensures.answer))
     c.in_ok-answer-2.ensures.ok c.settle.ensures
 

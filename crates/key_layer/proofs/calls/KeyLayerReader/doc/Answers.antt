@@ -4,23 +4,24 @@ use Rattle.readers.proofs.FoundedLaws.{stays_told}
 use Rattle.readers.proofs.GrowthLaws.{grows_one}
 use Rattle.readers.proofs.SoughtLaws.{sought_settled}
 use Rattle.key_layer.proofs.PassingLaws.{note_passed}
-use Rattle.key_layer.proofs.TellingLaws.{told_settled}
+use Rattle.key_layer.proofs.TellingLaws.{nodes_settled}
 use Rattle.key_layer.specs.Ready.{made_for}
 use Rattle.key_layer.proofs.calls.KeyLayerReader.doc.Goals as goal
 
 pub invariant_of-self-clause-carried : goal.invariant_of-self-clause-carried
 invariant_of-self-clause-carried g c = sought_settled _ _ _ _ _ _ _ _ _ _ c.ask_doc.new.self.carried
-    c.in_ok-found.ensures.ok (c.in_ok-note.ensures (made_for c.ask_doc.new.self.nodes.now g.S.Since.stand.setting))
+    c.in_ok-found.ensures.ok (c.in_ok-note.ensures (made_for c.ask_doc.new.self.nodes.now g.S.LogStart.stand.setting))
     c.settle.ensures c.in_ok-found.ensures.below
 
 pub invariant_of-self-clause-passed : goal.invariant_of-self-clause-passed
 invariant_of-self-clause-passed g c = note_passed _ _ _ _ _ _ _ _ _ _ c.ask_doc.new.self.passed
-    c.in_ok-found.ensures.ok refl (c.in_ok-note.ensures (made_for c.ask_doc.new.self.nodes.now g.S.Since.stand.setting))
+    c.in_ok-found.ensures.ok refl
+    (c.in_ok-note.ensures (made_for c.ask_doc.new.self.nodes.now g.S.LogStart.stand.setting))
     c.settle.ensures c.in_ok-found.ensures.below
 
 pub returns-clause-told : goal.returns-clause-told
-returns-clause-told g c = told_settled g.S.Since.stand.setting g.S.Since.told _ _ _ _ _ _ _ _
-    c.in_ok-found.ensures.nodes (c.in_ok-note.ensures (made_for c.args.self.now.nodes.now g.S.Since.stand.setting))
+returns-clause-told g c = nodes_settled g.S.LogStart.stand.setting g.S.LogStart.told _ _ _ _ _ _ _ _
+    c.in_ok-found.ensures.nodes (c.in_ok-note.ensures (made_for c.args.self.now.nodes.now g.S.LogStart.stand.setting))
     c.in_ok-found.ensures.ok c.settle.ensures
 
 pub returns-clause-founded : goal.returns-clause-founded

@@ -4,25 +4,25 @@ use Rattle.readers.proofs.FoundedLaws.{stays_told}
 use Rattle.readers.proofs.GrowthLaws.{grows_one, told_answer}
 use Rattle.readers.proofs.LayerLaws.{plain_settled}
 use Rattle.key_layer.proofs.PassingLaws.{note_passed}
-use Rattle.key_layer.proofs.TellingLaws.{told_settled}
+use Rattle.key_layer.proofs.TellingLaws.{nodes_settled}
 use Rattle.key_layer.specs.Ready.{made_for}
 use Rattle.key_layer.proofs.calls.KeyLayerTitles.kind.Goals as goal
 
 pub invariant_of-self-clause-carried : goal.invariant_of-self-clause-carried
 invariant_of-self-clause-carried g c = plain_settled _ _ _ _ _ _ _ _ _ c.ask_kind.new.self.carried
     c.in_ok-kind.ensures.ok refl
-    (c.in_ok-note.ensures (made_for c.ask_kind.new.self.nodes.now g.S.Since.stand.setting)) refl c.settle.ensures
+    (c.in_ok-note.ensures (made_for c.ask_kind.new.self.nodes.now g.S.LogStart.stand.setting)) refl c.settle.ensures
     (λ world a. told_answer world _ _ _ c.in_ok-kind.ensures.below a)
 
 pub invariant_of-self-clause-passed : goal.invariant_of-self-clause-passed
 invariant_of-self-clause-passed g c = note_passed _ _ _ _ _ _ _ _ _ _ c.ask_kind.new.self.passed
     c.in_ok-kind.ensures.ok refl
-    (c.in_ok-note.ensures (made_for c.ask_kind.new.self.nodes.now g.S.Since.stand.setting)) c.settle.ensures
+    (c.in_ok-note.ensures (made_for c.ask_kind.new.self.nodes.now g.S.LogStart.stand.setting)) c.settle.ensures
     c.in_ok-kind.ensures.below
 
 pub returns-clause-told : goal.returns-clause-told
-returns-clause-told g c = told_settled g.S.Since.stand.setting g.S.Since.told _ _ _ _ _ _ _ _
-    c.in_ok-kind.ensures.nodes (c.in_ok-note.ensures (made_for c.args.self.now.nodes.now g.S.Since.stand.setting))
+returns-clause-told g c = nodes_settled g.S.LogStart.stand.setting g.S.LogStart.told _ _ _ _ _ _ _ _
+    c.in_ok-kind.ensures.nodes (c.in_ok-note.ensures (made_for c.args.self.now.nodes.now g.S.LogStart.stand.setting))
     c.in_ok-kind.ensures.ok c.settle.ensures
 
 pub returns-clause-founded : goal.returns-clause-founded

@@ -3,7 +3,7 @@ use Rattle.key_scopes.specs.Defined.{firsts_by, is_level_within}
 use Rattle.key_scopes.specs.Table.{firsts_of}
 use Rattle.key_scopes.specs.Numbered.{entries}
 use Rattle.key_scopes.specs.Outermost.{AreTopped}
-use Rattle.key_scopes.proofs.DefineLaws.{Written, firsts_end, firsts_step}
+use Rattle.key_scopes.proofs.DefineLaws.{WrittenKey, firsts_end, firsts_step}
 use Rattle.std.specs.Prelude.{List}
 use Rattle.key_scopes.proofs.definitions.Definitions.of.Goals as goal
 
@@ -29,7 +29,7 @@ pub returns-clause-firsts : goal.returns-clause-firsts
 returns-clause-firsts c =
     firsts_end c.args.count c.args.written.items c.sort_unstable.new.self.items c.loop-entry.entry-index
     (firsts_of c.loop-entry.sorted.items) (omega (arith, c.deref-entry-items.ensures.len, c.sort_unstable.ensures.len))
-    (subst (λ (items : List Written). firsts_by (firsts_of c.loop-entry.sorted.items)
+    (subst (λ (items : List WrittenKey). firsts_by (firsts_of c.loop-entry.sorted.items)
     (filter (is_level_within c.args.count) (entries (drop c.loop-entry.entry-index items)))
     ≡ firsts_by [] (filter (is_level_within c.args.count) (entries items)))
     c.deref-entry-items.ensures.value c.loop-entry.invariant.firsts)

@@ -1,7 +1,7 @@
 use Rattle.std.proofs.Common.{◌≡◌, arith, length, subst}
+use Rattle.dita_doc.proofs.Lists.{get_read}
 use Rattle.key_scopes.specs.Numbered.{AreNumbered}
 use Rattle.key_scopes.proofs.NumberLaws.{new_numbered, number_put, told_there}
-use Rattle.plan_nodes.proofs.PlaceLaws.{node_at}
 use Rattle.key_scopes.proofs.numbering.Numbering.of.Goals as goal
 
 pub loop-at-init : goal.loop-at-init
@@ -14,7 +14,7 @@ loop-at-preserved c = λ world homes before.
     let at = c.loop-at.at in
     let node = c.index-nodes-at.result in
     let within = c.loop-at-test.true in
-    let is = node_at nodes at node within c.index-nodes-at.is in
+    let is = get_read nodes at node within c.index-nodes-at.is in
     let in_table = told_there nodes at c.deref.result.now c.in_ok-inside.inside.items c.is_within-in_table.result within
     (c.in_ok-inside.ensures before) c.deref.ensures.value c.is_within-in_table.ensures in
     number_put world c.args.homes.now nodes at node c.is_within-in_table.result c.loop-at.numbering c.put_node.new.self

@@ -1,5 +1,6 @@
 use Rattle.std.proofs.Common.{◌≡◌, ◌∷◌, ◌++◌, [], arith, length, refl, subst, ap, ◌∙◌, None, Some, sym}
 use Rattle.std.proofs.lemmas.List.{length_push}
+use Rattle.std.proofs.lemmas.Result.{on_ok_weaker}
 use Rattle.dita_doc.specs.declared.plan.PlanKind.TheVariants as kinds
 use Rattle.doc_elements.specs.Walk.{element_of}
 use Rattle.map_spec.specs.Included.{ignored_references, new_head}
@@ -11,7 +12,7 @@ use Rattle.map_expand.specs.Going.{Goes, homes_of}
 use Rattle.map_expand.specs.Homes.{home_at, name_at}
 use Rattle.map_expand.specs.Making.{node_grown, path_of}
 use Rattle.map_expand.specs.declared.work.Work.TheVariants as works
-use Rattle.map_expand.proofs.AskedLaws.{made_less, may_find, made_with, made_without, on_ok_more, same_element, some_made}
+use Rattle.map_expand.proofs.AskedLaws.{made_less, may_find, made_with, made_without, same_element, some_made}
 use Rattle.map_expand.proofs.AskedForLaws.{asked_node}
 use Rattle.map_expand.proofs.GoingLaws.{full_over}
 use Rattle.map_expand.proofs.MakeLaws.{ready_pushed}
@@ -71,7 +72,7 @@ returns-in-Some-asked-clause-less g c =
     ∙ ap (λ w. c.args.self.now.left.items ++ works.Walk w ∷ []) c.below.ensures in
     let less = made_less c.args.self.now.nodes c.put.new.self.nodes _ c.args.self.now.left.items c.push.new.self.items under
     c.in-Ok.ensures.room c.in-Ok.ensures.nodes left (omega (arith, c.ranges.end)) in
-    on_ok_more c.include.result (λ more. omega (arith, more, less)) c.include.ensures.less
+    on_ok_weaker c.include.result (λ more. omega (arith, more, less)) c.include.ensures.less
 
 pub returns-in-Some-asked-clause-made : goal.returns-in-Some-asked-clause-made
 returns-in-Some-asked-clause-made g c = λ world agrees node here.

@@ -1,7 +1,8 @@
 use Rattle.std.proofs.Common.{◌≡◌, ◌≤◌, arith, length, refl, sym, subst, ap, ◌∙◌, ◌++◌, ◌∷◌, []}
+use Rattle.std.proofs.lemmas.Result.{on_ok_weaker}
 use Rattle.doc_elements.specs.Walk.{element_of}
 use Rattle.map_spec.specs.Elements.{class_faults}
-use Rattle.map_spec.specs.Included.{node_limit}
+use Rattle.map_spec.specs.Included.{map_node_limit}
 use Rattle.map_spec.specs.Written.{Element}
 use Rattle.readers.proofs.DocumentLaws.{asks_same}
 use Rattle.readers.proofs.FoundedLaws.{stays_same}
@@ -12,7 +13,6 @@ use Rattle.map_expand.specs.Going.{homes_of, Goes, so_far}
 use Rattle.map_expand.specs.Homes.{home_at}
 use Rattle.map_expand.specs.Making.{Makes, WalkFits, behind, content, path_of}
 use Rattle.map_expand.specs.declared.work.Work.TheVariants as works
-use Rattle.map_expand.proofs.AskedLaws.{on_ok_more}
 use Rattle.map_expand.proofs.LeftLaws.{behind_less, content_less}
 use Rattle.map_expand.proofs.MakeLaws.{ready_pushed}
 use Rattle.map_expand.proofs.StepLaws.{node_there, stepped_content, stepped_node, stepped_nothing}
@@ -140,7 +140,7 @@ returns-in-Nothing-clause-few g c = c.requires.few
 
 pub returns-in_ok-open-in-Content-clause-few : goal.returns-in_ok-open-in-Content-clause-few
 returns-in_ok-open-in-Content-clause-few g c =
-    subst (λ n. length n ≤ node_limit) (sym c.in_ok-open-in-Content.ensures.nodes) c.requires.few
+    subst (λ n. length n ≤ map_node_limit) (sym c.in_ok-open-in-Content.ensures.nodes) c.requires.few
 
 pub returns-in-Node-clause-few : goal.returns-in-Node-clause-few
 returns-in-Node-clause-few g c = c.make.ensures.few
@@ -165,7 +165,7 @@ returns-in-Node-clause-less g c =
     let less = behind_less c.args.self.now.nodes c.args.self.now.left.items c.push.new.self.items c.args.walk c.in-Some.seen.end
     (c.in_ok-push.ensures.items ∙ ap (λ w. c.args.self.now.left.items ++ works.Walk w ∷ []) c.behind.ensures)
     c.in-Some.ensures.begins c.in-Some.ensures.ends in
-    on_ok_more c.make.result (λ more. omega (arith, more, less)) c.make.ensures.less
+    on_ok_weaker c.make.result (λ more. omega (arith, more, less)) c.make.ensures.less
 
 pub returns-in-Nothing-clause-less : goal.returns-in-Nothing-clause-less
 returns-in-Nothing-clause-less g c =

@@ -3,7 +3,7 @@ use Rattle.reader_spec.specs.World.{World}
 use Rattle.readers.specs.Documents.{AsksOnly}
 use Rattle.readers.specs.Founded.{Grows, StaysFounded}
 use Rattle.readers.specs.Told.{Agrees}
-use Rattle.map_spec.specs.Included.{node_limit}
+use Rattle.map_spec.specs.Included.{map_node_limit}
 use Rattle.map_expand.specs.Going.{Ready, rest, so_far}
 use Rattle.map_expand.specs.Telling.{map_targets}
 use Rattle.map_expand.specs.Left.{left}
@@ -12,7 +12,7 @@ use Rattle.map_expand.proofs.expansion.Expansion.walk.Given as goal
 abbrev pub invariant-loop-work : goal.invariant-loop-work
 invariant-loop-work g l = record {
   ready : Ready (g.R.Reader.told l.reader) l.maps l.self;
-  few : length l.self.nodes ≤ node_limit;
+  few : length l.self.nodes ≤ map_node_limit;
   stand : g.R.Reader.stand l.reader ≡ g.R.Reader.stand l.fn.reader;
   grows : Grows (g.R.Reader.told l.fn.reader) (g.R.Reader.told l.reader);
   founded : StaysFounded [] (g.R.Reader.told l.fn.reader) (g.R.Reader.told l.reader);

@@ -1,11 +1,12 @@
 use Rattle.std.proofs.Common.{◌≡◌, ◌∙◌, ap, arith, length, subst, sym}
+use Rattle.dita_doc.proofs.Lists.{get_read}
 use Rattle.readers.proofs.DocumentLaws.{asks_after, asks_none}
 use Rattle.readers.proofs.GrowthLaws.{agrees_before, grows_same, grows_trans}
 use Rattle.readers.specs.Setting.{Stand}
 use Rattle.plan_nodes.proofs.GivenLaws.{told_later}
 use Rattle.page_names.specs.Uses.{AreReady, AreUses}
 use Rattle.page_names.proofs.GivenUseLaws.{given_home, known_founded}
-use Rattle.page_names.proofs.UseLaws.{node_there, told_there}
+use Rattle.page_names.proofs.UseLaws.{told_there}
 use Rattle.page_names.proofs.uses.Uses.of.Goals as goal
 
 pub loop-at-init : goal.loop-at-init
@@ -24,7 +25,7 @@ loop-at-preserved g c = record {
       (let nodes = c.args.nodes.now in
       let at = c.loop-at.at in
       let here = agrees_before world _ _ c.in_ok-add_node.ensures.grows agrees in
-      let there = node_there nodes at c.index-nodes-at.result c.loop-at-test.true c.index-nodes-at.is in
+      let there = get_read nodes at c.index-nodes-at.result c.loop-at-test.true c.index-nodes-at.is in
       c.in_ok-add_node.ensures.known world nodes agrees
       (subst (λ (stand : Stand). AreReady stand.setting.nodes world nodes) (sym c.loop-at.invariant.stand) ready)
       (c.in_ok-homes.ensures.known world (agrees_before world _ _ c.loop-at.invariant.later here)) there
@@ -33,7 +34,7 @@ loop-at-preserved g c = record {
       (c.loop-at.invariant.uses world here ready));
   stand = c.in_ok-add_node.ensures.stand ∙ c.loop-at.invariant.stand;
   founded = λ same.
-      (let there = node_there c.args.nodes.now c.loop-at.at c.index-nodes-at.result c.loop-at-test.true
+      (let there = get_read c.args.nodes.now c.loop-at.at c.index-nodes-at.result c.loop-at-test.true
       c.index-nodes-at.is in
       known_founded _ c.args.nodes.now _ _ _ (ap (λ (stand : Stand). stand.setting.nodes) c.loop-at.invariant.stand
       ∙ same)
@@ -54,7 +55,7 @@ returns-clause-known g c = λ world agrees ready.
 
 pub returns-in_err-add_node-clause-founded : goal.returns-in_err-add_node-clause-founded
 returns-in_err-add_node-clause-founded g c = λ same.
-    let there = node_there c.args.nodes.now c.loop-at.at c.index-nodes-at.result c.loop-at-test.true
+    let there = get_read c.args.nodes.now c.loop-at.at c.index-nodes-at.result c.loop-at-test.true
     c.index-nodes-at.is in
     known_founded _ c.args.nodes.now _ _ _ (ap (λ (stand : Stand). stand.setting.nodes) c.loop-at.invariant.stand
     ∙ same)

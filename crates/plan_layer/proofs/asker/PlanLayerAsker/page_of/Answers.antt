@@ -26,7 +26,7 @@ invariant_of-self-clause-carried g c =
     let layer = c.args.self.now in
     carry.note_known _ _
     (page_of layer.pages.now c.args.name.now (arc_value c.args.context.now).page c.in_ok-place.place) _ _ _ _
-    layer.carried (c.in_ok-note.ensures (made_for layer.documents.now layer.pages.now g.S.Since.stand.setting))
+    layer.carried (c.in_ok-note.ensures (made_for layer.documents.now layer.pages.now g.S.LogStart.stand.setting))
     c.begin.ensures.either (λ world agrees.
     ap (λ (context : Context). page_for layer.pages.now c.args.name.now context.page) (sym c.deref.ensures)
     ∙ sym (c.in_ok-place.ensures layer.pages.now layer.paged))
@@ -37,7 +37,7 @@ invariant_of-self-clause-passed g c =
     let layer = c.args.self.now in
     pass.note_known _ _ _
     (page_of layer.pages.now c.args.name.now (arc_value c.args.context.now).page c.in_ok-place.place) _ _ _ _
-    layer.passed (c.in_ok-note.ensures (made_for layer.documents.now layer.pages.now g.S.Since.stand.setting))
+    layer.passed (c.in_ok-note.ensures (made_for layer.documents.now layer.pages.now g.S.LogStart.stand.setting))
     c.begin.ensures.either (pass.page_follows layer.documents.now layer.pages.now c.args.name.now
     (arc_value c.args.context.now).page c.in_ok-place.place)
 
@@ -71,22 +71,22 @@ returns-in_err-begin-clause-stand g c = refl
 pub returns-in_err-begin-clause-founded : goal.returns-in_err-begin-clause-founded
 returns-in_err-begin-clause-founded g c =
     let layer = c.args.self.now in
-    let setting = made_for layer.documents.now layer.pages.now g.S.Since.stand.setting in
-    stays_tried setting g.S.Since.told c.in_ok-note.note (c.args.name.now ∷ []) _ _
+    let setting = made_for layer.documents.now layer.pages.now g.S.LogStart.stand.setting in
+    stays_tried setting g.S.LogStart.told c.in_ok-note.note (c.args.name.now ∷ []) _ _
     (ap names_asked (c.in_ok-note.ensures setting)) c.begin.ensures.either
 
 pub returns-in_err-begin-clause-asks : goal.returns-in_err-begin-clause-asks
 returns-in_err-begin-clause-asks g c =
     let layer = c.args.self.now in
-    let setting = made_for layer.documents.now layer.pages.now g.S.Since.stand.setting in
-    asks_tried setting g.S.Since.told nothing c.in_ok-note.note [] _ _
+    let setting = made_for layer.documents.now layer.pages.now g.S.LogStart.stand.setting in
+    asks_tried setting g.S.LogStart.told nothing c.in_ok-note.note [] _ _
     (ap documents_asked (c.in_ok-note.ensures setting)) c.begin.ensures.either
 
 pub returns-in_err-begin-clause-grows : goal.returns-in_err-begin-clause-grows
 returns-in_err-begin-clause-grows g c =
     let layer = c.args.self.now in
-    let setting = made_for layer.documents.now layer.pages.now g.S.Since.stand.setting in
-    grows_tried setting g.S.Since.told c.in_ok-note.note _ _ c.begin.ensures.either
+    let setting = made_for layer.documents.now layer.pages.now g.S.LogStart.stand.setting in
+    grows_tried setting g.S.LogStart.told c.in_ok-note.note _ _ c.begin.ensures.either
 
 pub returns-clause-stand : goal.returns-clause-stand
 returns-clause-stand g c = refl
@@ -94,26 +94,26 @@ returns-clause-stand g c = refl
 pub returns-clause-founded : goal.returns-clause-founded
 returns-clause-founded g c =
     let layer = c.args.self.now in
-    let setting = made_for layer.documents.now layer.pages.now g.S.Since.stand.setting in
-    stays_tried setting g.S.Since.told c.in_ok-note.note (c.args.name.now ∷ []) _ _
+    let setting = made_for layer.documents.now layer.pages.now g.S.LogStart.stand.setting in
+    stays_tried setting g.S.LogStart.told c.in_ok-note.note (c.args.name.now ∷ []) _ _
     (ap names_asked (c.in_ok-note.ensures setting)) c.begin.ensures.either
 
 pub returns-clause-asks : goal.returns-clause-asks
 returns-clause-asks g c =
     let layer = c.args.self.now in
-    let setting = made_for layer.documents.now layer.pages.now g.S.Since.stand.setting in
-    asks_tried setting g.S.Since.told nothing c.in_ok-note.note [] _ _
+    let setting = made_for layer.documents.now layer.pages.now g.S.LogStart.stand.setting in
+    asks_tried setting g.S.LogStart.told nothing c.in_ok-note.note [] _ _
     (ap documents_asked (c.in_ok-note.ensures setting)) c.begin.ensures.either
 
 pub returns-clause-grows : goal.returns-clause-grows
 returns-clause-grows g c =
     let layer = c.args.self.now in
-    let setting = made_for layer.documents.now layer.pages.now g.S.Since.stand.setting in
-    grows_tried setting g.S.Since.told c.in_ok-note.note _ _ c.begin.ensures.either
+    let setting = made_for layer.documents.now layer.pages.now g.S.LogStart.stand.setting in
+    grows_tried setting g.S.LogStart.told c.in_ok-note.note _ _ c.begin.ensures.either
 
 pub returns-clause-told : goal.returns-clause-told
 returns-clause-told g c =
     let layer = c.args.self.now in
-    let setting = made_for layer.documents.now layer.pages.now g.S.Since.stand.setting in
-    ap (told_onto setting g.S.Since.told) c.in_ok-begin.ensures.ok
-    ∙ ap (λ t. t ∷ told_onto setting g.S.Since.told layer.asked.now) (c.in_ok-note.ensures setting)
+    let setting = made_for layer.documents.now layer.pages.now g.S.LogStart.stand.setting in
+    ap (told_onto setting g.S.LogStart.told) c.in_ok-begin.ensures.ok
+    ∙ ap (λ t. t ∷ told_onto setting g.S.LogStart.told layer.asked.now) (c.in_ok-note.ensures setting)

@@ -1,7 +1,8 @@
-use Rattle.std.proofs.Common.{ap}
+use Rattle.std.proofs.Common.{ap, refl}
 use Rattle.pushed_docs.proofs.MadeLaws.{pushed_made, pushed_shared}
 use Rattle.readers.specs.Setting.{Stand}
 use Rattle.readers.proofs.GrowthLaws.{agrees_before}
+use Rattle.readers.proofs.OnlyLaws.{only_same}
 use Rattle.plan_layer.proofs.asker.PlanLayerAsker.pushed.Goals as goal
 
 pub returns-in-Some-clause-known : goal.returns-in-Some-clause-known
@@ -24,3 +25,6 @@ invariant_of-self-2-clause-made g c = c.put.ensures.made _ _ c.made_pushed.new.a
     (pushed_made _ _ _ _ c.in_ok-made.made c.in_ok-copy.copy
     (ap (λ (s : Stand). s.setting.documents) c.in_ok-made.ensures.stand) c.in_ok-copy.ensures
     c.in_ok-made.ensures.known c.in_ok-made.ensures.given)
+
+pub returns-in-Some-clause-only : goal.returns-in-Some-clause-only
+returns-in-Some-clause-only g c = λ world agrees. only_same _ _ _ refl

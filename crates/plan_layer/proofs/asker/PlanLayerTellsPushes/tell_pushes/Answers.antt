@@ -25,7 +25,7 @@ invariant_of-self-clause-carried g c =
     let layer = c.args.self.now in
     let world = (g.K.Reader.stand layer.lower.now).world in
     let table = layer.tabled world (agrees_before world _ _ layer.grown (g.met.K.Reader.agrees layer.lower.now)) in
-    let setting = made_for layer.documents.now layer.pages.now g.S.Since.stand.setting in
+    let setting = made_for layer.documents.now layer.pages.now g.S.LogStart.stand.setting in
     let told = pushes_told setting world c.args.name.now c.in_ok-note.note c.in_ok-answer.answer
     (c.in_ok-answer.ensures world layer.documents.now table)
     (c.in_ok-note.ensures world layer.documents.now table setting) in
@@ -41,7 +41,7 @@ invariant_of-self-clause-passed g c =
     let layer = c.args.self.now in
     let world = (g.K.Reader.stand layer.lower.now).world in
     let table = layer.tabled world (agrees_before world _ _ layer.grown (g.met.K.Reader.agrees layer.lower.now)) in
-    let setting = made_for layer.documents.now layer.pages.now g.S.Since.stand.setting in
+    let setting = made_for layer.documents.now layer.pages.now g.S.LogStart.stand.setting in
     let told = pushes_told setting world c.args.name.now c.in_ok-note.note c.in_ok-answer.answer
     (c.in_ok-answer.ensures world layer.documents.now table)
     (c.in_ok-note.ensures world layer.documents.now table setting) in
@@ -55,12 +55,12 @@ returns-clause-told g c =
     let layer = c.args.self.now in
     let world = (g.K.Reader.stand layer.lower.now).world in
     let table = layer.tabled world (agrees_before world _ _ layer.grown (g.met.K.Reader.agrees layer.lower.now)) in
-    let setting = made_for layer.documents.now layer.pages.now g.S.Since.stand.setting in
+    let setting = made_for layer.documents.now layer.pages.now g.S.LogStart.stand.setting in
     let told = pushes_told setting world c.args.name.now c.in_ok-note.note c.in_ok-answer.answer
     (c.in_ok-answer.ensures world layer.documents.now table)
     (c.in_ok-note.ensures world layer.documents.now table setting) in
-    ap (told_onto setting g.S.Since.told) c.in_ok-begin.ensures.ok
-    ∙ ap (λ t. t ∷ told_onto setting g.S.Since.told layer.asked.now) told
+    ap (told_onto setting g.S.LogStart.told) c.in_ok-begin.ensures.ok
+    ∙ ap (λ t. t ∷ told_onto setting g.S.LogStart.told layer.asked.now) told
 
 pub returns-in_err-answer-clause-stand : goal.returns-in_err-answer-clause-stand
 returns-in_err-answer-clause-stand g c = refl
@@ -94,11 +94,11 @@ returns-in_err-begin-clause-founded g c =
     let layer = c.args.self.now in
     let world = (g.K.Reader.stand layer.lower.now).world in
     let table = layer.tabled world (agrees_before world _ _ layer.grown (g.met.K.Reader.agrees layer.lower.now)) in
-    let setting = made_for layer.documents.now layer.pages.now g.S.Since.stand.setting in
+    let setting = made_for layer.documents.now layer.pages.now g.S.LogStart.stand.setting in
     let told = pushes_told setting world c.args.name.now c.in_ok-note.note c.in_ok-answer.answer
     (c.in_ok-answer.ensures world layer.documents.now table)
     (c.in_ok-note.ensures world layer.documents.now table setting) in
-    stays_tried setting g.S.Since.told c.in_ok-note.note (c.args.name.now ∷ []) _ _ (ap names_asked told)
+    stays_tried setting g.S.LogStart.told c.in_ok-note.note (c.args.name.now ∷ []) _ _ (ap names_asked told)
     c.begin.ensures.either
 
 pub returns-in_err-begin-clause-asks : goal.returns-in_err-begin-clause-asks
@@ -106,16 +106,17 @@ returns-in_err-begin-clause-asks g c =
     let layer = c.args.self.now in
     let world = (g.K.Reader.stand layer.lower.now).world in
     let table = layer.tabled world (agrees_before world _ _ layer.grown (g.met.K.Reader.agrees layer.lower.now)) in
-    let setting = made_for layer.documents.now layer.pages.now g.S.Since.stand.setting in
+    let setting = made_for layer.documents.now layer.pages.now g.S.LogStart.stand.setting in
     let told = pushes_told setting world c.args.name.now c.in_ok-note.note c.in_ok-answer.answer
     (c.in_ok-answer.ensures world layer.documents.now table)
     (c.in_ok-note.ensures world layer.documents.now table setting) in
-    asks_tried setting g.S.Since.told nothing c.in_ok-note.note [] _ _ (ap documents_asked told) c.begin.ensures.either
+    asks_tried setting g.S.LogStart.told nothing c.in_ok-note.note [] _ _
+    (ap documents_asked told) c.begin.ensures.either
 
 pub returns-in_err-begin-clause-grows : goal.returns-in_err-begin-clause-grows
 returns-in_err-begin-clause-grows g c =
     let layer = c.args.self.now in
-    grows_tried (made_for layer.documents.now layer.pages.now g.S.Since.stand.setting) g.S.Since.told c.in_ok-note.note _ _
+    grows_tried (made_for layer.documents.now layer.pages.now g.S.LogStart.stand.setting) g.S.LogStart.told c.in_ok-note.note _ _
     c.begin.ensures.either
 
 pub returns-clause-stand : goal.returns-clause-stand
@@ -126,11 +127,11 @@ returns-clause-founded g c =
     let layer = c.args.self.now in
     let world = (g.K.Reader.stand layer.lower.now).world in
     let table = layer.tabled world (agrees_before world _ _ layer.grown (g.met.K.Reader.agrees layer.lower.now)) in
-    let setting = made_for layer.documents.now layer.pages.now g.S.Since.stand.setting in
+    let setting = made_for layer.documents.now layer.pages.now g.S.LogStart.stand.setting in
     let told = pushes_told setting world c.args.name.now c.in_ok-note.note c.in_ok-answer.answer
     (c.in_ok-answer.ensures world layer.documents.now table)
     (c.in_ok-note.ensures world layer.documents.now table setting) in
-    stays_tried setting g.S.Since.told c.in_ok-note.note (c.args.name.now ∷ []) _ _ (ap names_asked told)
+    stays_tried setting g.S.LogStart.told c.in_ok-note.note (c.args.name.now ∷ []) _ _ (ap names_asked told)
     c.begin.ensures.either
 
 pub returns-clause-asks : goal.returns-clause-asks
@@ -138,14 +139,15 @@ returns-clause-asks g c =
     let layer = c.args.self.now in
     let world = (g.K.Reader.stand layer.lower.now).world in
     let table = layer.tabled world (agrees_before world _ _ layer.grown (g.met.K.Reader.agrees layer.lower.now)) in
-    let setting = made_for layer.documents.now layer.pages.now g.S.Since.stand.setting in
+    let setting = made_for layer.documents.now layer.pages.now g.S.LogStart.stand.setting in
     let told = pushes_told setting world c.args.name.now c.in_ok-note.note c.in_ok-answer.answer
     (c.in_ok-answer.ensures world layer.documents.now table)
     (c.in_ok-note.ensures world layer.documents.now table setting) in
-    asks_tried setting g.S.Since.told nothing c.in_ok-note.note [] _ _ (ap documents_asked told) c.begin.ensures.either
+    asks_tried setting g.S.LogStart.told nothing c.in_ok-note.note [] _ _
+    (ap documents_asked told) c.begin.ensures.either
 
 pub returns-clause-grows : goal.returns-clause-grows
 returns-clause-grows g c =
     let layer = c.args.self.now in
-    grows_tried (made_for layer.documents.now layer.pages.now g.S.Since.stand.setting) g.S.Since.told c.in_ok-note.note _ _
+    grows_tried (made_for layer.documents.now layer.pages.now g.S.LogStart.stand.setting) g.S.LogStart.told c.in_ok-note.note _ _
     c.begin.ensures.either

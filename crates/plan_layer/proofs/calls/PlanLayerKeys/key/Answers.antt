@@ -16,7 +16,7 @@ pub invariant_of-self-clause-carried : goal.invariant_of-self-clause-carried
 invariant_of-self-clause-carried g c =
     let last = c.ask_key.new.self in
     carry.note_settled _ _ _ _ _ _ _ _ _ _ last.carried c.in_ok-answer.ensures.ok refl
-    (c.in_ok-note.ensures (made_for last.documents.now last.pages.now g.S.Since.stand.setting)) c.settle.ensures
+    (c.in_ok-note.ensures (made_for last.documents.now last.pages.now g.S.LogStart.stand.setting)) c.settle.ensures
     (c.in_ok-answer.ensures.below ∙ ap (λ (s : Stand). key s.setting.nodes c.args.scope c.args.key.now c.in_ok-answer.answer
     ∷ g.K.Reader.told c.args.self.now.lower.now) c.args.self.now.stand)
 
@@ -24,60 +24,60 @@ pub invariant_of-self-clause-passed : goal.invariant_of-self-clause-passed
 invariant_of-self-clause-passed g c =
     let last = c.ask_key.new.self in
     pass.note_settled _ _ _ _ _ _ _ _ _ _ _ last.passed c.in_ok-answer.ensures.ok refl
-    (c.in_ok-note.ensures (made_for last.documents.now last.pages.now g.S.Since.stand.setting)) c.settle.ensures
+    (c.in_ok-note.ensures (made_for last.documents.now last.pages.now g.S.LogStart.stand.setting)) c.settle.ensures
     (c.in_ok-answer.ensures.below ∙ ap (λ (s : Stand). key s.setting.nodes c.args.scope c.args.key.now c.in_ok-answer.answer
     ∷ g.K.Reader.told c.args.self.now.lower.now) c.args.self.now.stand)
 
 pub returns-in_err-answer-clause-stand : goal.returns-in_err-answer-clause-stand
-returns-in_err-answer-clause-stand g c = call_stand g.S.Since.stand.setting _ _ _ _ c.ask_key.ensures.documents c.ask_key.ensures.pages
+returns-in_err-answer-clause-stand g c = call_stand g.S.LogStart.stand.setting _ _ _ _ c.ask_key.ensures.documents c.ask_key.ensures.pages
     _ _ _ _ _ _ _ _
     c.ask_key.ensures.stand c.ask_key.ensures.same c.ask_key.ensures.same_memo c.ask_key.ensures.same_docs
 
 pub returns-in_err-answer-clause-founded : goal.returns-in_err-answer-clause-founded
-returns-in_err-answer-clause-founded g c = tried_founded g.S.Since.stand.setting _ _ _ _ _ c.ask_key.ensures.documents c.ask_key.ensures.pages
+returns-in_err-answer-clause-founded g c = tried_founded g.S.LogStart.stand.setting _ _ _ _ _ c.ask_key.ensures.documents c.ask_key.ensures.pages
     _ _ _ _ refl c.in_err-answer.ensures.err
 
 pub returns-in_err-answer-clause-asks : goal.returns-in_err-answer-clause-asks
-returns-in_err-answer-clause-asks g c = tried_asks g.S.Since.stand.setting _ _ _ _ _ c.ask_key.ensures.documents c.ask_key.ensures.pages
+returns-in_err-answer-clause-asks g c = tried_asks g.S.LogStart.stand.setting _ _ _ _ _ c.ask_key.ensures.documents c.ask_key.ensures.pages
     _ _ _ [] refl c.in_err-answer.ensures.err
 
 pub returns-in_err-answer-clause-grows : goal.returns-in_err-answer-clause-grows
-returns-in_err-answer-clause-grows g c = tried_grows g.S.Since.stand.setting _ _ _ _ _ c.ask_key.ensures.documents c.ask_key.ensures.pages
+returns-in_err-answer-clause-grows g c = tried_grows g.S.LogStart.stand.setting _ _ _ _ _ c.ask_key.ensures.documents c.ask_key.ensures.pages
     _ _ _ c.in_err-answer.ensures.err
 
 pub returns-in_err-note-clause-stand : goal.returns-in_err-note-clause-stand
-returns-in_err-note-clause-stand g c = call_stand g.S.Since.stand.setting _ _ _ _ c.ask_key.ensures.documents c.ask_key.ensures.pages
+returns-in_err-note-clause-stand g c = call_stand g.S.LogStart.stand.setting _ _ _ _ c.ask_key.ensures.documents c.ask_key.ensures.pages
     _ _ _ _ _ _ _ _
     c.ask_key.ensures.stand c.ask_key.ensures.same c.ask_key.ensures.same_memo c.ask_key.ensures.same_docs
 
 pub returns-in_err-note-clause-founded : goal.returns-in_err-note-clause-founded
-returns-in_err-note-clause-founded g c = put_founded g.S.Since.stand.setting _ _ _ _ _ c.ask_key.ensures.documents c.ask_key.ensures.pages
+returns-in_err-note-clause-founded g c = put_founded g.S.LogStart.stand.setting _ _ _ _ _ c.ask_key.ensures.documents c.ask_key.ensures.pages
     _ _ _ _ refl c.in_ok-answer.ensures.ok
 
 pub returns-in_err-note-clause-asks : goal.returns-in_err-note-clause-asks
-returns-in_err-note-clause-asks g c = put_asks g.S.Since.stand.setting _ _ _ _ _ c.ask_key.ensures.documents c.ask_key.ensures.pages
+returns-in_err-note-clause-asks g c = put_asks g.S.LogStart.stand.setting _ _ _ _ _ c.ask_key.ensures.documents c.ask_key.ensures.pages
     _ _ _ [] refl c.in_ok-answer.ensures.ok
 
 pub returns-in_err-note-clause-grows : goal.returns-in_err-note-clause-grows
-returns-in_err-note-clause-grows g c = put_grows g.S.Since.stand.setting _ _ _ _ _ c.ask_key.ensures.documents c.ask_key.ensures.pages
+returns-in_err-note-clause-grows g c = put_grows g.S.LogStart.stand.setting _ _ _ _ _ c.ask_key.ensures.documents c.ask_key.ensures.pages
     _ _ _ c.in_ok-answer.ensures.ok
 
 pub returns-clause-stand : goal.returns-clause-stand
-returns-clause-stand g c = call_stand g.S.Since.stand.setting _ _ _ _ c.ask_key.ensures.documents c.ask_key.ensures.pages _ _ _ _ _ _ _ _
+returns-clause-stand g c = call_stand g.S.LogStart.stand.setting _ _ _ _ c.ask_key.ensures.documents c.ask_key.ensures.pages _ _ _ _ _ _ _ _
     c.ask_key.ensures.stand c.ask_key.ensures.same c.ask_key.ensures.same_memo c.ask_key.ensures.same_docs
 
 pub returns-clause-told : goal.returns-clause-told
-returns-clause-told g c = settled_told g.S.Since.stand.setting _ _ _ _ _ c.ask_key.ensures.documents c.ask_key.ensures.pages _ _ _ _ _ _
+returns-clause-told g c = settled_told g.S.LogStart.stand.setting _ _ _ _ _ c.ask_key.ensures.documents c.ask_key.ensures.pages _ _ _ _ _ _
     (c.in_ok-note.ensures _) c.in_ok-answer.ensures.ok c.settle.ensures
 
 pub returns-clause-founded : goal.returns-clause-founded
-returns-clause-founded g c = settled_founded g.S.Since.stand.setting _ _ _ _ _ c.ask_key.ensures.documents c.ask_key.ensures.pages _ _ _ _ _ _
+returns-clause-founded g c = settled_founded g.S.LogStart.stand.setting _ _ _ _ _ c.ask_key.ensures.documents c.ask_key.ensures.pages _ _ _ _ _ _
     (c.in_ok-note.ensures _) c.in_ok-answer.ensures.ok c.settle.ensures _ refl
 
 pub returns-clause-asks : goal.returns-clause-asks
-returns-clause-asks g c = settled_asks g.S.Since.stand.setting _ _ _ _ _ c.ask_key.ensures.documents c.ask_key.ensures.pages _ _ _ _ _ _
+returns-clause-asks g c = settled_asks g.S.LogStart.stand.setting _ _ _ _ _ c.ask_key.ensures.documents c.ask_key.ensures.pages _ _ _ _ _ _
     (c.in_ok-note.ensures _) c.in_ok-answer.ensures.ok c.settle.ensures [] refl
 
 pub returns-clause-grows : goal.returns-clause-grows
-returns-clause-grows g c = settled_grows g.S.Since.stand.setting _ _ _ _ _ c.ask_key.ensures.documents c.ask_key.ensures.pages _ _ _ _ _ _
+returns-clause-grows g c = settled_grows g.S.LogStart.stand.setting _ _ _ _ _ c.ask_key.ensures.documents c.ask_key.ensures.pages _ _ _ _ _ _
     (c.in_ok-note.ensures _) c.in_ok-answer.ensures.ok c.settle.ensures

@@ -3,7 +3,7 @@ use Rattle.plan_layer.proofs.CarryLaws as carry
 use Rattle.pushed_docs.proofs.KeptLaws.{kept_still}
 use Rattle.pushed_docs.proofs.MadeLaws.{memo_put}
 use Rattle.plan_layer.proofs.PassLaws as pass
-use Rattle.readers.specs.Told.{tried}
+use Rattle.readers.specs.Told.{pending}
 use Rattle.plan_layer.proofs.layer.PlanLayer.ask_kind.Goals as goal
 
 pub invariant_of-self-2-clause-made : goal.invariant_of-self-2-clause-made
@@ -16,7 +16,7 @@ invariant_of-self-2-clause-kept g c = kept_still _ _ c.args.self.now.documents.n
 
 pub invariant_of-self-2-clause-carried : goal.invariant_of-self-2-clause-carried
 invariant_of-self-2-clause-carried g c = carry.note_tried _ _ _ (c.args.name.now ∷ []) _ _ _ _ c.args.self.now.carried
-    (ap (λ n. tried (n ∷ [])) c.in_ok-clone.ensures.cases) c.in_ok-begin.ensures.ok c.kind.ensures.grows
+    (ap (λ n. pending (n ∷ [])) c.in_ok-clone.ensures.cases) c.in_ok-begin.ensures.ok c.kind.ensures.grows
     c.kind.ensures.founded
 
 pub invariant_of-self-2-clause-passed : goal.invariant_of-self-2-clause-passed

@@ -1,11 +1,12 @@
 use Rattle.std.proofs.Common.{[], ◌∙◌, ◌<◌, ap, arith, length, refl, subst}
+use Rattle.dita_doc.proofs.Lists.{some_at}
 use Rattle.readers.specs.Setting.{Stand}
 use Rattle.readers.proofs.GrowthLaws.{agrees_before, grows_same, grows_trans}
 use Rattle.reltable_links.specs.CellTable.{AreCellsOf}
 use Rattle.readers.specs.Documents.{nothing}
 use Rattle.readers.proofs.DocumentLaws.{asks_after, asks_same}
 use Rattle.readers.proofs.FoundedLaws.{stays_after, stays_same}
-use Rattle.reltable_links.proofs.StepLaws.{cells_more, node_within, take_places}
+use Rattle.reltable_links.proofs.StepLaws.{cells_more, take_places}
 use Rattle.reltable_links.proofs.cells.Cells.of.Goals as goal
 
 pub loop-at-init : goal.loop-at-init
@@ -28,7 +29,7 @@ loop-at-preserved g c = record {
       (ap (λ (s : Stand). s.setting.pages) c.loop-at.invariant.stand ∙ ready.pages) before.1 in
       let long = ap length c.as_slice-at-end.ensures in
       let within : at < length plan.nodes = omega (arith, c.loop-at-test.true, long) in
-      let node = node_within plan.nodes at within in (
+      let node = some_at plan.nodes at within in (
         cells_more world plan ready.tree at node.0 c.loop-at.cells c.put_node.new.self c.put_cell.new.self node.1 within
             before.0 put.0 (c.in_ok-put_cell.ensures world ready.homes),
         put.1,

@@ -1,7 +1,7 @@
 use Rattle.std.proofs.Common.{refl}
-use Rattle.version_store.proofs.KeptLaws.{on_err_too}
+use Rattle.dita_doc.proofs.Lists.{on_err}
 use Rattle.version_store.proofs.store.Store.answer_with_reply.Goals as goal
 
 -- without memory for the copy nothing has changed
 pub returns-in_err-copy-clause-err : goal.returns-in_err-copy-clause-err
-returns-in_err-copy-clause-err c = on_err_too c.from_residual-in_err-copy.result refl
+returns-in_err-copy-clause-err c = on_err c.from_residual-in_err-copy.result refl

@@ -1,0 +1,57 @@
+use Rattle.std.proofs.Common.{sym, ap, subst}
+use Rattle.std.proofs.lemmas.Result.{IfOk-weaker}
+use Rattle.readers.proofs.FoundedLaws.{stays_after}
+use Rattle.readers.proofs.GrowthLaws.{agrees_before, grows_trans}
+use Rattle.readers.specs.Setting.{Stand}
+use Rattle.clean_build.specs.BuildInput.{IsReady}
+use Rattle.clean_build.specs.Made.{IsMadeAt, IsPageMade, IsRootLine}
+use Rattle.clean_build.specs.Names.{about_page}
+use Rattle.clean_build.proofs.NameLaws.{stays_doc, stays_with}
+use Rattle.clean_build.proofs.PageLaws.{made_rooted, made_rootless}
+use Rattle.clean_build.proofs.ReadyLaws.{ok_under}
+use Rattle.clean_build.proofs.AskLaws.{asks_first, asks_page}
+use Rattle.clean_build.proofs.works.PageWorkPlanTask.run.Goals as goal
+
+pub returns-clause-known : goal.returns-clause-known
+returns-clause-known g c = λ world agrees.
+    let work = c.args.self in
+    let line = c.in-Some.line in
+    let before = agrees_before world _ _ c.rooted.ensures.grows agrees in
+    let at = subst (IsRootLine world work.page.now.id.doc) c.in-Some.is (c.in_ok-line.ensures.known world before) in
+    ok_under c.rooted.result _ (λ ready. ok_under c.rooted.result _ (λ there. ok_under c.rooted.result _
+    (λ links. ok_under c.rooted.result _ (λ known. IfOk-weaker c.rooted.result (IsMadeAt world work line)
+    (IsPageMade world work) (λ made is. made_rooted world work line made at is) (c.rooted.ensures.known world agrees
+    (subst (IsReady world work.ground) (sym (ap (λ (s : Stand). s.setting) c.in_ok-line.ensures.stand)) ready)
+    there links known)))))
+
+pub returns-in_default-clause-known : goal.returns-in_default-clause-known
+returns-in_default-clause-known g c = λ world agrees ready there links known.
+    let work = c.args.self in
+    made_rootless world work _ (subst (IsRootLine world work.page.now.id.doc) c.in_default.is
+    (c.in_ok-line.ensures.known world agrees)) c.nothing.ensures known
+
+pub returns-in_err-line-clause-founded : goal.returns-in_err-line-clause-founded
+returns-in_err-line-clause-founded g c =
+    stays_doc _ _ _ c.args.self.ground c.args.self.page.now c.root_line.ensures.founded
+
+pub returns-in_default-clause-founded : goal.returns-in_default-clause-founded
+returns-in_default-clause-founded g c =
+    stays_doc _ _ _ c.args.self.ground c.args.self.page.now c.root_line.ensures.founded
+
+pub returns-clause-founded : goal.returns-clause-founded
+returns-clause-founded g c = stays_after _ _ _ _ c.root_line.ensures.grows
+    (stays_doc _ _ _ c.args.self.ground c.args.self.page.now c.root_line.ensures.founded)
+    (stays_with _ _ (about_page c.args.self) _ _ c.in_ok-line.ensures.stand c.rooted.ensures.founded)
+
+pub returns-clause-grows : goal.returns-clause-grows
+returns-clause-grows g c = grows_trans _ _ _ c.root_line.ensures.grows c.rooted.ensures.grows
+
+pub returns-in_err-line-clause-asks : goal.returns-in_err-line-clause-asks
+returns-in_err-line-clause-asks g c = asks_first _ _ _ _ c.root_line.ensures.asks
+
+pub returns-in_default-clause-asks : goal.returns-in_default-clause-asks
+returns-in_default-clause-asks g c = asks_first _ _ _ _ c.root_line.ensures.asks
+
+pub returns-clause-asks : goal.returns-clause-asks
+returns-clause-asks g c =
+    asks_page _ _ _ _ _ c.root_line.ensures.grows c.root_line.ensures.asks c.rooted.ensures.asks

@@ -1,6 +1,0 @@
--- What closes most claims on what is told.
-use Rattle.readers.proofs.DocumentLaws.{asking}
-use Rattle.readers.proofs.FoundedLaws.{founding}
-use Rattle.readers.proofs.GrowthLaws.{growing}
-
-pub ruleset telling = (growing, founding, asking)

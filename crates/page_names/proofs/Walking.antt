@@ -1,6 +1,0 @@
--- What closes most claims of a call that asks about the documents of nodes.
-use Rattle.readers.proofs.DocumentLaws.{asking}
-use Rattle.readers.proofs.FoundedLaws.{founding}
-use Rattle.readers.proofs.GrowthLaws.{growing}
-
-pub ruleset walking = (growing, founding, asking)

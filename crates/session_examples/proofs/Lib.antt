@@ -1,0 +1,4 @@
+mod OnePut
+mod OneConnection
+mod FaultyLine
+mod FullDesk
