@@ -124,7 +124,8 @@ new_once : (words names : List (List ℕ)) → with_new names words ≡ names ++
 new_once [] names = sym (append-nil names)
 new_once (word ∷ words) names = by_one (new_once words) (list_any (bytes_eq word) names) refl
   where
-    by_one : ((some : List (List ℕ)) → with_new some words ≡ some ++ each_once (filter (is_unseen some) words)) → (a : Bool)
+    by_one : ((some : List (List ℕ)) → with_new some words ≡ some ++ each_once (filter (is_unseen some) words))
+        → (a : Bool)
         → list_any (bytes_eq word) names ≡ a
         → with_new names (word ∷ words) ≡ names ++ each_once (filter (is_unseen names) (word ∷ words))
     by_one behind true e = simp e (behind names)

@@ -1,8 +1,8 @@
 //! The plan of a build: the nodes of its map with their submaps, filtered, with branches copied,
 //! cascaded and in scopes; and its pages.
 //!
-//! What is used above it: `plan`, over any reader, and `planned`, over a reader that knows titles,
-//! which also gives what was found of the nodes.
+//! What is used above it: `planned`, over a reader that knows titles, which also gives what was found
+//! of the nodes.
 #![tactic(auto, using(crate::proofs::Planning::planning))]
 
 mod keyed;
@@ -11,8 +11,6 @@ mod map_there;
 mod rules;
 mod scoped;
 mod steps;
-mod whole;
 
 pub use scoped::Planned;
 pub use steps::planned;
-pub use whole::plan;

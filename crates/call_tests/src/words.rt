@@ -37,6 +37,7 @@ fn words_are_read_or_not(rt: HostRuntime) -> Result<(), Fail> {
         "dita_desk fly",
         "dita_desk clean terms",
         "dita_desk clean --topics 1",
+        "dita_desk gen --topics 1",
         "dita_desk clean --topics 4001",
         "dita_desk clean --workers 0",
         "dita_desk clean --workers 17",
@@ -55,6 +56,35 @@ fn words_are_read_or_not(rt: HostRuntime) -> Result<(), Fail> {
         assert!(rt; mode(alloc, &words(alloc, line)?)?.is_none(), "{line}");
     }
     Ok(())
+}
+
+#[test]
+fn a_project_is_asked_for(rt: HostRuntime) -> Result<(), Fail> {
+    let alloc = rt.alloc();
+    let asked = [
+        ("dita_desk gen", 1u64, 40u32),
+        ("dita_desk gen --topics=2 --number +07", 7, 2),
+        (
+            "dita_desk --number 9223372036854775807 --topics 4000 gen",
+            9223372036854775807,
+            4000,
+        ),
+    ];
+    for (line, number, topics) in asked {
+        match mode(alloc, &words(alloc, line)?)? {
+            Some(named) => assert!(rt; is_project(&named, number, topics), "{line}"),
+            None => assert!(rt; false, "{line}"),
+        }
+    }
+    Ok(())
+}
+
+// Whether the mode is that of a project of this number and so many topics.
+fn is_project(named: &Mode, number: u64, topics: u32) -> bool {
+    match named {
+        Mode::Gen(project) => project.number() == number && project.topics() == topics,
+        _ => false,
+    }
 }
 
 #[test]
@@ -80,6 +110,7 @@ fn help_names_each_option(rt: HostRuntime) -> Result<(), Fail> {
     for part in [
         "clean",
         "terms",
+        "gen",
         "--workers <N>",
         "--number <N>",
         "--topics <N>",

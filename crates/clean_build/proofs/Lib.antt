@@ -1,9 +1,7 @@
 pub mod BehindLaws
 pub mod AskLaws
 pub mod BodyLaws
-pub mod FoundLaws
 pub mod GatheredLaws
-pub mod GivenLaws
 pub mod LinkLaws
 pub mod MarkLaws
 pub mod NameLaws
@@ -15,7 +13,6 @@ pub mod Putting
 pub mod ReadyLaws
 pub mod RootLaws
 pub mod RowLaws
-pub mod SingleLaws
 pub mod StandLaws
 pub mod TableLaws
 pub mod TermLaws

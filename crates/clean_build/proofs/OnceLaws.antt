@@ -1,7 +1,7 @@
 -- Links of which each href is kept once.
 use Rattle.std.specs.Prelude.{◌≡◌, ◌&&◌, ℕ, Bool, true, false, not, List, [], ◌∷◌, ◌++◌, bytes_eq, filter, if◌then◌else◌}
 use Rattle.std.specs.List.{list_any}
-use Rattle.std.proofs.Common.{refl, sym, ap, ◌∙◌, append_assoc, arith, length}
+use Rattle.std.proofs.Common.{refl, sym, ap, ◌∙◌, append_assoc}
 use Rattle.std.proofs.lemmas.Bool.{true≢false}
 use Rattle.std.proofs.lemmas.List.Folds.{list_any-append}
 use Rattle.std.proofs.lemmas.Slice.Eq.{bytes_eq-Decides}
@@ -80,7 +80,3 @@ module _ (before : List (List ℕ)) (link : PageLink) (links once whole : List P
       (λ other. and_swap (has_other link other) (is_new before other)
       ∙ other_passes (λ href. not (list_any (bytes_eq href) before)) link gone other) (hrefs_once links))
       ∙ sym (first_left false gone)) ∙ so_far
-
-pub no_more : {X : Type 0} (xs : List X) (size : ℕ) → size ≡ length xs → size ≡ 0 → xs ≡ []
-no_more [] size same none = refl
-no_more (x ∷ xs) size same none = absurd (omega arith)

@@ -84,12 +84,6 @@ unfolding page_content
 content_there world plan val index page there = ap (λ (found : Option PagePlan).
     option_map_or (page_content_of world plan val) found nothing_made) (sym there)
 
-pub content_nowhere : (world : World) (plan : Plan) (val : Option (List ℕ)) (index : ℕ)
-    → slice_get plan.pages index ≡ None → nothing_made ≡ page_content rooms world plan val index
-unfolding page_content
-content_nowhere world plan val index there = ap (λ (found : Option PagePlan).
-    option_map_or (page_content_of world plan val) found nothing_made) (sym there)
-
 -- The page
 
 module _ (world : World) (plan : Plan) (val : Option (List ℕ)) (index : ℕ) (page : PagePlan) (behind : List Fault) where
@@ -157,12 +151,6 @@ pub page_there : (world : World) (plan : Plan) (val : Option (List ℕ)) (index 
     → page_behind rooms world plan val index page (row_faults plan) ≡ page_part rooms world plan val index
 unfolding page_part
 page_there world plan val index page there = ap (λ (found : Option PagePlan). option_map_or
-    (λ (p : PagePlan). page_behind rooms world plan val index p (row_faults plan)) found no_html) (sym there)
-
-pub page_nowhere : (world : World) (plan : Plan) (val : Option (List ℕ)) (index : ℕ)
-    → slice_get plan.pages index ≡ None → no_html ≡ page_part rooms world plan val index
-unfolding page_part
-page_nowhere world plan val index there = ap (λ (found : Option PagePlan). option_map_or
     (λ (p : PagePlan). page_behind rooms world plan val index p (row_faults plan)) found no_html) (sym there)
 
 -- The page, from its body, its links and its title

@@ -1,10 +1,10 @@
 -- The parts of a build as they are put one after another, and the build that they make up.
-use Rattle.std.specs.Prelude.{◌≡◌, ◌+◌, ◌≤◌, ℕ, zero, suc, List, [], ◌∷◌, ◌++◌, Option, Some, Result, Ok, Err, length, map, option_map, slice_get, take}
+use Rattle.std.specs.Prelude.{◌≡◌, ◌<◌, ◌+◌, ◌≤◌, ℕ, zero, suc, List, [], ◌∷◌, ◌++◌, Option, Some, Result, Ok, Err, length, map, option_map, slice_get, take}
 use Rattle.std.specs.List.{AllByRecursion, flat_map}
-use Rattle.std.proofs.Common.{refl, sym, ap, subst, ◌∙◌, append-nil, arith}
+use Rattle.std.proofs.Common.{refl, sym, ap, subst, ◌∙◌, append-nil, arith, get_or}
 use Rattle.std.proofs.Math.Logic.{⊎_elim}
 use Rattle.std.proofs.lemmas.List.{flat_map_more, length-map, take_all, take_more}
-use Rattle.std.proofs.lemmas.Option.{get_or_from_slice_get, slice_get-map, slice_get_within}
+use Rattle.std.proofs.lemmas.Option.{get_or_from_slice_get, slice_get-map, slice_get_read, slice_get_within}
 use Rattle.build_spec.specs.Built.{Stopped}
 use Rattle.clean_build.specs.Clean.{clean_seen}
 use Rattle.build_plan.specs.PageNames.{IsPageName}
@@ -56,6 +56,13 @@ placed from (suc at) (first ∷ xs) x is =
 pub count_placed : {X : Type 0} (from : ℕ) (xs : List X) → length (places_from from xs) ≡ length xs
 count_placed from [] = refl
 count_placed from (first ∷ xs) = ap (λ n. suc n) (count_placed (from + 1) xs)
+
+-- the page at a place that a list as long has
+pub page_at : (pages shown : List PagePlan) (index : ℕ) (page : PagePlan) → shown ≡ pages → index < length shown
+    → page ≡ get_or shown index page → slice_get pages index ≡ Some page
+page_at pages shown index page are within is =
+    ap (λ (all : List PagePlan). slice_get all index) (sym are)
+    ∙ slice_get_read shown (length shown) index page refl within is
 
 -- Faults
 

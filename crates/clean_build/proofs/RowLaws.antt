@@ -135,7 +135,8 @@ module _ (plan : Plan) (fault : Fault) where
       let in_row = given_by (λ row. flat_map (lost_in plan row) (places plan.nodes)) (rows plan) fault among in
       let node = given_by (lost_in plan in_row.number) (places plan.nodes) fault in_row.among in
       let lost = lost_from in_row.number node.number node.among in
-      let below = any_passes_from_place (λ row. is_some (cell_of plan row node.number)) (rows plan) in_row.at in_row.number in_row.is
+      let below = any_passes_from_place (λ row. is_some (cell_of plan row node.number))
+      (rows plan) in_row.at in_row.number in_row.is
       lost.below in
       let kept = stays (is_lost_below plan) (places plan.nodes) node.at node.number node.is
       (and_from (is_below plan node.number) (is_lost plan node.number) below lost.lost) in

@@ -2,7 +2,7 @@
 use Rattle.std.specs.Prelude.{◌≡◌, ◌+◌, ◌≤◌, ◌<◌, ℕ, zero, suc, Bool, true, false, List, [], ◌∷◌, ◌++◌, Option, Some, None, Ok, Err, IsTrue, get_or, length, nat_le, nat_lt, not, slice_get, take}
 use Rattle.std.specs.List.{flat_map}
 use Rattle.std.proofs.Common.{refl, sym, ap, subst, ◌∙◌, arith}
-use Rattle.std.proofs.lemmas.Bool.{le-ltb, leb-false, leb-true, lt-ltb, true≢false}
+use Rattle.std.proofs.lemmas.Bool.{le-ltb, leb-false, leb-true, lt-ltb}
 use Rattle.std.proofs.lemmas.List.{flat_map_more, map-append, take_all, take_more}
 use Rattle.dita_doc.specs.declared.content.TermEntry.{TermEntry}
 use Rattle.dita_doc.specs.declared.fact.Html.{Html}
@@ -58,14 +58,6 @@ more_than n limit = by_test (nat_le n limit) refl
     by_test : (few : Bool) → nat_le n limit ≡ few → nat_lt limit n ≡ not few
     by_test true e = le-ltb limit n (leb-true n limit e)
     by_test false e = lt-ltb limit n (leb-false n limit e)
-
-pub are_many : (many few : Bool) → many ≡ not few → many ≡ true → few ≡ false
-are_many many true is large = absurd (true≢false (sym large ∙ is))
-are_many many false is large = refl
-
-pub are_few : (many few : Bool) → many ≡ not few → many ≡ false → few ≡ true
-are_few many true is small = refl
-are_few many false is small = absurd (true≢false (sym is ∙ small))
 
 -- too many bytes have none
 pub too_large : (wanted : Bool) (world : World) (plan : Plan) (val : Option (List ℕ))

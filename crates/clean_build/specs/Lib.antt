@@ -4,6 +4,5 @@ pub mod Gathering
 pub mod BuildInput
 pub mod Made
 pub mod Names
-pub mod Single
 pub mod Tables
 pub mod Terms

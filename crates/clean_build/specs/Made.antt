@@ -1,9 +1,7 @@
 -- What is made of a plan in a world (own), by readers that were made for it.
 use Rattle.std.specs.Prelude.{◌≡◌, ℕ, Bool, true, false, List, [], Option, Some, None, slice_get}
 use Rattle.std.specs.Option.{option_copied, option_map_or}
-use Rattle.conref_pull.specs.Resolved.{IsResolved}
 use Rattle.conref_pull.specs.declared.tables.Tables.{Tables}
-use Rattle.dita_doc.specs.declared.content.Resolved.{Resolved}
 use Rattle.dita_doc.specs.declared.content.Rule.{Rule}
 use Rattle.dita_doc.specs.declared.fact.Html.{Html}
 use Rattle.dita_doc.specs.declared.fault.Fault.{Fault}
@@ -17,12 +15,11 @@ use Rattle.node_links.specs.declared.table.NodeLinks.{NodeLinks}
 use Rattle.html_spec.specs.Anchors.{element_links}
 use Rattle.conref_spec.specs.Content.{Made}
 use Rattle.html_spec.specs.PageHtml.{page_within}
-use Rattle.part_spec.specs.Parts.{Rooms, content_of_page, content_of_root, contents_part, here_of, all_page_links, no_html, page_content, page_rules, rooms}
+use Rattle.part_spec.specs.Parts.{Rooms, content_of_page, content_of_root, contents_part, here_of, all_page_links, no_html, page_rules, rooms}
 use Rattle.reader_spec.specs.World.{World}
 use Rattle.readers.specs.Setting.{Setting}
 use Rattle.clean_build.specs.Bodies.{AreKnown, body_of, content_of, rules_for, terms_wanted}
 use Rattle.clean_build.specs.BuildInput.{IsReady, context_for}
-use Rattle.clean_build.specs.declared.resolved.ContentWork.{ContentWork}
 use Rattle.clean_build.specs.declared.works.ContentsWork.{ContentsWork}
 use Rattle.clean_build.specs.declared.works.LinksWork.{LinksWork}
 use Rattle.clean_build.specs.declared.works.PageMade.{PageMade}
@@ -57,10 +54,6 @@ IsRootLine world name (Some line) = IsRootAt world name line
 -- in the room that pages have
 abbrev pub page_content_of : World → Plan → Option (List ℕ) → PagePlan → Made
 page_content_of world plan val page = content_of_page rooms world plan val page
-
-abbrev pub MakesContent : ContentWork → World → Setting → Resolved → Type 0
-MakesContent work world setting made = IsReady world work.ground setting
-    → IsResolved made (page_content rooms world work.ground.plan.now (option_copied work.ground.val) work.index)
 
 -- A page, with these faults behind its own
 

@@ -1,14 +1,13 @@
 -- Which documents the parts of a build are about (own).
-use Rattle.std.specs.Prelude.{ℕ, List, [], ◌∷◌, ◌++◌, slice_get}
+use Rattle.std.specs.Prelude.{ℕ, List, ◌∷◌, ◌++◌}
 use Rattle.std.specs.List.{filter_map, flat_map}
-use Rattle.std.specs.Option.{option_copied, option_map_or, option_to_list}
+use Rattle.std.specs.Option.{option_copied, option_to_list}
 use Rattle.conref_targets.specs.Rules.{ditavals}
 use Rattle.dita_doc.specs.declared.plan.PagePlan.{PagePlan}
 use Rattle.dita_doc.specs.declared.plan.Plan.{Plan}
 use Rattle.map_spec.specs.Pages.{local_name}
 use Rattle.readers.specs.Founded.{homes}
 use Rattle.clean_build.specs.declared.build_input.BuildInput.{BuildInput}
-use Rattle.clean_build.specs.declared.resolved.ContentWork.{ContentWork}
 use Rattle.clean_build.specs.declared.works.ContentsWork.{ContentsWork}
 use Rattle.clean_build.specs.declared.works.LinksWork.{LinksWork}
 use Rattle.clean_build.specs.declared.works.PageWork.{PageWork}
@@ -38,9 +37,6 @@ about_links work = names_of_build work.ground
 abbrev pub about_contents : ContentsWork → List (List ℕ)
 about_contents work = names_of_build work.ground
 
-abbrev pub about_content : ContentWork → List (List ℕ)
-about_content work = names_of_build work.ground
-
 abbrev pub about_page : PageWork → List (List ℕ)
 about_page work = names_of_page work.page.now ++ names_of_build work.ground
 
@@ -54,10 +50,3 @@ documents_of_contents work = homes work.ground.plan.now.nodes
 
 abbrev pub documents_of_page : PageWork → List (List ℕ)
 documents_of_page work = names_of_content work.ground work.page.now
-
--- the content of the page at an index, if there is one
-abbrev pub names_at : BuildInput → ℕ → List (List ℕ)
-names_at given index = option_map_or (names_of_content given) (slice_get given.plan.now.pages index) []
-
-abbrev pub documents_of_content : ContentWork → List (List ℕ)
-documents_of_content work = names_at work.ground work.index

@@ -157,7 +157,7 @@ fn with_faults(
 }
 
 /// A page without bytes and without faults.
-pub(crate) fn no_html(alloc: Global) -> Html
+pub fn no_html(alloc: Global) -> Html
     ensures { result ≡ parts_spec.no_html }
 {
     Html {

@@ -12,7 +12,7 @@ use std::sync::Arc;
 
 /// The map and the DITAVAL of a build, and its plan.
 #[derive(Clone, Copy)]
-pub(crate) struct BuildInput<'p> {
+pub struct BuildInput<'p> {
     pub map: &'p Name,
     pub val: Option<&'p Name>,
     pub plan: &'p Plan,

@@ -17,7 +17,7 @@ use std::alloc::Global;
 
 /// The elements and the scopes of a plan's nodes, the pushes of its documents, and its pages.
 #[derive(Drop)]
-pub(crate) struct BuildTables {
+pub struct BuildTables {
     pub homes: NodeElements,
     pub scopes: ScopeTable,
     pub pushes: PushTable,

@@ -27,7 +27,7 @@ use std::sync::Arc;
 
 /// The content of the page of a context, with its references resolved. The tables have all rules of
 /// the page then.
-pub(crate) fn resolved_for<A: Asker>(
+pub fn resolved_for<A: Asker>(
     alloc: Global,
     asker: &mut A,
     tables: &mut Tables,

@@ -20,7 +20,7 @@ use std::alloc::Global;
 use std::marker::{Brand, PhantomData};
 
 /// What is made over a reader that knows a plan. It leaves the reader where it stood.
-pub(crate) trait PlanTask {
+pub trait PlanTask {
     type Made;
 
     /// What is made in a world by a reader that was made for this.

@@ -8,7 +8,7 @@ ghost use Rattle.readers.specs.Told.{Agrees};
 
 use crate::build_tables::BuildTables;
 use crate::over_plan::PlanTask;
-use crate::over_titles::over_titles;
+use crate::with_keys::over_titles;
 use dita_doc::{NoMemory, Plan};
 use later_reader::LaterReader;
 use pushed_docs::PushedDocs;

@@ -14,7 +14,7 @@ use readers::Reader;
 use std::alloc::Global;
 
 /// The line in which the root of a document stands, if the document stands there and has one.
-pub(crate) fn root_line<R: Reader>(
+pub fn root_line<R: Reader>(
     alloc: Global,
     reader: &mut R,
     name: &Name,

@@ -87,7 +87,7 @@ impl<'p> PlanTask for ContentsWork<'p> {
 /// The page at an index, with the faults of its content and, behind them, these, and the terms of
 /// its content, if they are wanted. It is empty if its document is not stored.
 #[derive(Drop)]
-pub(crate) struct PageWork<'p, 'b> {
+pub struct PageWork<'p, 'b> {
     pub ground: BuildInput<'p>,
     pub page: &'p PagePlan,
     pub index: u32,
@@ -99,7 +99,7 @@ pub(crate) struct PageWork<'p, 'b> {
 
 /// A page, the terms of its content, and the tables by which that was resolved.
 #[derive(Drop)]
-pub(crate) struct PageMade {
+pub struct PageMade {
     pub html: Html,
     pub terms: List<TermEntry>,
     pub content: Tables,

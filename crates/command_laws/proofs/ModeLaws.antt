@@ -17,7 +17,7 @@ use Rattle.clap.specs.declared.builder.action.ArgAction.TheVariants as actions
 use Rattle.clap.specs.declared.builder.value_parser.Reading.{Reading}
 use Rattle.clap.specs.declared.parser.matches.ValueSource.{ValueSource}
 use Rattle.clap.specs.declared.parser.matches.ValueSource.TheVariants.{CommandLine, DefaultValue}
-use Rattle.command_line.specs.Command.{command, is_read, mode, mode_called, mode_of, modes, one_of_these}
+use Rattle.command_line.specs.Command.{command, is_read, mode, mode_called, mode_in, mode_of, modes, one_of_these, project_in}
 use Rattle.command_laws.specs.Words.{NamesMode}
 use Rattle.command_laws.proofs.StayLaws.{Each, IsLeft, Stays, StaysByDefault, level_stays}
 
@@ -269,23 +269,32 @@ has_mode : (rows : List Row) (found : Option Row) → find of_mode rows ≡ foun
 has_mode rows None found given all = absurd (true≢false (sym given))
 has_mode rows (Some row) found given all = first_given rows row row.values found refl (found_fine rows row found all)
 
-which : (text : Text) → is_mode text ≡ true → (text ≡ codes "clean") ⊎ (text ≡ codes "terms")
+-- the name of a mode is one of the three
+abbrev IsModeName : Text → Type 0
+IsModeName text = (text ≡ codes "clean") ⊎ ((text ≡ codes "terms") ⊎ (text ≡ codes "gen"))
+
+which : (text : Text) → is_mode text ≡ true → IsModeName text
 which text named = by_first (bytes_eq (codes "clean") text) refl named
   where
-    by_second : (same : Bool) → bytes_eq (codes "terms") text ≡ same → (same || false) ≡ true → text ≡ codes "terms"
-    by_second true e named = sym (same_text (codes "terms") text e)
-    by_second false e named = absurd (true≢false (sym named))
+    by_third : (same : Bool) → bytes_eq (codes "gen") text ≡ same → (same || false) ≡ true → text ≡ codes "gen"
+    by_third true e named = sym (same_text (codes "gen") text e)
+    by_third false e named = absurd (true≢false (sym named))
+
+    by_second : (same : Bool) → bytes_eq (codes "terms") text ≡ same
+        → (same || (bytes_eq (codes "gen") text || false)) ≡ true → (text ≡ codes "terms") ⊎ (text ≡ codes "gen")
+    by_second true e named = inl (sym (same_text (codes "terms") text e))
+    by_second false e named = inr (by_third (bytes_eq (codes "gen") text) refl named)
 
     by_first : (same : Bool) → bytes_eq (codes "clean") text ≡ same
-        → (same || (bytes_eq (codes "terms") text || false)) ≡ true → (text ≡ codes "clean") ⊎ (text ≡ codes "terms")
+        → (same || (bytes_eq (codes "terms") text || (bytes_eq (codes "gen") text || false))) ≡ true → IsModeName text
     by_first true e named = inl (sym (same_text (codes "clean") text e))
     by_first false e named = inr (by_second (bytes_eq (codes "terms") text) refl named)
 
 mode_is : (words : List Text) (text : Text) → is_read words ≡ true → first_of (codes "mode") (matches_of command words) ≡ Some text
-    → mode_of words ≡ Some (mode_called text)
+    → mode_of words ≡ Some (mode_called (project_in (matches_of command words)) text)
 mode_is words text read first =
-    ap (λ (is : Bool). if is then Some (mode_called (unwrap_or (first_of (codes "mode") (matches_of command words)) [])) else None) read
-    ∙ ap (λ (found : Option Text). Some (mode_called (unwrap_or found []))) first
+    ap (λ (is : Bool). if is then Some (mode_in (matches_of command words)) else None) read
+    ∙ ap (λ (found : Option Text). Some (mode_called (project_in (matches_of command words)) (unwrap_or found []))) first
 
 pub names_mode : NamesMode
 names_mode words read =
@@ -294,5 +303,6 @@ names_mode words read =
     (mode_given (matches_of command words) (has_entered words) rows.valid) rows.is in
     elim (which mode.text mode.named) [
       | inl clean ↦ (let first = mode.first ∙ ap Some clean in inl (first, mode_is words (codes "clean") read first))
-      | inr terms ↦ (let first = mode.first ∙ ap Some terms in inr (first, mode_is words (codes "terms") read first))
+      | inr (inl terms) ↦ (let first = mode.first ∙ ap Some terms in inr (inl (first, mode_is words (codes "terms") read first)))
+      | inr (inr gen) ↦ (let first = mode.first ∙ ap Some gen in inr (inr (first, mode_is words (codes "gen") read first)))
     ]

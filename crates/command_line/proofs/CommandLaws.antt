@@ -18,7 +18,8 @@ use Rattle.clap.proofs.WalkLemmas.{first_value-rows}
 use Rattle.command_line.proofs.AddressFaultLaws.{same_faults}
 use Rattle.command_line.proofs.AddressLaws.{same_rows}
 use Rattle.command_line.proofs.FaultLaws.{is_clear, takes_agrees}
-use Rattle.command_line.specs.Command.{IsCommand, command, command_of, default_folder, is_read, mode_called, mode_of, one_of_these, out_folder}
+use Rattle.command_line.specs.declared.modes.Mode.{Mode}
+use Rattle.command_line.specs.Command.{IsCommand, command, command_of, default_folder, is_read, mode_in, mode_of, one_of_these, out_folder, value_in}
 
 -- the modes' names, at some addresses
 abbrev Names : Type 0
@@ -98,20 +99,25 @@ folder_if_read found matches words given other some read rows value default =
     ∙ ap (unwrap_or (first_of (codes "out") (matches_of command words))) default
     ∙ if_read words (ap is_some (sym some) ∙ read)
 
-named_if_read : (words : List Text) → true ≡ is_read words
-    → Some (mode_called (unwrap_or (first_of (codes "mode") (matches_of command words)) [])) ≡ mode_of words
+-- the value that `get_str` gives for an argument, or the empty text in its place
+pub value_given : (id : Text) (matches : ArgMatches) (given : Option (Bor Text)) (other result : Bor Text)
+    → option_map (λ text. text.now) given ≡ first_value (found_of matches) id → other.now ≡ []
+    → result ≡ unwrap_or given other → result.now ≡ value_in id (rows_of (found_of matches))
+value_given id matches given other result value none is =
+    ap (λ (text : Bor Text). text.now) is ∙ unwrapped given other
+    ∙ ap₂ (λ (text : Option Text) (last : Text). unwrap_or text last) (value ∙ first_value-rows (found_of matches) id) none
+
+named_if_read : (words : List Text) → true ≡ is_read words → Some (mode_in (matches_of command words)) ≡ mode_of words
 named_if_read words read = rw (← read) refl
 
--- the mode of words that are read is that of the value that `get_str` gives for it
-pub mode_if_read : (found : Option ArgMatches) (matches : ArgMatches) (words : List Text) (given : Option (Bor Text)) (other : Bor Text)
-    → found ≡ Some matches → is_some found ≡ is_read words
-    → IfSome found (λ m. rows_of (found_of m) ≡ matches_of command words)
-    → option_map (λ text. text.now) given ≡ first_value (found_of matches) (codes "mode") → other.now ≡ []
-    → Some (mode_called (unwrap_or given other).now) ≡ mode_of words
-mode_if_read found matches words given other some read rows value none =
-    ap (λ text. Some (mode_called text)) (value_if_read (codes "mode") found matches words given other some rows value
-    ∙ ap (unwrap_or (first_of (codes "mode") (matches_of command words))) none)
-    ∙ named_if_read words (ap is_some (sym some) ∙ read)
+-- the mode of words that are read is that of what was found
+pub mode_if_read : (found : Option ArgMatches) (matches : ArgMatches) (words : List Text) (mode : Mode) → found ≡ Some matches
+    → is_some found ≡ is_read words → IfSome found (λ m. rows_of (found_of m) ≡ matches_of command words)
+    → mode ≡ mode_in (rows_of (found_of matches)) → Some mode ≡ mode_of words
+mode_if_read found matches words mode some read rows is =
+    let here : rows_of (found_of matches) ≡ matches_of command words =
+    subst (λ o. IfSome o (λ m. rows_of (found_of m) ≡ matches_of command words)) some rows in
+    ap Some is ∙ ap (λ rows. Some (mode_in rows)) here ∙ named_if_read words (ap is_some (sym some) ∙ read)
 
 -- the folder of words that are not read
 pub folder_if_not : (found : Option ArgMatches) (words : List Text) → found ≡ None → is_some found ≡ is_read words

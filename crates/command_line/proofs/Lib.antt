@@ -2,3 +2,4 @@ pub mod AddressFaultLaws
 pub mod AddressLaws
 pub mod CommandLaws
 pub mod FaultLaws
+pub mod NumberLaws

@@ -1,14 +1,17 @@
 -- The words of the program: one command of the crate `clap`, with a mode and options (own).
-use Rattle.std.specs.Prelude.{◌≡◌, Bool, List, [], ◌∷◌, Option, Some, None, fold, map, codes, bytes_eq, unwrap_or, if◌then◌else◌, true}
+use Rattle.std.specs.Prelude.{◌≡◌, ℕ, Bool, List, [], ◌∷◌, Option, Some, None, fold, map, codes, bytes_eq, unwrap_or, if◌then◌else◌, true}
 use Rattle.std.specs.Borrow.{Bor}
+use Rattle.std.specs.Str.Parse.{digits_value, without_leading_plus}
 use Rattle.clap.specs.Simple.{App, matches_of, new_app, new_rule, on_top, with_rule}
 use Rattle.clap.specs.Takes.{takes}
-use Rattle.clap.specs.Walk.{Rule, Text, first_of}
+use Rattle.clap.specs.ValueTests.{is_unsigned_in}
+use Rattle.clap.specs.Walk.{Row, Rule, Text, first_of}
 use Rattle.clap.specs.declared.builder.action.ArgAction.TheVariants.{Set}
 use Rattle.clap.specs.declared.builder.value_parser.ValueParser.{ValueParser}
 use Rattle.clap.specs.declared.builder.value_parser.ValueParser.TheVariants as values
 use Rattle.command_line.specs.declared.modes.Mode.{Mode}
-use Rattle.command_line.specs.declared.modes.Mode.TheVariants.{Clean, Terms}
+use Rattle.command_line.specs.declared.modes.Mode.TheVariants.{Clean, Terms, Gen}
+use Rattle.command_line.specs.Project.{ProjectAsked, most_number, least_topics, most_topics}
 
 -- texts as references, at no address: what a command reads does not depend on where its own texts lie
 abbrev pub at_no_address : {X : Type 0} → X → Bor X
@@ -19,7 +22,7 @@ one_of_these texts = values.Names (at_no_address (map at_no_address texts))
 
 -- the modes of the program
 abbrev pub modes : List Text
-modes = codes "clean" ∷ codes "terms" ∷ []
+modes = codes "clean" ∷ codes "terms" ∷ codes "gen" ∷ []
 
 -- an argument of one value
 abbrev pub valued : Text → ValueParser → Rule
@@ -41,8 +44,8 @@ default_folder = codes "out"
 -- the folder of the pages
 abbrev pub options : List Rule
 options = option (codes "workers") (values.Unsigned 1 16) (codes "4")
-    ∷ option (codes "number") (values.Unsigned 0 9223372036854775807) (codes "1")
-    ∷ option (codes "topics") (values.Unsigned 2 4000) (codes "40")
+    ∷ option (codes "number") (values.Unsigned 0 most_number) (codes "1")
+    ∷ option (codes "topics") (values.Unsigned least_topics most_topics) (codes "40")
     ∷ option (codes "port") (values.Unsigned 0 65535) (codes "7070")
     ∷ option (codes "connections") (values.Unsigned 1 1024) (codes "1")
     ∷ option (codes "out") values.NonEmptyString default_folder
@@ -74,14 +77,32 @@ IsCommand app = IsByModes command_of app
 abbrev pub is_read : List Text → Bool
 is_read words = takes command words
 
--- the mode of a name: of those that the command reads, the one that is not `terms` is `clean`
-abbrev pub mode_called : Text → Mode
-mode_called text = if bytes_eq text (codes "terms") then Terms else Clean
+-- the first value of an argument, by what was found of all arguments
+abbrev pub value_in : Text → List Row → Text
+value_in id rows = unwrap_or (first_of id rows) []
+
+-- the number that a text is, if it is one within these bounds, and else the least; words that are read have no other text
+abbrev pub number_in : ℕ → ℕ → Text → ℕ
+number_in least most text = if is_unsigned_in least most text then digits_value 10 (without_leading_plus text) else least
+
+-- the number from which a project is made, and how many topics it has
+abbrev pub project_in : List Row → ProjectAsked
+project_in rows = record {
+  number = number_in 0 most_number (value_in (codes "number") rows);
+  topics = number_in least_topics most_topics (value_in (codes "topics") rows);
+}
+
+-- the mode of a name: of those that the command reads, the one that is neither `terms` nor `gen` is `clean`
+abbrev pub mode_called : ProjectAsked → Text → Mode
+mode_called asked text =
+    if bytes_eq text (codes "terms") then Terms else if bytes_eq text (codes "gen") then Gen asked else Clean
+
+abbrev pub mode_in : List Row → Mode
+mode_in rows = mode_called (project_in rows) (value_in (codes "mode") rows)
 
 -- the mode that the words name, if the command reads them
 abbrev pub mode_of : List Text → Option Mode
-mode_of words = if is_read words then Some (mode_called (unwrap_or (first_of (codes "mode") (matches_of command words)) []))
-    else None
+mode_of words = if is_read words then Some (mode_in (matches_of command words)) else None
 
 -- the value of `--out`, if the command reads the words
 abbrev pub out_folder : List Text → Text

@@ -1,1 +1,2 @@
+pub mod Project
 pub mod Command

@@ -10,5 +10,5 @@ mod modes;
 mod read;
 
 pub use arguments::command;
-pub use modes::Mode;
+pub use modes::{Mode, Project};
 pub use read::{mode, out_folder};

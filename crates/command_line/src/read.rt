@@ -1,13 +1,13 @@
 //! What the command makes of words.
 
-ghost use Rattle.std.specs.Prelude.{◌≡◌, IfOk, IfSome, is_some, map, string_bytes};
+ghost use Rattle.std.specs.Prelude.{◌≡◌, ◌≤◌, ◌&&◌, IfOk, IfSome, if◌then◌else◌, is_some, nat_le, map, string_bytes};
 ghost use Rattle.clap.specs.Matches.{found_of};
 ghost use Rattle.clap.specs.Simple.{matches_of};
 ghost use Rattle.clap.specs.Walk.{rows_of};
 ghost use Rattle.command_line.specs.Command as spec;
 
 use crate::arguments::command;
-use crate::modes::Mode;
+use crate::modes::{Mode, Project};
 use clap::ArgMatches;
 use clap::error::ErrorKind;
 use dita_doc::{NoMemory, Text};
@@ -17,25 +17,72 @@ const DEFAULT_FOLDER: &str = "out";
 
 const TERMS: &str = "terms";
 
+const GEN: &str = "gen";
+
 /// The mode that the words name, of which the first is the program's name, if the command reads
 /// them. It does not read `--help` and `--version`: these ask for a text.
 pub fn mode(alloc: Global, words: &[String]) -> Result<Option<Mode>, NoMemory>
     ensures { IfOk result (λ mode. mode ≡ spec.mode_of (map string_bytes words.now)) }
 {
     match matches(alloc, words)? {
-        Some(matches) => Ok(Some(called(matches.get_str("mode").unwrap_or("")))),
+        Some(matches) => Ok(Some(mode_in(&matches))),
         None => Ok(None),
     }
 }
 
-// The mode of a name that the command reads.
-fn called(name: &str) -> Mode
-    ensures { result ≡ spec.mode_called name.now }
+// The mode of words that the command reads.
+fn mode_in(matches: &ArgMatches) -> Mode
+    ensures { result ≡ spec.mode_in (rows_of (found_of matches.now)) }
 {
+    let name = value_in(matches, "mode");
     if name == TERMS {
         Mode::Terms
+    } else if name == GEN {
+        Mode::Gen(project_in(matches))
     } else {
         Mode::Clean
+    }
+}
+
+fn project_in(matches: &ArgMatches) -> Project
+    ensures { result ≡ spec.project_in (rows_of (found_of matches.now)) }
+{
+    let number = number_in(0, i64::MAX as u64, value_in(matches, "number"));
+    let topics = number_in(2, 4000, value_in(matches, "topics"));
+    Project::new(number, topics as u32)
+}
+
+// The first value of an argument.
+fn value_in<'a>(matches: &ArgMatches<'a>, id: &str) -> &'a str
+    ensures { result.now ≡ spec.value_in id.now (rows_of (found_of matches.now)) }
+{
+    matches.get_str(id).unwrap_or("")
+}
+
+// The number that a text is, if it is within the bounds; words that are read have no other text.
+fn number_in(least: u64, most: u64, text: &str) -> u64
+    requires { least ≤ most }
+    ensures number { result ≡ spec.number_in least most text.now }
+    ensures least { least ≤ result }
+    ensures most { result ≤ most }
+{
+    match text.parse::<u64>() {
+        Ok(number) => within(least, most, number),
+        Err(_) => least,
+    }
+}
+
+fn within(least: u64, most: u64, number: u64) -> u64
+    requires { least ≤ most }
+    ensures number { result
+        ≡ (if nat_le least number && nat_le number most then number else least) }
+    ensures least { least ≤ result }
+    ensures most { result ≤ most }
+{
+    if least <= number && number <= most {
+        number
+    } else {
+        least
     }
 }
 

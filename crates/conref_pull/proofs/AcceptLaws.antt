@@ -21,6 +21,7 @@ use Rattle.map_spec.specs.Written as written
 use Rattle.map_spec.specs.Written.{Element, Written, End, size}
 use Rattle.conref_spec.specs.Content as content
 use Rattle.conref_spec.specs.Content.{declared_around_written, resolve_depth_limit, is_place, path_limit, range_by, refused_by}
+use Rattle.readers.proofs.GivenLaws.{size_named}
 use Rattle.conref_targets.specs.Ranges.{IsRangeEnd, IsUpTo}
 use Rattle.conref_targets.specs.Found.{IsFound}
 use Rattle.conref_targets.specs.Origin.{begins_element, first_whole, whole_of, whole_shown}
@@ -29,7 +30,6 @@ use Rattle.conref_targets.specs.Tables.{AreTables, Documents}
 use Rattle.conref_targets.specs.declared.find.Found.{Found}
 use Rattle.conref_targets.specs.declared.origin.Whole.{Whole}
 use Rattle.conref_targets.specs.declared.tables.PlaceTables.{PlaceTables}
-use Rattle.conref_targets.proofs.PartLaws.{size_named}
 use Rattle.conref_targets.proofs.RangeEndLaws.{end_there}
 use Rattle.conref_pull.specs.Accepting.{is_too_deep, link_of, refusal_by}
 use Rattle.conref_pull.specs.Linked.{IsLink, IsStep}

@@ -1,6 +1,7 @@
 pub mod AcceptLaws
 pub mod AcceptedLaws
 pub mod AroundLaws
+pub mod CallAskLaws
 pub mod CallLaws
 pub mod ChainLaws
 pub mod ElementLaws
@@ -13,6 +14,7 @@ pub mod HrefWalkLaws
 pub mod LinkAskLaws
 pub mod LinkLaws
 pub mod MergeLaws
+pub mod MetLaws
 pub mod NodeLaws
 pub mod NodeStandLaws
 pub mod OpenedLaws

@@ -20,13 +20,15 @@ module _ (resolve : Resolve) (setting : ResolveInput) (is_range : Bool) (around 
       (ranges_made resolve around depth found.ranges))
 
   pub element_gone : goes setting here.declared element ≡ true
-      → element_resolved resolve setting is_range around depth path element inside own
+      → element_resolved resolve setting
+      (record { is_range = is_range; around = around; depth = depth; path = path }) element inside own
       ≡ made_with (group_faults here.declared element) nothing_made
   element_gone gone = rw gone refl
 
   -- what follows from its references
   pub element_left : goes setting here.declared element ≡ false
-      → element_resolved resolve setting is_range around depth path element inside own
+      → element_resolved resolve setting
+      (record { is_range = is_range; around = around; depth = depth; path = path }) element inside own
       ≡ made_with (group_faults here.declared element) (by (followed setting here.topic depth path element inside))
   element_left left = rw left refl
 

@@ -14,10 +14,11 @@ use Rattle.conref_spec.specs.Content.{ContentAround, Made, Place, count_limit, d
 use Rattle.reader_spec.specs.World.{World}
 use Rattle.readers.specs.Named.{name_at, under_names}
 use Rattle.readers.specs.Setting.{Stand}
+use Rattle.readers.proofs.GivenLaws.{size_named}
 use Rattle.conref_targets.specs.Parts.{AreSiblingsAt, among_first, has_first, past, past_text, first_alone}
 use Rattle.conref_targets.specs.Tables.{AreTables}
 use Rattle.conref_targets.specs.declared.tables.PlaceTables.{PlaceTables}
-use Rattle.conref_targets.proofs.PartLaws.{element_node_there, size_named, text_there}
+use Rattle.conref_targets.proofs.PartLaws.{element_node_there, text_there}
 use Rattle.conref_pull.specs.Linked.{AreLinks, IsLink}
 use Rattle.conref_pull.specs.State.{path_within, place_shown}
 use Rattle.conref_pull.specs.Step.{Taken}

@@ -19,8 +19,7 @@ use Rattle.readers.specs.Told.{Told}
 use Rattle.conref_targets.specs.Asking.{element_around}
 use Rattle.conref_targets.specs.Hrefs.{AreNamed, HasNamed, HaveNamed}
 use Rattle.conref_targets.specs.Origin.{named_content}
-use Rattle.conref_targets.proofs.HrefDocLaws.{inside_named, node_named, parts_named}
-pub use Rattle.conref_targets.proofs.HrefDocLaws.{origin_named}
+use Rattle.conref_targets.proofs.EachLaws.{inside_each, node_each, origin_each, parts_each}
 use Rattle.conref_pull.specs.Linked.{IsGivenTo}
 use Rattle.conref_pull.specs.Count.{OneMore}
 use Rattle.conref_pull.specs.PutHrefs.{MergedNamed, HaveNamedIn, PutNamed}
@@ -39,6 +38,12 @@ use Rattle.conref_pull.proofs.HrefWalkLaws.{closed_put, opened_put, puts_named}
 pub use Rattle.conref_pull.proofs.HrefWalkLaws.{maker_counted, same_put}
 pub use Rattle.conref_pull.proofs.PutLaws.{maker_faults, maker_then}
 use Rattle.conref_pull.proofs.WalkLoopLaws.{Splits}
+
+pub origin_named : (told : List Told) (siblings : Siblings) (node : Node) (origin : List ℕ) (doc : Doc)
+    → doc ≡ doc_of_siblings siblings → Some origin ≡ slice_get doc.origins node.origin
+    → HasNamed told (element_around siblings node) → HasNamed told (element_of origin node)
+origin_named told siblings node origin doc of name named =
+    origin_each (HasNamed told) siblings node origin doc of name named
 
 -- what a call hands on that puts nothing
 module _ {told more : List Told} (grows : Grows told more) where
@@ -63,7 +68,7 @@ module _ {told more : List Told} (grows : Grows told more) where
       → (HasNamed more (element_around inside node) → HaveNamed more (named_content inside) → before → after)
       → HaveNamed told (named_content rest) × after
   sibling_put {left = left} {node = node} {inside = inside} {rest = rest} split named next =
-      let parts = parts_named told left node inside rest split.is split.held split.behind named.0 in (
+      let parts = parts_each (HasNamed told) left node inside rest split.is split.held split.behind named.0 in (
         parts.2,
         next (element_later told more grows (element_around inside node) parts.0)
             (nodes_later told more grows (named_content inside) parts.1) named.1,
@@ -109,7 +114,7 @@ pub place_put : {doc : Doc} {place : ℕ} {node : Node} {inside : Siblings} {aft
     → IsElementAt doc place node inside → HaveNamed told (named_tree doc)
     → (HasNamed told (element_around inside node) → HaveNamed told (named_content inside) → after) → after
 place_put {doc} {place} {node} {inside} told is all next =
-    next (node_named told doc place node inside is all) (inside_named told doc place node inside is all)
+    next (node_each (HasNamed told) doc place node inside is all) (inside_each (HasNamed told) doc place node inside is all)
 
 pub place_text : (told : List Told) (doc : Doc) (node : Node) (result : Result (Unit {0}) (Stop TooMany))
     (a b : Resolver)

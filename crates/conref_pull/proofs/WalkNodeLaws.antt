@@ -13,11 +13,11 @@ use Rattle.readers.specs.Named.{name_at, under_names, reused_in}
 use Rattle.readers.specs.Setting.{Stand}
 use Rattle.readers.specs.Told.{Told}
 use Rattle.conref_targets.specs.Asking.{AreAmong, element_around}
-use Rattle.conref_targets.specs.Hrefs.{HaveNamed}
+use Rattle.conref_targets.specs.Hrefs.{HasNamed, HaveNamed}
 use Rattle.conref_targets.specs.Origin.{named_content}
 use Rattle.conref_targets.specs.Parts.{AreSiblingsAt, has_first, first_alone}
 use Rattle.conref_targets.specs.declared.tables.PlaceTables.{PlaceTables}
-use Rattle.conref_targets.proofs.HrefDocLaws.{behind_text_named}
+use Rattle.conref_targets.proofs.EachLaws.{text_each}
 use Rattle.conref_targets.proofs.OriginLaws.{text_among, text_is}
 use Rattle.conref_pull.specs.PutHrefs.{PutNamed}
 use Rattle.conref_pull.specs.Putting.{IsPut, Puts}
@@ -66,7 +66,7 @@ module _ (left rest : Siblings) (node : Node)
         → IsPut (text_made node.text (name_at (doc_of_siblings left).origins node.origin)) a b
         → HaveNamed old (named_content left) × PutNamed new a → HaveNamed old (named_content rest) × PutNamed new b
     text_put {a} {b} old new put before = (
-      behind_text_named old left rest node.text node.origin node.line is behind before.0,
+      text_each (HasNamed old) left rest node.text node.origin node.line is behind before.0,
       more_put new (text_made node.text (name_at (doc_of_siblings left).origins node.origin)) a b put tt before.1,
     )
 

@@ -2,6 +2,7 @@ pub mod Accepting
 pub mod Count
 pub mod Linked
 pub mod Merging
+pub mod Met
 pub mod PutHrefs
 pub mod Putting
 pub mod Resolved

@@ -45,8 +45,9 @@ among_made here is_range around nodes =
 -- in the place of an element
 abbrev pub whole_made : Here → Bool → ContentAround → Element → Written → Made
 whole_made here is_range around element inside =
-    element_resolved (resolved_from here.steps here.setting) here.setting is_range around here.depth here.path element
-    inside (λ shown. among_made (inside_of here) false shown inside)
+    element_resolved (resolved_from here.steps here.setting) here.setting
+    (record { is_range = is_range; around = around; depth = here.depth; path = here.path }) element inside
+    (λ shown. among_made (inside_of here) false shown inside)
 
 -- in the place of an element that stays, for which these names are declared, with this around what it holds
 abbrev pub stays_made : Here → Bool → List (List ℕ) → ContentAround → Element → Written → Made

@@ -13,6 +13,7 @@ ghost use Rattle.readers.specs.Named as named_spec;
 ghost use Rattle.readers.specs.Told.{Agrees, Told};
 ghost use Rattle.conref_targets.specs.Asking.{Asks};
 ghost use Rattle.conref_targets.specs.Hrefs.{HaveNamed};
+ghost use Rattle.conref_targets.specs.PageAsking.{AsksPage, IsAt, PageAt, page_at};
 ghost use Rattle.conref_targets.specs.Rules.{AreRules, HasAll, ditavals};
 ghost use Rattle.conref_targets.specs.ResolveInput.{documents_in};
 ghost use Rattle.conref_targets.specs.Tables.{AreTables};
@@ -54,6 +55,9 @@ pub fn resolve<A: Asker>(
     ensures asks { AsksOnly asking_spec.of_content (context.now.page.doc
         ∷ ditavals context.now.val context.now.page.filters) (A.told asker.old)
         (A.told asker.new) }
+    ensures only { (world : World) → Agrees world (A.told asker.new)
+        → OnOk result (AsksPage (page_at world (A.stand asker.old).setting context.now.val
+        context.now.page) (A.told asker.old) (A.told asker.new)) }
     ensures given { IfOk result (λ resolved. (roots : List (List ℕ)) → AreAllowed roots
         (A.told asker.new) (named_spec.linked_in (made_spec.resolved_tree resolved))) }
     ensures grows { Grows (A.told asker.old) (A.told asker.new) }
@@ -82,6 +86,9 @@ pub fn resolve_page<A: Asker>(
     ensures asks { AsksOnly asking_spec.of_content (context.now.page.doc
         ∷ ditavals context.now.val context.now.page.filters) (A.told asker.old)
         (A.told asker.new) }
+    ensures only { (world : World) → Agrees world (A.told asker.new)
+        → OnOk result (AsksPage (page_at world (A.stand asker.old).setting context.now.val
+        context.now.page) (A.told asker.old) (A.told asker.new)) }
     ensures given { IfOk result (λ resolved. (roots : List (List ℕ)) → AreAllowed roots
         (A.told asker.new) (named_spec.linked_in (made_spec.resolved_tree resolved))) }
     ensures grows { Grows (A.told asker.old) (A.told asker.new) }
@@ -116,6 +123,9 @@ pub fn resolve_with<A: Asker>(
     ensures asks { AsksOnly asking_spec.of_content (context.now.page.doc
         ∷ ditavals context.now.val context.now.page.filters) (A.told asker.old)
         (A.told asker.new) }
+    ensures only { (world : World) → Agrees world (A.told asker.new)
+        → OnOk result (AsksPage (page_at world (A.stand asker.old).setting context.now.val
+        context.now.page) (A.told asker.old) (A.told asker.new)) }
     ensures given { IfOk result (λ resolved. (roots : List (List ℕ)) → AreAllowed roots
         (A.told asker.new) (named_spec.linked_in (made_spec.resolved_tree resolved))) }
     ensures grows { Grows (A.told asker.old) (A.told asker.new) }
@@ -165,6 +175,9 @@ pub fn resolve_page_with<A: Asker>(
     ensures asks { AsksOnly asking_spec.of_content (context.now.page.doc
         ∷ ditavals context.now.val context.now.page.filters) (A.told asker.old)
         (A.told asker.new) }
+    ensures only { (world : World) → Agrees world (A.told asker.new)
+        → OnOk result (AsksPage (page_at world (A.stand asker.old).setting context.now.val
+        context.now.page) (A.told asker.old) (A.told asker.new)) }
     ensures given { IfOk result (λ resolved. (roots : List (List ℕ)) → AreAllowed roots
         (A.told asker.new) (named_spec.linked_in (made_spec.resolved_tree resolved))) }
     ensures grows { Grows (A.told asker.old) (A.told asker.new) }
@@ -203,6 +216,9 @@ fn finish<A: Asker>(
     ensures stand { A.stand asker.new ≡ A.stand asker.old }
     ensures asks { (nodes : List PlanNode) → Asks nodes (context.now.page.doc ∷ [])
         (A.told asker.old) (A.told asker.new) }
+    ensures only { (page : PageAt) → Agrees page.world (A.told asker.new)
+        → IsAt page (A.stand asker.old) context.now.page
+        → OnOk result (AsksPage page (A.told asker.old) (A.told asker.new)) }
     ensures grows { Grows (A.told asker.old) (A.told asker.new) }
 {
     match done {
@@ -228,6 +244,9 @@ fn stopped<A: Asker>(
     ensures stand { A.stand asker.new ≡ A.stand asker.old }
     ensures asks { (nodes : List PlanNode) → Asks nodes (context.now.page.doc ∷ [])
         (A.told asker.old) (A.told asker.new) }
+    ensures only { (page : PageAt) → Agrees page.world (A.told asker.new)
+        → IsAt page (A.stand asker.old) context.now.page
+        → OnOk result (AsksPage page (A.told asker.old) (A.told asker.new)) }
     ensures grows { Grows (A.told asker.old) (A.told asker.new) }
 {
     match stop {
@@ -253,6 +272,9 @@ fn too_many<A: Asker>(alloc: Global, asker: &mut A, context: &Context) -> Result
     ensures stand { A.stand asker.new ≡ A.stand asker.old }
     ensures asks { (nodes : List PlanNode) → Asks nodes (context.now.page.doc ∷ [])
         (A.told asker.old) (A.told asker.new) }
+    ensures only { (page : PageAt) → Agrees page.world (A.told asker.new)
+        → IsAt page (A.stand asker.old) context.now.page
+        → OnOk result (AsksPage page (A.told asker.old) (A.told asker.new)) }
     ensures grows { Grows (A.told asker.old) (A.told asker.new) }
 {
     let mut faults: List<Fault> = List::new(alloc);

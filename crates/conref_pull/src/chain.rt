@@ -23,10 +23,13 @@ impl TakenTarget {
     ghost use Rattle.std.specs.Prelude.{◌≡◌, List, Some, IfOk, IfSome};
     ghost use Rattle.std.specs.Arc.{arc_value};
     ghost use Rattle.readers.specs.Told.{Told};
+    ghost use Rattle.conref_targets.specs.Each.{OfWhole};
     ghost use Rattle.conref_targets.specs.Hrefs.{WholeNamed};
     ghost use Rattle.conref_targets.specs.Origin as origin_spec;
     ghost use Rattle.conref_targets.specs.Asking as asking_spec;
+    ghost use Rattle.conref_targets.specs.PageAsking.{IsMet, PageAt};
     ghost use Rattle.conref_pull.specs.Linked as linked_spec;
+    ghost use Rattle.conref_pull.specs.Met.{LinkMet};
     ghost use Rattle.conref_pull.specs.Step.{Taken, declared_inside};
 
     // The target, and what it holds.
@@ -38,6 +41,8 @@ impl TakenTarget {
             (asking_spec.reused_of_doc (arc_value self.now.doc))) }
         ensures hrefs { (told : List Told) → linked_spec.IsGivenTo told self.now
             → IfSome result (WholeNamed told) }
+        ensures met { (page : PageAt) → LinkMet page self.now
+            → IfSome result (OfWhole (IsMet page)) }
     {
         whole_at(&self.doc, self.place)
     }
@@ -70,10 +75,13 @@ impl TakenTargets {
     ghost use Rattle.std.specs.Prelude.{◌≡◌, ◌∷◌, ℕ, List, Some, IfOk, IfSome};
     ghost use Rattle.conref_spec.specs.Content.{Place};
     ghost use Rattle.readers.specs.Told.{Told};
+    ghost use Rattle.conref_targets.specs.Each.{OfWhole};
     ghost use Rattle.conref_targets.specs.Hrefs.{WholeNamed};
     ghost use Rattle.conref_targets.specs.Origin as origin_spec;
     ghost use Rattle.conref_targets.specs.Asking as asking_spec;
+    ghost use Rattle.conref_targets.specs.PageAsking.{IsMet, PageAt};
     ghost use Rattle.conref_pull.specs.Linked as linked_spec;
+    ghost use Rattle.conref_pull.specs.Met.{LinksMet};
     ghost use Rattle.conref_pull.specs.Step.{Taken, declared_inside};
 
     // The farthest target, and what it holds.
@@ -86,6 +94,8 @@ impl TakenTargets {
             (asking_spec.reused_of_whole whole)) }
         ensures hrefs { (told : List Told) → linked_spec.AreGivenTo told self.now.links.items
             → IfSome result (WholeNamed told) }
+        ensures met { (page : PageAt) → LinksMet page self.now.links.items
+            → IfSome result (OfWhole (IsMet page)) }
     {
         match self.links.split_first() {
             None => None,
@@ -118,11 +128,13 @@ impl<'a> Resolver<'a> {
     ghost use Rattle.readers.specs.Named.{reused_by};
     ghost use Rattle.readers.specs.Told.{Agrees};
     ghost use Rattle.conref_targets.specs.Asking.{Asks, IsGivenIn, names_of_value};
+    ghost use Rattle.conref_targets.specs.PageAsking.{FindsOnly, IsAt, IsMet, PageAt};
     ghost use Rattle.conref_targets.specs.Tables.{AreTables};
     ghost use Rattle.conref_targets.specs.ResolveInput as setting_spec;
     ghost use Rattle.conref_targets.specs.Sought as sought_spec;
     ghost use Rattle.conref_pull.specs.Linked.{AreGivenTo, IsGivenIf};
     ghost use Rattle.conref_pull.specs.Linked as linked_spec;
+    ghost use Rattle.conref_pull.specs.Met.{FollowsOnly, LinksMet, TakesOnly};
     ghost use Rattle.conref_pull.specs.Putting.{IsSameMaker};
     ghost use Rattle.conref_pull.specs.Step as step_spec;
     ghost use Rattle.conref_pull.specs.State as state_spec;
@@ -157,6 +169,11 @@ impl<'a> Resolver<'a> {
             → Asks nodes (self.old.context.now.page.doc
             ∷ reused_by (walk_spec.element_of origin.now element.now)) (A.told asker.old)
             (A.told asker.new) }
+        ensures only { (page : PageAt) → Agrees page.world (A.told asker.new)
+            → IsAt page (A.stand asker.old) self.old.context.now.page
+            → IsMet page (walk_spec.element_of origin.now element.now)
+            → IfOk result (λ chain. FollowsOnly page (A.told asker.old) (A.told asker.new)
+            chain.links.items) }
         ensures given { IfOk result (λ chain. AreGivenTo (A.told asker.new) chain.links.items) }
         ensures page { OnOk result (state_spec.IsSamePage self.old self.new) }
         ensures maker { OnOk result (IsSameMaker self.old self.new) }
@@ -198,6 +215,12 @@ impl<'a> Resolver<'a> {
             → Asks nodes (self.old.context.now.page.doc
             ∷ reused_by (walk_spec.element_of origin.now element.now)) (A.told asker.old)
             (A.told asker.new) }
+        ensures only { (page : PageAt) → Agrees page.world (A.told asker.new)
+            → IsAt page (A.stand asker.old) self.old.context.now.page
+            → IsMet page (walk_spec.element_of origin.now element.now)
+            → LinksMet page taken.old.items
+            → OnOk result (FollowsOnly page (A.told asker.old) (A.told asker.new)
+            taken.new.items) }
         ensures given { AreGivenTo (A.told asker.old) taken.old.items
             → OnOk result (AreGivenTo (A.told asker.new) taken.new.items) }
         ensures page { OnOk result (state_spec.IsSamePage self.old self.new) }
@@ -243,6 +266,10 @@ impl<'a> Resolver<'a> {
             → Asks nodes (self.old.context.now.page.doc
             ∷ reused_by (walk_spec.element_of origin.now element.now)) (A.told asker.old)
             (A.told asker.new) }
+        ensures only { (page : PageAt) → Agrees page.world (A.told asker.new)
+            → IsAt page (A.stand asker.old) self.old.context.now.page
+            → IsMet page (walk_spec.element_of origin.now element.now)
+            → IfOk result (λ link. TakesOnly page (A.told asker.old) (A.told asker.new) link) }
         ensures given { IfOk result (λ link. IsGivenIf (A.told asker.new) link) }
         ensures page { OnOk result (state_spec.IsSamePage self.old self.new) }
         ensures maker { OnOk result (IsSameMaker self.old self.new) }
@@ -279,6 +306,12 @@ impl<'a> Resolver<'a> {
         ensures asks { (nodes : List PlanNode) → (A.stand asker.old).setting.nodes ≡ nodes
             → Asks nodes (self.old.context.now.page.doc ∷ names_of_value origin.now
             (option_copied sought.entry.conref)) (A.told asker.old) (A.told asker.new) }
+        ensures only { (page : PageAt) → Agrees page.world (A.told asker.new)
+            → IsAt page (A.stand asker.old) self.old.context.now.page
+            → IsMet page (walk_spec.element_of origin.now element.now)
+            → sought_spec.sought_shown sought.entry
+            ≡ content_spec.sought_by (walk_spec.element_of origin.now element.now)
+            → IfOk result (λ found. FindsOnly page (A.told asker.old) (A.told asker.new) found) }
         ensures given { IfOk result (λ found. IsGivenIn (A.told asker.new) found) }
         ensures page { OnOk result (state_spec.IsSamePage self.old self.new) }
         ensures maker { OnOk result (IsSameMaker self.old self.new) }

@@ -13,6 +13,7 @@ mod merge;
 mod place;
 mod resolver;
 mod tables;
+mod topics;
 mod walk;
 
 pub use calls::{resolve, resolve_page, resolve_page_with, resolve_with};

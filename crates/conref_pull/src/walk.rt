@@ -1,14 +1,11 @@
 //! The walk over nodes that are resolved.
 
-ghost use Rattle.std.specs.Prelude.{◌≡◌, ℕ, List, true, unwrap_or};
-ghost use Rattle.doc_elements.specs.Walk as walk_spec;
-ghost use Rattle.map_spec.specs.Elements as elements_spec;
-ghost use Rattle.map_spec.specs.Written.{Element};
-ghost use Rattle.conref_spec.specs.Content as content_spec;
+ghost use Rattle.std.specs.Prelude.{◌≡◌, unwrap_or};
 
 use crate::chain::{TakenTarget, TakenTargets};
-use crate::merge::{Merged, USE_TARGET, merged_with, own_id};
+use crate::merge::{Merged, merged_with};
 use crate::resolver::{At, Resolver, TooMany};
+use crate::topics::{topic_seen, topic_taken, topic_within};
 use conref_targets::{PlaceTables, Sought, node_of, origin_of};
 use dita_doc::{Doc, First, List, Name, Node, Siblings, Stop, Text};
 use ditaval_rules::own_names;
@@ -33,10 +30,12 @@ impl<'a> Resolver<'a> {
     ghost use Rattle.conref_targets.specs.Asking.{AreGiven, Asks, element_around, reused_of_doc, reused_of_node};
     ghost use Rattle.conref_targets.specs.Hrefs.{HasNamed, HaveNamed};
     ghost use Rattle.conref_targets.specs.Origin.{named_content};
+    ghost use Rattle.conref_targets.specs.PageAsking.{AreMet, AsksPage, IsAt, IsMet, PageAt};
     ghost use Rattle.conref_targets.specs.Parts as parts_spec;
     ghost use Rattle.conref_pull.specs.Linked.{AreGivenTo, IsGivenTo};
     ghost use Rattle.conref_pull.specs.PutHrefs.{PutNamed};
     ghost use Rattle.conref_pull.specs.Linked as linked_spec;
+    ghost use Rattle.conref_pull.specs.Met.{LinkMet, LinksMet, UnlessOut};
     ghost use Rattle.conref_pull.specs.Step as step_spec;
     ghost use Rattle.conref_pull.specs.Step.{Taken};
     ghost use Rattle.conref_pull.specs.Walking.{Here, IsReady, Walks, around_of, seen_by};
@@ -61,6 +60,10 @@ impl<'a> Resolver<'a> {
         ensures asks { (nodes : List PlanNode) → (A.stand asker.old).setting.nodes ≡ nodes
             → Asks nodes (self.old.context.now.page.doc ∷ reused_in (named_content siblings.entry)) (A.told asker.old)
             (A.told asker.new) }
+        ensures only { (page : PageAt) → Agrees page.world (A.told asker.new)
+            → IsAt page (A.stand asker.old) self.old.context.now.page
+            → AreMet page (named_content siblings.entry)
+            → UnlessOut result (AsksPage page (A.told asker.old) (A.told asker.new)) }
         ensures hrefs { HaveNamed (A.told asker.old) (named_content siblings.entry)
             → PutNamed (A.told asker.old) self.old
             → OnOk result (PutNamed (A.told asker.new) self.new) }
@@ -109,6 +112,11 @@ impl<'a> Resolver<'a> {
         ensures asks { (nodes : List PlanNode) → (A.stand asker.old).setting.nodes ≡ nodes
             → Asks nodes (self.old.context.now.page.doc ∷ reused_of_node inside.entry node.now) (A.told asker.old)
             (A.told asker.new) }
+        ensures only { (page : PageAt) → Agrees page.world (A.told asker.new)
+            → IsAt page (A.stand asker.old) self.old.context.now.page
+            → IsMet page (element_around inside.entry node.now)
+            → AreMet page (named_content inside.entry)
+            → UnlessOut result (AsksPage page (A.told asker.old) (A.told asker.new)) }
         ensures hrefs { HasNamed (A.told asker.old) (element_around inside.entry node.now)
             → HaveNamed (A.told asker.old) (named_content inside.entry)
             → PutNamed (A.told asker.old) self.old
@@ -145,6 +153,11 @@ impl<'a> Resolver<'a> {
         ensures asks { (nodes : List PlanNode) → (A.stand asker.old).setting.nodes ≡ nodes
             → Asks nodes (self.old.context.now.page.doc ∷ reused_of_node inside.entry node.now) (A.told asker.old)
             (A.told asker.new) }
+        ensures only { (page : PageAt) → Agrees page.world (A.told asker.new)
+            → IsAt page (A.stand asker.old) self.old.context.now.page
+            → IsMet page (element_around inside.entry node.now)
+            → AreMet page (named_content inside.entry)
+            → UnlessOut result (AsksPage page (A.told asker.old) (A.told asker.new)) }
         ensures hrefs { HasNamed (A.told asker.old) (element_around inside.entry node.now)
             → HaveNamed (A.told asker.old) (named_content inside.entry)
             → PutNamed (A.told asker.old) self.old
@@ -194,6 +207,10 @@ impl<'a> Resolver<'a> {
         ensures asks { (nodes : List PlanNode) → (A.stand asker.old).setting.nodes ≡ nodes
             → Asks nodes (self.old.context.now.page.doc ∷ reused_in (named_content inside.entry)) (A.told asker.old)
             (A.told asker.new) }
+        ensures only { (page : PageAt) → Agrees page.world (A.told asker.new)
+            → IsAt page (A.stand asker.old) self.old.context.now.page
+            → AreMet page (named_content inside.entry)
+            → UnlessOut result (AsksPage page (A.told asker.old) (A.told asker.new)) }
         ensures hrefs { HasNamed (A.told asker.old) (walk_spec.element_of origin.now node.now)
             → HaveNamed (A.told asker.old) (named_content inside.entry)
             → PutNamed (A.told asker.old) self.old
@@ -249,6 +266,10 @@ impl<'a> Resolver<'a> {
             → AreGivenTo (A.told asker.old) chain.now.links.items
             → Asks nodes (self.old.context.now.page.doc ∷ []) (A.told asker.old)
             (A.told asker.new) }
+        ensures only { (page : PageAt) → Agrees page.world (A.told asker.new)
+            → IsAt page (A.stand asker.old) self.old.context.now.page
+            → LinksMet page chain.now.links.items
+            → UnlessOut result (AsksPage page (A.told asker.old) (A.told asker.new)) }
         ensures hrefs { HasNamed (A.told asker.old) (walk_spec.element_of origin.now node.now)
             → AreGivenTo (A.told asker.old) chain.now.links.items
             → PutNamed (A.told asker.old) self.old
@@ -309,6 +330,10 @@ impl<'a> Resolver<'a> {
             → AreGivenTo (A.told asker.old) chain.now.links.items
             → Asks nodes (self.old.context.now.page.doc ∷ []) (A.told asker.old)
             (A.told asker.new) }
+        ensures only { (page : PageAt) → Agrees page.world (A.told asker.new)
+            → IsAt page (A.stand asker.old) self.old.context.now.page
+            → LinksMet page chain.now.links.items
+            → UnlessOut result (AsksPage page (A.told asker.old) (A.told asker.new)) }
         ensures hrefs { AreGivenTo (A.told asker.old) chain.now.links.items
             → PutNamed (A.told asker.old) self.old
             → OnOk result (PutNamed (A.told asker.new) self.new) }
@@ -352,6 +377,10 @@ impl<'a> Resolver<'a> {
             → IsGivenTo (A.told asker.old) link.now
             → Asks nodes (self.old.context.now.page.doc ∷ []) (A.told asker.old)
             (A.told asker.new) }
+        ensures only { (page : PageAt) → Agrees page.world (A.told asker.new)
+            → IsAt page (A.stand asker.old) self.old.context.now.page
+            → LinkMet page link.now
+            → UnlessOut result (AsksPage page (A.told asker.old) (A.told asker.new)) }
         ensures hrefs { IsGivenTo (A.told asker.old) link.now → PutNamed (A.told asker.old) self.old
             → OnOk result (PutNamed (A.told asker.new) self.new) }
         ensures page { OnOk result (state_spec.IsSamePage self.old self.new) }
@@ -400,6 +429,10 @@ impl<'a> Resolver<'a> {
             → AreGiven (A.told asker.old) (reused_of_doc doc.now)
             → Asks nodes (self.old.context.now.page.doc ∷ []) (A.told asker.old)
             (A.told asker.new) }
+        ensures only { (page : PageAt) → Agrees page.world (A.told asker.new)
+            → IsAt page (A.stand asker.old) self.old.context.now.page
+            → AreMet page (named_spec.named_tree doc.now)
+            → UnlessOut result (AsksPage page (A.told asker.old) (A.told asker.new)) }
         ensures hrefs { HaveNamed (A.told asker.old) (named_spec.named_tree doc.now)
             → PutNamed (A.told asker.old) self.old
             → OnOk result (PutNamed (A.told asker.new) self.new) }
@@ -425,48 +458,4 @@ fn declared_for<'b>(own: &'b Option<List<Text>>, around: &'b List<Text>) -> &'b 
         Some(names) => names,
         None => around,
     }
-}
-
-// The id of the nearest topic for the reference of an element: an element that leaves its id to its
-// target has none.
-fn topic_seen<'b>(node: &'b Node, at: At<'b>) -> &'b str
-    ensures { (name : List ℕ) → result.now ≡ content_spec.topic_before_merge at.entry.is_range
-        (walk_spec.element_of name node.now) at.entry.topic.now }
-{
-    let topic = topic_within(node, at);
-    if topic == USE_TARGET && node.has_type("topic/topic") {
-        return "";
-    }
-    topic
-}
-
-// The id of the nearest topic for what an element holds; an element of a range has none.
-fn topic_within<'b>(node: &'b Node, at: At<'b>) -> &'b str
-    ensures { (name : List ℕ) → result.now ≡ content_spec.topic_after_merge at.entry.is_range
-        (walk_spec.element_of name node.now) (content_spec.topic_before_merge at.entry.is_range
-        (walk_spec.element_of name node.now) at.entry.topic.now) }
-{
-    if !node.has_type("topic/topic") {
-        return at.topic;
-    }
-    if at.is_range {
-        return "";
-    }
-    node.value_of("id").unwrap_or("")
-}
-
-// The id of the nearest topic for what an element takes, where its reference saw this one.
-fn topic_taken<'b>(node: &'b Node, topic: &'b str, is_range: bool) -> &'b str
-    ensures { (name : List ℕ) (target : Element)
-        → elements_spec.has_types (walk_spec.element_of name node.now) ≡ true
-        → result.now ≡ content_spec.topic_after_merge is_range (content_spec.merged_element
-        (walk_spec.element_of name node.now) target) topic.now }
-{
-    if is_range {
-        return topic;
-    }
-    if !node.has_type("topic/topic") {
-        return topic;
-    }
-    own_id(node)
 }

@@ -23,7 +23,8 @@ pub same_target : (one other : code.PushTarget)
 same_target one other = sym (tied_then (slice_cmp nat_cmp one.doc other.doc) (nat_cmp one.place other.place))
     ∙ ap (λ b. b && is_eq (nat_cmp one.place other.place))
     (sym (texts_ties one.doc other.doc) ∙ text_swaps one.doc other.doc)
-    ∙ ap (λ b. bytes_eq other.doc one.doc && b) (unsigned_tied one.place other.place ∙ number_swaps one.place other.place)
+    ∙ ap (λ b. bytes_eq other.doc one.doc && b)
+    (unsigned_tied one.place other.place ∙ number_swaps one.place other.place)
 
 never : (into : PushInto) (made : List PushInto) → is_replace into.push.kind ≡ false
     → list_any (is_replaced_by into) made ≡ false

@@ -379,14 +379,22 @@ made_of resolve setting is_range here depth own found = if found.has_taken
     found.content))
     else element_made is_range here.declared found.element (own (around_within is_range found.element here))
 
+-- where an element is resolved: whether it is one of a range, what is around it, how deep it stands, and the path of
+-- the places that led to it
+pub record Position : Type 0 where
+  pub is_range : Bool
+  pub around : ContentAround
+  pub depth : ℕ
+  pub path : List Place
+
 -- `own` resolves the content of the element itself, for what is around that
-abbrev pub element_resolved : Resolve → ResolveInput → Bool → ContentAround → ℕ → List Place → Element → Written → (ContentAround → Made) → Made
-element_resolved resolve setting is_range around depth path element inside own =
-    let here = around_for is_range element around in
-    let found = followed setting here.topic depth path element inside in
+abbrev pub element_resolved : Resolve → ResolveInput → Position → Element → Written → (ContentAround → Made) → Made
+element_resolved resolve setting at element inside own =
+    let here = around_for at.is_range element at.around in
+    let found = followed setting here.topic at.depth at.path element inside in
     made_with (group_faults here.declared element) (if goes setting here.declared element then nothing_made
-    else made_with found.faults (made_beside (made_of resolve setting is_range here depth own found)
-    (ranges_made resolve around depth found.ranges)))
+    else made_with found.faults (made_beside (made_of resolve setting at.is_range here at.depth own found)
+    (ranges_made resolve at.around at.depth found.ranges)))
 
 -- for a text no names are declared
 abbrev pub text_made : List ℕ → List ℕ → Made
@@ -397,7 +405,8 @@ resolved_among resolve setting is_range around depth path End = nothing_made
 resolved_among resolve setting is_range around depth path (Chars text doc rest) =
     made_beside (text_made text doc) (resolved_among resolve setting is_range around depth path rest)
 resolved_among resolve setting is_range around depth path (Node element inside rest) = made_beside
-    (element_resolved resolve setting is_range around depth path element inside
+    (element_resolved resolve setting
+    (record { is_range = is_range; around = around; depth = depth; path = path }) element inside
     (λ here. resolved_among resolve setting false here (depth + 1) path inside))
     (resolved_among resolve setting is_range around depth path rest)
 

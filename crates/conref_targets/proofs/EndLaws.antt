@@ -6,8 +6,9 @@ use Rattle.dita_doc.specs.declared.doc.Doc.{Doc}
 use Rattle.dita_doc.specs.declared.doc.Node.{Node}
 use Rattle.dita_doc.proofs.TreeLaws.{length_nodes}
 use Rattle.readers.specs.Named.{under_names, named_tree}
+use Rattle.readers.proofs.GivenLaws.{size_named}
 use Rattle.conref_targets.specs.Parts.{AreSiblingsAt, ends_from, ends_of, past, past_text, within}
-use Rattle.conref_targets.proofs.PartLaws.{element_node_there, size_named, text_there}
+use Rattle.conref_targets.proofs.PartLaws.{element_node_there, text_there}
 
 -- the siblings that are left stand at a place, and their ends are all that is to be put
 pub record Left (doc : Doc) (all ends : List ℕ) (to place counter : ℕ) : Type 0 where

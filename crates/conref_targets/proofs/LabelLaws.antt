@@ -13,10 +13,10 @@ use Rattle.map_spec.specs.Written.{Element, size, written_in}
 use Rattle.map_spec.specs.Places.{Standing, TopicAt, first_topic, is_element_meant, is_topic_meant, is_topic_there, is_topic_with, standing_from, target_among, topic_inside}
 use Rattle.map_lemmas.proofs.TreeLaws.{size_written}
 use Rattle.readers.specs.Named.{name_at, under_names}
+use Rattle.readers.proofs.GivenLaws.{size_named}
 use Rattle.topic_find.specs.Table.{IsTableFor, IsTableOf, has_topic_around}
 use Rattle.topic_find.specs.Walk.{place_of}
 use Rattle.topic_find.specs.declared.table.TargetTable.{TargetTable}
-use Rattle.conref_targets.proofs.PartLaws.{size_named}
 
 record IsLike (one other : Standing) : Type 0 where
   pub place : one.place ≡ other.place

@@ -1,14 +1,15 @@
 pub mod AskingLaws
+pub mod EachLaws
 pub mod EndLaws
 pub mod FileLaws
 pub mod FindLaws
-pub mod HrefDocLaws
 pub mod HrefGivenLaws
 pub mod JudgeLaws
 pub mod KnownLaws
 pub mod LabelLaws
 pub mod NameLaws
 pub mod OriginLaws
+pub mod PageAskingLaws
 pub mod PartLaws
 pub mod RangeEndLaws
 pub mod RangeLaws

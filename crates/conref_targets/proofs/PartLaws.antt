@@ -6,16 +6,7 @@ use Rattle.dita_doc.specs.Tree.{ArePreorder, Content, End, Chars, Element, chars
 use Rattle.dita_doc.specs.declared.doc.Attribute.{Attribute}
 use Rattle.dita_doc.specs.declared.doc.Node.{Node}
 use Rattle.dita_doc.proofs.TreeLaws.{length_nodes}
-use Rattle.map_spec.specs.Written.{size}
-use Rattle.readers.specs.Named.{under_names}
 use Rattle.conref_targets.specs.Parts.{AreSiblingsAt, whole, past_text, within, past}
-
--- as many nodes as the tree has
-pub size_named : (names : List (List ℕ)) (part : Content) → size (under_names names part) ≡ size_of part
-size_named names End = refl
-size_named names (Chars text origin line rest) = ap (λ n. 1 + n) (size_named names rest)
-size_named names (Element name attributes origin line inside rest) =
-    let held = size_named names inside in let behind = size_named names rest in omega arith
 
 -- The nodes
 

@@ -8,8 +8,9 @@ use Rattle.doc_elements.specs.Walk.{element_of}
 use Rattle.map_spec.specs.Written.{size}
 use Rattle.conref_spec.specs.Content.{has_end_id}
 use Rattle.readers.specs.Named.{name_at, under_names}
+use Rattle.readers.proofs.GivenLaws.{size_named}
 use Rattle.conref_targets.specs.Parts.{AreSiblingsAt, end_place, past, past_text}
-use Rattle.conref_targets.proofs.PartLaws.{element_node_there, size_named, text_there}
+use Rattle.conref_targets.proofs.PartLaws.{element_node_there, text_there}
 
 -- the siblings that are left stand at a place, and the end is sought among them
 pub record Left (doc : Doc) (id : List ℕ) (found : Option ℕ) (to place counter : ℕ) : Type 0 where

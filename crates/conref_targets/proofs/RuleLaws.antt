@@ -4,10 +4,11 @@ use Rattle.std.specs.BTreeMap.{is_at}
 use Rattle.std.specs.Option.{option_and_then, option_to_list}
 use Rattle.std.proofs.Common.{refl, sym, ap, subst, ◌∙◌}
 use Rattle.std.proofs.lemmas.List.{take_more}
+use Rattle.dita_doc.specs.TextOrder.{text_cmp}
 use Rattle.dita_doc.specs.declared.content.Rule.{Rule}
 use Rattle.dita_doc.specs.declared.stop.NoMemory.{NoMemory}
 use Rattle.reader_spec.specs.World.{World}
-use Rattle.conref_targets.specs.Rules.{AreRules, HasAll, HasRead, Keeps, all_kept, kept_under, name_cmp, page_rules, rules_under}
+use Rattle.conref_targets.specs.Rules.{AreRules, HasAll, HasRead, Keeps, all_kept, kept_under, page_rules, rules_under}
 use Rattle.conref_targets.specs.declared.rules.RuleLists.{RuleLists}
 use Rattle.conref_targets.proofs.KnownLaws.{put_found}
 
@@ -64,7 +65,7 @@ read_next old new names at name within is has read =
     (subst (λ n. HasAll new (take at names ++ n ∷ [])) is (read_one_more old new (take at names) name has read))
 
 module _ (old new : RuleLists) (key name : List ℕ) (rules : Option (List Rule)) (same : key ≡ name)
-    (puts : (q : List ℕ) → kept_under new q ≡ cond (is_at (name_cmp key) q) (Some rules) (kept_under old q)) where
+    (puts : (q : List ℕ) → kept_under new q ≡ cond (is_at (text_cmp key) q) (Some rules) (kept_under old q)) where
   -- the rules of a DITAVAL are put under its name
   pub rules_put : (world : World) → rules ≡ rules_under world name → AreRules world old → AreRules world new
   rules_put world is are = record {
@@ -80,7 +81,7 @@ module _ (old new : RuleLists) (key name : List ℕ) (rules : Option (List Rule)
   -- and then they are there, as all that was
   pub rules_there : kept_under new key ≡ Some rules → HasRead new old name
   rules_there put = record {
-    keeps = record { each = λ n has. rw (puts n) (put_some (is_at (name_cmp key) n) (kept_under old n) has) };
+    keeps = record { each = λ n has. rw (puts n) (put_some (is_at (text_cmp key) n) (kept_under old n) has) };
     has = subst (λ n. is_some (kept_under new n) ≡ true) same (rw put refl);
   }
 

@@ -8,9 +8,10 @@ use Rattle.dita_doc.specs.declared.doc.Doc.{Doc}
 use Rattle.map_spec.specs.Written.{Element, Written, size}
 use Rattle.map_spec.specs.Places.{Standing, TopicAt, all_standing, first_topic, is_element_meant, is_topic_there, is_topic_with, standing_from, target_in, topic_inside, topic_meant}
 use Rattle.readers.specs.Named.{name_at, under_names, named_tree}
+use Rattle.readers.proofs.GivenLaws.{size_named}
 use Rattle.conref_targets.specs.Found.{StandsIn}
 use Rattle.conref_targets.specs.Parts.{AreSiblingsAt, whole, past_text, within, past, ends_from, ends_of}
-use Rattle.conref_targets.proofs.PartLaws.{drop_front, drop_more, get_drop, size_named}
+use Rattle.conref_targets.proofs.PartLaws.{drop_front, drop_more, get_drop}
 
 -- Where siblings end
 

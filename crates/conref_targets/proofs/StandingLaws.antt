@@ -13,9 +13,9 @@ use Rattle.doc_elements.specs.Walk.{element_of}
 use Rattle.map_spec.specs.Written as written
 use Rattle.map_spec.specs.Written.{Written, size}
 use Rattle.readers.specs.Named.{name_at, under_names, named_tree}
+use Rattle.readers.proofs.GivenLaws.{size_named}
 use Rattle.conref_targets.specs.Around.{StandsAround, alone_at, around_at, entered, entered_all, nothing_around, within_element}
 use Rattle.conref_targets.specs.Parts.{AreSiblingsAt, first_alone, has_first, past, past_text, whole, within}
-use Rattle.conref_targets.proofs.PartLaws.{size_named}
 
 -- Lists that are cut
 

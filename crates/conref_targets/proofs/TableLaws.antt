@@ -5,6 +5,7 @@ use Rattle.std.specs.BTreeMap.{is_at}
 use Rattle.std.proofs.Common.{refl, sym, ap, subst, ◌∙◌}
 use Rattle.std.specs.declared.alloc.Global.{Global}
 use Rattle.std.specs.declared.vec.Vec.{Vec}
+use Rattle.dita_doc.specs.TextOrder.{text_cmp}
 use Rattle.dita_doc.specs.declared.doc.Doc.{Doc}
 use Rattle.dita_doc.specs.Tree.{Content, End, Chars, Element, size_of, tree_of}
 use Rattle.ditaval_rules.specs.Declarations.{AreDeclarations, Declaring}
@@ -12,14 +13,13 @@ use Rattle.ditaval_rules.specs.Domains.{declared_around as by_tree, declared_by}
 use Rattle.map_spec.specs.Written.{Written}
 use Rattle.conref_spec.specs.Content.{declared_around_written}
 use Rattle.readers.specs.Named.{under_names, named_tree}
+use Rattle.readers.proofs.GivenLaws.{size_named}
 use Rattle.topic_find.specs.Table.{IsTableFor}
 use Rattle.topic_find.specs.declared.table.TargetTable.{TargetTable}
 use Rattle.conref_targets.specs.Parts.{ends_of}
-use Rattle.conref_targets.specs.Rules.{name_cmp}
 use Rattle.conref_targets.specs.Tables.{AreDeclared, AreTables, Documents}
 use Rattle.conref_targets.specs.declared.tables.PlaceTables.{PlaceTables}
 use Rattle.conref_targets.proofs.KnownLaws.{put_found}
-use Rattle.conref_targets.proofs.PartLaws.{size_named}
 
 pub on_ok_always : {T E : Type 0} (result : Result T E) (P : Type 0) → P → OnOk result P
 on_ok_always (Ok value) P holds = holds
@@ -28,8 +28,8 @@ on_ok_always (Err stop) P holds = tt
 -- where a document's elements stand
 pub target_put : (documents : Documents) (old new : PlaceTables) (key name : List ℕ) (table : TargetTable) (doc : Doc)
     → key ≡ name
-    → ((q : List ℕ) → tree.get name_cmp new.targets q
-    ≡ cond (is_at (name_cmp key) q) (Some table) (tree.get name_cmp old.targets q))
+    → ((q : List ℕ) → tree.get text_cmp new.targets q
+    ≡ cond (is_at (text_cmp key) q) (Some table) (tree.get text_cmp old.targets q))
     → new.ends ≡ old.ends → new.declared ≡ old.declared → documents name ≡ Some (named_tree doc)
     → IsTableFor table (named_tree doc)
     → AreTables documents old → AreTables documents new
@@ -39,9 +39,9 @@ target_put documents old new key name table doc same puts ends declared stored i
       old.targets new.targets key table puts (λ other one there all stands. are.targets other one all there stands)
       (λ all stands. (let equal : named_tree doc ≡ all = same_document (sym stored ∙ ap documents (sym same) ∙ stands) in
       subst (IsTableFor table) equal is)) n found at nodes here;
-  ends = λ n found nodes at here. are.ends n found nodes (at ∙ ap (λ kept. tree.get name_cmp kept n) ends) here;
+  ends = λ n found nodes at here. are.ends n found nodes (at ∙ ap (λ kept. tree.get text_cmp kept n) ends) here;
   declared = λ n found nodes at here.
-      are.declared n found nodes (at ∙ ap (λ kept. tree.get name_cmp kept n) declared) here;
+      are.declared n found nodes (at ∙ ap (λ kept. tree.get text_cmp kept n) declared) here;
 }
   where
     same_document : {one other : Written} → ◌≡◌ {A = Option Written} (Some one) (Some other) → one ≡ other
@@ -50,14 +50,14 @@ target_put documents old new key name table doc same puts ends declared stored i
 -- where siblings end
 pub ends_put : (documents : Documents) (old new : PlaceTables) (key name : List ℕ) (ends : Vec ℕ Global) (doc : Doc)
     → key ≡ name
-    → ((q : List ℕ) → tree.get name_cmp new.ends q
-    ≡ cond (is_at (name_cmp key) q) (Some ends) (tree.get name_cmp old.ends q))
+    → ((q : List ℕ) → tree.get text_cmp new.ends q
+    ≡ cond (is_at (text_cmp key) q) (Some ends) (tree.get text_cmp old.ends q))
     → new.targets ≡ old.targets → new.declared ≡ old.declared → documents name ≡ Some (named_tree doc)
     → ends.items ≡ ends_of (named_tree doc)
     → AreTables documents old → AreTables documents new
 ends_put documents old new key name ends doc same puts targets declared stored is are = record {
   targets = λ n found nodes at here.
-      are.targets n found nodes (at ∙ ap (λ kept. tree.get name_cmp kept n) targets) here;
+      are.targets n found nodes (at ∙ ap (λ kept. tree.get text_cmp kept n) targets) here;
   ends = λ n found nodes at here.
       put_found (λ (other : List ℕ) (one : Vec ℕ Global). (all : Written) → documents other ≡ Some all
       → one.items ≡ ends_of all)
@@ -65,7 +65,7 @@ ends_put documents old new key name ends doc same puts targets declared stored i
       (λ all stands. (let equal : named_tree doc ≡ all = same_document (sym stored ∙ ap documents (sym same) ∙ stands) in
       is ∙ ap ends_of equal)) n found at nodes here;
   declared = λ n found nodes at here.
-      are.declared n found nodes (at ∙ ap (λ kept. tree.get name_cmp kept n) declared) here;
+      are.declared n found nodes (at ∙ ap (λ kept. tree.get text_cmp kept n) declared) here;
 }
   where
     same_document : {one other : Written} → ◌≡◌ {A = Option Written} (Some one) (Some other) → one ≡ other
@@ -108,14 +108,14 @@ declared_of doc declared are = record { names = doc.origins; tree = tree_of doc.
 -- the names that are declared in a document
 pub declared_put : (documents : Documents) (old new : PlaceTables) (key name : List ℕ) (declared : List Declaring)
     (doc : Doc) → key ≡ name
-    → ((q : List ℕ) → tree.get name_cmp new.declared q
-    ≡ cond (is_at (name_cmp key) q) (Some declared) (tree.get name_cmp old.declared q))
+    → ((q : List ℕ) → tree.get text_cmp new.declared q
+    ≡ cond (is_at (text_cmp key) q) (Some declared) (tree.get text_cmp old.declared q))
     → new.targets ≡ old.targets → new.ends ≡ old.ends → documents name ≡ Some (named_tree doc)
     → AreDeclared declared (named_tree doc) → AreTables documents old → AreTables documents new
 declared_put documents old new key name declared doc same puts targets ends stored is are = record {
   targets = λ n found nodes at here.
-      are.targets n found nodes (at ∙ ap (λ kept. tree.get name_cmp kept n) targets) here;
-  ends = λ n found nodes at here. are.ends n found nodes (at ∙ ap (λ kept. tree.get name_cmp kept n) ends) here;
+      are.targets n found nodes (at ∙ ap (λ kept. tree.get text_cmp kept n) targets) here;
+  ends = λ n found nodes at here. are.ends n found nodes (at ∙ ap (λ kept. tree.get text_cmp kept n) ends) here;
   declared = λ n found nodes at here.
       put_found (λ (other : List ℕ) (one : List Declaring). (all : Written) → documents other ≡ Some all
       → AreDeclared one all)

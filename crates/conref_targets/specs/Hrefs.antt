@@ -2,11 +2,11 @@
 use Rattle.std.specs.Prelude.{ℕ, List, [], ◌∷◌, IsTrue, bytes_eq, codes}
 use Rattle.std.specs.Option.{option_to_list}
 use Rattle.dita_doc.specs.declared.doc.Attribute.{Attribute}
-use Rattle.map_spec.specs.Written.{Element, Written, End, Chars, Node}
+use Rattle.map_spec.specs.Written.{Element, Written}
 use Rattle.readers.specs.Founded.{AreAllowed}
 use Rattle.readers.specs.Named.{name_joined}
 use Rattle.readers.specs.Told.{Told}
-use Rattle.conref_targets.specs.Origin.{whole_of}
+use Rattle.conref_targets.specs.Each.{OfEach, OfWhole}
 use Rattle.conref_targets.specs.declared.origin.Whole.{Whole}
 
 -- answers that were told name the document that a value names
@@ -25,9 +25,7 @@ HasNamed told element = AreNamed told element.href_doc element.attributes
 
 -- of those of all elements among nodes
 abbrev pub HaveNamed : List Told → Written → Type 0
-HaveNamed told End = Unit {0}
-HaveNamed told (Chars text doc rest) = HaveNamed told rest
-HaveNamed told (Node element inside rest) = HasNamed told element × HaveNamed told inside × HaveNamed told rest
+HaveNamed told nodes = OfEach (HasNamed told) nodes
 
 abbrev pub WholeNamed : List Told → Whole → Type 0
-WholeNamed told whole = HasNamed told (whole_of whole).0 × HaveNamed told (whole_of whole).1
+WholeNamed told whole = OfWhole (HasNamed told) whole

@@ -1,9 +1,11 @@
 pub mod Around
 pub mod Asking
+pub mod Each
 pub mod Found
 pub mod Hrefs
 pub mod Judging
 pub mod Origin
+pub mod PageAsking
 pub mod Parts
 pub mod Ranges
 pub mod Rules

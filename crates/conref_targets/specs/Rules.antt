@@ -2,11 +2,9 @@
 -- of the DITAVALs.
 use Rattle.std.specs.Prelude.{◌≡◌, ◌++◌, ℕ, Bool, true, List, [], ◌∷◌, Option, Some, is_some, option_map}
 use Rattle.std.specs.BTreeMap as tree
-use Rattle.std.specs.Cmp.Lexicographic.{slice_cmp}
 use Rattle.std.specs.List.{flat_map, list_any}
 use Rattle.std.specs.Option.{option_and_then, option_to_list}
-use Rattle.std.specs.Ordering.{nat_cmp}
-use Rattle.std.specs.declared.cmp.Ordering.{Ordering}
+use Rattle.dita_doc.specs.TextOrder.{text_cmp}
 use Rattle.dita_doc.specs.declared.content.Rule.{Rule}
 use Rattle.dita_doc.specs.declared.doc.Attribute.{Attribute}
 use Rattle.ditaval_rules.specs.Verdict.{excluded}
@@ -15,16 +13,13 @@ use Rattle.map_spec.specs.Branches.{ditaval_in}
 use Rattle.reader_spec.specs.World.{World}
 use Rattle.conref_targets.specs.declared.rules.RuleLists.{RuleLists}
 
-abbrev pub name_cmp : List ℕ → List ℕ → Ordering
-name_cmp one other = slice_cmp nat_cmp one other
-
 -- the rules of the DITAVAL of this name; a document that is none has no rules
 abbrev pub rules_under : World → List ℕ → Option (List Rule)
 rules_under world name = option_map (λ (read : RulesRead). read.rules) (ditaval_in world name)
 
 -- what is kept under a name
 abbrev pub kept_under : RuleLists → List ℕ → Option (Option (List Rule))
-kept_under lists name = tree.get name_cmp lists.lists name
+kept_under lists name = tree.get text_cmp lists.lists name
 
 -- each name under which something is kept has the rules of its DITAVAL
 pub record AreRules (world : World) (lists : RuleLists) : Type 0 where

@@ -4,6 +4,7 @@ use Rattle.std.specs.Prelude.{◌≡◌, ℕ, List, Option, Some}
 use Rattle.std.specs.BTreeMap as tree
 use Rattle.std.specs.declared.alloc.Global.{Global}
 use Rattle.std.specs.declared.vec.Vec.{Vec}
+use Rattle.dita_doc.specs.TextOrder.{text_cmp}
 use Rattle.dita_doc.specs.Tree.{Content}
 use Rattle.ditaval_rules.specs.Declarations.{AreDeclarations, Declaring}
 use Rattle.map_spec.specs.Written.{Written}
@@ -11,7 +12,6 @@ use Rattle.readers.specs.Named.{under_names}
 use Rattle.topic_find.specs.Table.{IsTableFor}
 use Rattle.topic_find.specs.declared.table.TargetTable.{TargetTable}
 use Rattle.conref_targets.specs.Parts.{ends_of}
-use Rattle.conref_targets.specs.Rules.{name_cmp}
 use Rattle.conref_targets.specs.declared.tables.PlaceTables.{PlaceTables}
 
 -- the documents that stand under names
@@ -28,9 +28,9 @@ pub record AreDeclared (declared : List Declaring) (nodes : Written) : Type 0 wh
 -- what is kept under a name is that of the document which stands under it
 pub record AreTables (documents : Documents) (tables : PlaceTables) : Type 0 where
   pub targets : (name : List ℕ) (table : TargetTable) (nodes : Written)
-      → Some table ≡ tree.get name_cmp tables.targets name → documents name ≡ Some nodes → IsTableFor table nodes
+      → Some table ≡ tree.get text_cmp tables.targets name → documents name ≡ Some nodes → IsTableFor table nodes
   pub ends : (name : List ℕ) (ends : Vec ℕ Global) (nodes : Written)
-      → Some ends ≡ tree.get name_cmp tables.ends name → documents name ≡ Some nodes → ends.items ≡ ends_of nodes
+      → Some ends ≡ tree.get text_cmp tables.ends name → documents name ≡ Some nodes → ends.items ≡ ends_of nodes
   pub declared : (name : List ℕ) (declared : List Declaring) (nodes : Written)
-      → Some declared ≡ tree.get name_cmp tables.declared name → documents name ≡ Some nodes
+      → Some declared ≡ tree.get text_cmp tables.declared name → documents name ≡ Some nodes
       → AreDeclared declared nodes

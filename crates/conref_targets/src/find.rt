@@ -1,12 +1,13 @@
 //! The targets that references name.
 
-ghost use Rattle.std.specs.Prelude.{◌≡◌, ◌++◌, [], ◌∷◌, List, Some, IfOk, IfSome, OnOk};
+ghost use Rattle.std.specs.Prelude.{◌≡◌, ◌++◌, [], ◌∷◌, ℕ, List, Some, IfOk, IfSome, OnOk, codes};
 ghost use Rattle.std.specs.Arc.{arc_value};
 ghost use Rattle.std.specs.Option.{option_copied, option_to_list, unwrap_or};
 ghost use Rattle.dita_doc.specs.declared.content.Rule.{Rule};
 ghost use Rattle.dita_doc.specs.declared.plan.PageId.{PageId};
 ghost use Rattle.dita_doc.specs.declared.plan.PlanNode.{PlanNode};
 ghost use Rattle.doc_elements.specs.Walk as walk_spec;
+ghost use Rattle.map_spec.specs.Elements as elements_spec;
 ghost use Rattle.map_spec.specs.Keys as keys_spec;
 ghost use Rattle.map_spec.specs.Pages.{local_name};
 ghost use Rattle.map_spec.specs.Written.{Element};
@@ -18,6 +19,7 @@ ghost use Rattle.readers.specs.Named as named_spec;
 ghost use Rattle.readers.specs.Told.{Agrees};
 ghost use Rattle.conref_targets.specs.Asking.{AreGiven, Asks, IsGivenIn, names_of_value};
 ghost use Rattle.conref_targets.specs.Found as found_spec;
+ghost use Rattle.conref_targets.specs.PageAsking.{FindsOnly, IsAt, IsMet, IsOfPage, PageAt};
 ghost use Rattle.conref_targets.specs.ResolveInput as setting_spec;
 ghost use Rattle.conref_targets.specs.Sought as sought_spec;
 ghost use Rattle.conref_targets.specs.Tables.{AreTables, Documents};
@@ -75,6 +77,12 @@ pub fn find_referenced<'b, A: Asker>(
     ensures asks { (nodes : List PlanNode) → (A.stand asker.old).setting.nodes ≡ nodes
         → Asks nodes (context.now.page.doc ∷ names_of_value origin.now
         (option_copied sought.entry.conref)) (A.told asker.old) (A.told asker.new) }
+    ensures only { (page : PageAt) → Agrees page.world (A.told asker.new)
+        → IsAt page (A.stand asker.old) context.now.page
+        → IsMet page (walk_spec.element_of origin.now element.now)
+        → sought_spec.sought_shown sought.entry
+        ≡ content_spec.sought_by (walk_spec.element_of origin.now element.now)
+        → IfOk result (λ found. FindsOnly page (A.told asker.old) (A.told asker.new) found) }
     ensures given { IfOk result (λ found. IsGivenIn (A.told asker.new) found) }
     ensures stand { A.stand asker.new ≡ A.stand asker.old }
     ensures grows { Grows (A.told asker.old) (A.told asker.new) }
@@ -133,6 +141,10 @@ fn find_by_key<'b, A: Asker>(
         faults.old faults.new places.new keyed) }
     ensures asks { (nodes : List PlanNode) → (A.stand asker.old).setting.nodes ≡ nodes
         → Asks nodes [] (A.told asker.old) (A.told asker.new) }
+    ensures only { (page : PageAt) (element : Element) → Agrees page.world (A.told asker.new)
+        → IsAt page (A.stand asker.old) context.now.page → IsMet page element
+        → option_copied conkeyref.entry ≡ elements_spec.attribute (codes "conkeyref") element
+        → IfOk result (λ keyed. FindsOnly page (A.told asker.old) (A.told asker.new) keyed.found) }
     ensures given { IfOk result (λ keyed. IsGivenIn (A.told asker.new) keyed.found) }
     ensures stand { A.stand asker.new ≡ A.stand asker.old }
     ensures grows { Grows (A.told asker.old) (A.told asker.new) }
@@ -179,6 +191,10 @@ fn find_target<'b, A: Asker>(
     ensures asks { (nodes : List PlanNode) → (A.stand asker.old).setting.nodes ≡ nodes
         → AreGiven (A.told asker.old) (option_to_list (local_name target))
         → Asks nodes [] (A.told asker.old) (A.told asker.new) }
+    ensures only { (page : PageAt) (at : PageId) → Agrees page.world (A.told asker.new)
+        → IsAt page (A.stand asker.old) at
+        → ((name : List ℕ) → local_name target ≡ Some name → IsOfPage page name)
+        → IfOk result (λ found. FindsOnly page (A.told asker.old) (A.told asker.new) found) }
     ensures given { IfOk result (λ found. IsGivenIn (A.told asker.new) found) }
     ensures stand { A.stand asker.new ≡ A.stand asker.old }
     ensures grows { Grows (A.told asker.old) (A.told asker.new) }
@@ -225,6 +241,11 @@ fn find_by_value<'b, A: Asker>(
         (unwrap_or (option_copied conref.entry) []) places.new found) }
     ensures asks { (nodes : List PlanNode) → (A.stand asker.old).setting.nodes ≡ nodes
         → Asks nodes (context.now.page.doc ∷ names_of_value origin.now (option_copied conref.entry)) (A.told asker.old) (A.told asker.new) }
+    ensures only { (page : PageAt) (element : Element) → Agrees page.world (A.told asker.new)
+        → IsAt page (A.stand asker.old) context.now.page → IsMet page element
+        → element.doc ≡ origin.now
+        → option_copied conref.entry ≡ elements_spec.attribute (codes "conref") element
+        → IfOk result (λ found. FindsOnly page (A.told asker.old) (A.told asker.new) found) }
     ensures given { IfOk result (λ found. IsGivenIn (A.told asker.new) found) }
     ensures stand { A.stand asker.new ≡ A.stand asker.old }
     ensures grows { Grows (A.told asker.old) (A.told asker.new) }
@@ -283,6 +304,9 @@ fn find_in<'b, A: Asker>(
     ensures stand { A.stand asker.new ≡ A.stand asker.old }
     ensures asks { (nodes : List PlanNode) → (A.stand asker.old).setting.nodes ≡ nodes
         → Asks nodes (name ∷ []) (A.told asker.old) (A.told asker.new) }
+    ensures only { (page : PageAt) (at : PageId) → Agrees page.world (A.told asker.new)
+        → IsAt page (A.stand asker.old) at → IsOfPage page name
+        → IfOk result (λ found. FindsOnly page (A.told asker.old) (A.told asker.new) found) }
     ensures given { IfOk result (λ found. IsGivenIn (A.told asker.new) found) }
     ensures grows { Grows (A.told asker.old) (A.told asker.new) }
 {

@@ -8,7 +8,9 @@ ghost use Rattle.dita_doc.specs.Tree.{Content};
 ghost use Rattle.readers.specs.Named.{named_tree};
 ghost use Rattle.readers.specs.Told.{Told};
 ghost use Rattle.conref_targets.specs.Asking.{AreAmong, reused_of_doc, reused_of_whole};
+ghost use Rattle.conref_targets.specs.Each.{OfWhole};
 ghost use Rattle.conref_targets.specs.Hrefs.{HaveNamed, WholeNamed};
+ghost use Rattle.conref_targets.specs.PageAsking.{AreMet, IsMet, PageAt};
 ghost use Rattle.conref_targets.specs.Parts as parts_spec;
 ghost use Rattle.conref_targets.specs.Origin as origin_spec;
 
@@ -33,6 +35,8 @@ pub fn whole_at(doc: &Doc, place: u32) -> Option<Whole<'_>>
         (reused_of_doc doc.now)) }
     ensures hrefs { (told : List Told) → HaveNamed told (named_tree doc.now)
         → IfSome result (WholeNamed told) }
+    ensures met { (page : PageAt) → AreMet page (named_tree doc.now)
+        → IfSome result (OfWhole (IsMet page)) }
 {
     match Siblings::element_at(doc, place) {
         None => None,
@@ -52,6 +56,9 @@ fn whole_of<'a>(doc: &'a Doc, node: &'a Node, inside: Siblings<'a>) -> Option<Wh
     ensures hrefs { (told : List Told) (place : ℕ)
         → siblings_spec.IsElementAt doc.now place node.now inside.entry
         → HaveNamed told (named_tree doc.now) → IfSome result (WholeNamed told) }
+    ensures met { (page : PageAt) (place : ℕ)
+        → siblings_spec.IsElementAt doc.now place node.now inside.entry
+        → AreMet page (named_tree doc.now) → IfSome result (OfWhole (IsMet page)) }
 {
     match origin_of(doc, node) {
         None => None,

@@ -7,6 +7,8 @@ ghost use Rattle.reader_spec.specs.World.{World};
 ghost use Rattle.readers.specs.Documents as documents_spec;
 ghost use Rattle.readers.specs.Documents.{AsksOnly};
 ghost use Rattle.readers.specs.Founded.{Grows, StaysFounded};
+ghost use Rattle.readers.specs.Only as only_spec;
+ghost use Rattle.readers.specs.Only.{TellsOnly};
 ghost use Rattle.readers.specs.Told.{Agrees, tree_found};
 ghost use Rattle.conref_targets.specs.Rules as rules_spec;
 ghost use Rattle.dita_doc.specs.Shown.{shown};
@@ -55,6 +57,9 @@ impl RuleLists {
         ensures asks { AsksOnly documents_spec.nothing
             (rules_spec.ditavals context.now.val context.now.page.filters)
             (R.told reader.old) (R.told reader.new) }
+        ensures only { OnOk result (TellsOnly (only_spec.is_document_of
+            (rules_spec.ditavals context.now.val context.now.page.filters))
+            (R.told reader.old) (R.told reader.new)) }
         ensures grows { Grows (R.told reader.old) (R.told reader.new) }
     {
         self.read_val(alloc, reader, context)?;
@@ -76,6 +81,9 @@ impl RuleLists {
             (R.told reader.new) }
         ensures asks { AsksOnly documents_spec.nothing (option_to_list context.now.val)
             (R.told reader.old) (R.told reader.new) }
+        ensures only { OnOk result (TellsOnly
+            (only_spec.is_document_of (option_to_list context.now.val)) (R.told reader.old)
+            (R.told reader.new)) }
         ensures grows { Grows (R.told reader.old) (R.told reader.new) }
     {
         match &context.val {
@@ -99,6 +107,8 @@ impl RuleLists {
         ensures founded { StaysFounded filters.now (R.told reader.old) (R.told reader.new) }
         ensures asks { AsksOnly documents_spec.nothing filters.now (R.told reader.old)
             (R.told reader.new) }
+        ensures only { OnOk result (TellsOnly (only_spec.is_document_of filters.now)
+            (R.told reader.old) (R.told reader.new)) }
         ensures grows { Grows (R.told reader.old) (R.told reader.new) }
     {
         for filter in filters {
@@ -121,6 +131,8 @@ impl RuleLists {
         ensures founded { StaysFounded (name.now ∷ []) (R.told reader.old) (R.told reader.new) }
         ensures asks { AsksOnly documents_spec.nothing (name.now ∷ []) (R.told reader.old)
             (R.told reader.new) }
+        ensures only { OnOk result (TellsOnly (only_spec.is_document_of (name.now ∷ []))
+            (R.told reader.old) (R.told reader.new)) }
         ensures grows { Grows (R.told reader.old) (R.told reader.new) }
     {
         let doc = reader.doc(alloc, name)?;

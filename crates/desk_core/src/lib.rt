@@ -5,8 +5,13 @@
 //! holds between any two of them (`IsBook`).
 #![tactic(auto)]
 
+mod book;
+mod event;
 mod limits;
 mod snapshot;
+mod stamp;
 
+pub use book::Book;
+pub use event::{Answer, Event};
 pub use limits::Limits;
 pub use snapshot::Snapshot;

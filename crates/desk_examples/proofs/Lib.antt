@@ -3,3 +3,4 @@ mod TableRows
 mod ClaimRows
 mod BookRows
 mod FactRows
+mod LimitRows

@@ -15,7 +15,7 @@ use Rattle.script_text.specs.declared.fault.ScriptFault.{ScriptFault}
 use Rattle.script_text.proofs.ScriptLaws.{script_short}
 use Rattle.desk_top.specs.Ends.{AnswersWhole, EndsWith, FinishesBy, RunsBy}
 use Rattle.desk_top.specs.Outside.{Outside}
-use Rattle.desk_top.specs.Reads.{Reads}
+use Rattle.run_spec.specs.Reads.{Reads}
 use Rattle.desk_laws.specs.SureRun.{NoneFailed}
 use Rattle.desk_laws.specs.WholeRun.{EndsAsAll, IsAnswered, IsDone}
 use Rattle.desk_laws.proofs.HistoryLaws.{told_once, one_history}

@@ -1,4 +1,7 @@
 -- Runs over objects that do not fail.
+use Rattle.std.specs.Prelude.{Option, IsNone, IsSome, IsSomeAnd}
+use Rattle.command_line.specs.declared.modes.Mode.{Mode}
+use Rattle.command_line.specs.declared.modes.Mode.TheVariants as modes
 use Rattle.dita_outside.specs.Cause.{Rose}
 use Rattle.desk_top.specs.Outside.{Outside}
 use Rattle.run_spec.specs.declared.status.Status.{Status}
@@ -20,3 +23,20 @@ IsSure statuses.OutletFault = ⊥
 IsSure statuses.WriteFault = ⊥
 IsSure statuses.Words = ⊥
 IsSure statuses.Port = ⊥
+
+-- the modes that read a script
+abbrev pub ReadsScript : Mode → Type 0
+ReadsScript modes.Clean = Unit {0}
+ReadsScript modes.Terms = Unit {0}
+ReadsScript (modes.Gen asked) = ⊥
+
+-- the statuses of the program over such objects, by the mode that its words name, if they name one
+abbrev pub IsSureProgram : Option Mode → Status → Type 0
+IsSureProgram mode statuses.Done = IsSome mode
+IsSureProgram mode statuses.Script = IsSomeAnd mode ReadsScript
+IsSureProgram mode statuses.NoMemory = Unit {0}
+IsSureProgram mode statuses.Words = IsNone mode
+IsSureProgram mode statuses.ReadFault = ⊥
+IsSureProgram mode statuses.OutletFault = ⊥
+IsSureProgram mode statuses.WriteFault = ⊥
+IsSureProgram mode statuses.Port = ⊥

@@ -5,7 +5,8 @@
 //! other.
 #![tactic(auto)]
 
-ghost use Rattle.std.specs.Prelude.{◌≡◌, ◌⊎◌, Bool, Some, take};
+ghost use Rattle.std.specs.Prelude.{◌≡◌, ◌⊎◌, Bool, Option, Some, take};
+ghost use Rattle.command_line.specs.declared.modes.Mode.{Mode};
 ghost use Rattle.dita_doc.specs.Bytes.{Bytes};
 ghost use Rattle.desk_laws.specs.OneHistory as one_history_spec;
 ghost use Rattle.desk_laws.specs.SureRun as sure_run_spec;
@@ -15,6 +16,8 @@ ghost use Rattle.desk_top.specs.Outside as outside_spec;
 ghost use Rattle.run_spec.specs.CleanRun as clean_run_spec;
 ghost use Rattle.run_spec.specs.declared.status.Status.{Status};
 ghost use Rattle.run_spec.specs.declared.status.Status.TheVariants as statuses;
+
+use dita_outside::{Outlet, Sink, Source};
 
 /// Over objects that do not fail, a run is done, rejects its script, or is out of memory. If it is
 /// not out of memory and its source tells its bytes, it ended as all of these say.
@@ -26,6 +29,21 @@ pub fn sure_run()
         (held : Bytes) → sure_run_spec.NoneFailed old new → old.left ≡ Some held →
         ends_spec.EndsWith with_terms old new status →
         (status ≡ statuses.NoMemory) ⊎ whole_run_spec.EndsAsAll with_terms held old new status }
+{}
+
+/// Over objects that do not fail, the program answers `Words` only if its words name no mode, is
+/// done only if they name one, and rejects a script only in a mode that reads one. Else it is out of
+/// memory.
+pub fn sure_program<S: Source, K: Sink, O: Outlet>()
+    ensures { let outside = outside_spec.outside_at
+        S.left S.faults K.taken K.faults O.pages O.faults in
+        (mode : Option Mode) (source source' : S) (sink sink' : K) (outlet outlet' : O)
+        (status : Status) → sure_run_spec.NoneFailed (outside source sink outlet)
+        (outside source' sink' outlet') → ends_spec.EndsProgram mode (λ named. ends_spec.EndsMode named
+        ((source' ≡ source) × (outlet' ≡ outlet)) (outside source sink outlet)
+        (outside source' sink' outlet'))
+        ((source' ≡ source) × (sink' ≡ sink) × (outlet' ≡ outlet)) status →
+        sure_run_spec.IsSureProgram mode status }
 {}
 
 /// A run that answered what it read ended as all bytes of its source say, if the source tells them.

@@ -9,3 +9,6 @@ pub mod PublishLaws
 pub mod TokenLaws
 pub mod JoinLaws
 pub mod OpenLaws
+pub mod FirstLaws
+pub mod MayLaws
+pub mod TurnLaws

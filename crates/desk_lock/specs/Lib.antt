@@ -8,3 +8,4 @@ pub mod Steps
 pub mod Calls
 pub mod Closes
 pub mod Tokens
+pub mod GateTurn

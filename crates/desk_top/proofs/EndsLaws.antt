@@ -11,7 +11,7 @@ use Rattle.script_text.specs.Script.{Step, script_of}
 use Rattle.script_text.specs.declared.fault.ScriptFault.{ScriptFault}
 use Rattle.desk_top.specs.Ends.{RunRelation, RunOf, RunsBy, FinishesBy, EndsWith, NoneRose, WritesLast}
 use Rattle.desk_top.specs.Outside.{Outside}
-use Rattle.desk_top.specs.Reads.{Reads}
+use Rattle.run_spec.specs.Reads.{Reads}
 use Rattle.desk_top.proofs.TakesLaws.{takes_none}
 
 -- the run over what was read, of which something is said

@@ -3,3 +3,4 @@ pub mod DeliverLaws
 pub mod EndsLaws
 pub mod RunLaws
 pub mod TakesLaws
+pub mod WritingLaws

@@ -176,11 +176,6 @@ answer_begun with_terms all history step left text old now new before front =
     (length history + 1) left))
     (pages_of_answers with_terms (answers_to all)) before.taken front
 
--- nothing is left
-pub no_more : {A : Type 0} (xs : List A) (size : ℕ) → size ≡ length xs → size ≡ 0 → xs ≡ []
-no_more [] size e none = refl
-no_more (x ∷ xs) size e none = absurd (omega arith)
-
 -- a transcript without rows
 no_rows : (entries : List EntryShown) (totals : Totals)
     → head_text ++ flat_map entry_text entries ++ line (end_head totals)

@@ -1,5 +1,5 @@
 -- How a run ends, by its status, over what the source, the sink and the outlet tell.
-use Rattle.std.specs.Prelude.{◌≡◌, ◌⊎◌, ℕ, Bool, true, false, [], ◌++◌, Option, IsNone, IsSomeAnd}
+use Rattle.std.specs.Prelude.{◌≡◌, ◌⊎◌, ℕ, Bool, true, false, [], Option, IsNone, IsSomeAnd}
 use Rattle.std.specs.Io.KnownBytes.{Keeps, Appends}
 use Rattle.command_line.specs.declared.modes.Mode.{Mode}
 use Rattle.command_line.specs.declared.modes.Mode.TheVariants as modes
@@ -9,13 +9,11 @@ use Rattle.dita_outside.specs.Pages.{Pages, TakesPages, TakesPagesFront}
 use Rattle.run_spec.specs.declared.status.Status.{Status}
 use Rattle.run_spec.specs.declared.status.Status.TheVariants as statuses
 use Rattle.run_spec.specs.CleanRun.{HasForm, read_limit, run_over}
+use Rattle.run_spec.specs.EndsTrial.{EndsGen}
+use Rattle.run_spec.specs.Reads.{Reads}
+use Rattle.run_spec.specs.Written.{AppendsFront}
 use Rattle.script_text.specs.Script.{script_of}
-use Rattle.desk_top.specs.Outside.{Outside}
-use Rattle.desk_top.specs.Reads.{Reads}
-
--- the sink took the beginning of the text, perhaps nothing of it and perhaps all
-abbrev pub AppendsFront : Option Bytes → Option Bytes → Bytes → Type 0
-AppendsFront old new text = (front back : Bytes) × (text ≡ front ++ back) × Appends old new front
+use Rattle.desk_top.specs.Outside.{Outside, sunk_of}
 
 -- nothing reached the outlet and the sink
 abbrev pub TakesNothing : Outside → Outside → Type 0
@@ -85,9 +83,12 @@ EndsClean old new status = EndsWith false old new status
 abbrev pub EndsTerms : Outside → Outside → Status → Type 0
 EndsTerms old new status = EndsWith true old new status
 
-abbrev pub EndsMode : Mode → Outside → Outside → Status → Type 0
-EndsMode modes.Clean old new status = EndsClean old new status
-EndsMode modes.Terms old new status = EndsTerms old new status
+-- the run of a mode; `gen` takes the sink alone, and `beside` says that the source and the outlet are as they were
+abbrev pub EndsMode : Mode → (beside : Type 0) → Outside → Outside → Status → Type 0
+EndsMode modes.Clean beside old new status = EndsClean old new status
+EndsMode modes.Terms beside old new status = EndsTerms old new status
+EndsMode (modes.Gen asked) beside old new status =
+    EndsGen asked.number asked.topics (sunk_of old) (sunk_of new) status × beside
 
 -- an output was written: whole, by a sink that has not failed, and then the status is that of the run; or its beginning,
 -- because the sink failed or memory ran out

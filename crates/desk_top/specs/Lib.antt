@@ -1,5 +1,4 @@
 pub mod Builds
 pub mod Ends
 pub mod Outside
-pub mod Reads
 pub mod Runs

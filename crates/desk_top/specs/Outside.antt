@@ -2,6 +2,7 @@
 use Rattle.std.specs.Prelude.{ℕ, Option}
 use Rattle.dita_doc.specs.Bytes.{Bytes}
 use Rattle.dita_outside.specs.Pages.{Pages}
+use Rattle.run_spec.specs.Written.{Sunk}
 
 -- what the three objects tell at one moment
 pub record Outside : Type 0 where
@@ -23,3 +24,11 @@ outside_at left read_faults taken write_faults pages page_faults source sink out
   pages = pages outlet;
   page_faults = page_faults outlet;
 }
+
+-- what the sink tells, of that
+abbrev pub sunk_of : Outside → Sunk
+sunk_of outside = record { taken = outside.taken; faults = outside.write_faults }
+
+-- the same of a sink alone
+abbrev pub sunk_at : {K : Type 0} → (K → Option Bytes) → (K → ℕ) → K → Sunk
+sunk_at taken faults sink = record { taken = taken sink; faults = faults sink }

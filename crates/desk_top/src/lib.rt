@@ -2,12 +2,13 @@
 //! out.
 //!
 //! What is used above it: `desk_top` answers the status of the run that its words name, which is
-//! `run_clean` or `run_terms`. By one relation the status says what the source, the sink and the
+//! `run_clean`, `run_terms` or `run_gen`. By one relation the status says what the source, the sink and the
 //! outlet tell afterwards.
 #![tactic(auto)]
 
 mod build;
 mod deliver;
+mod generate;
 mod modes;
 mod outside;
 mod path;
@@ -15,6 +16,7 @@ mod run;
 mod top;
 
 pub use command_line::out_folder;
+pub use generate::run_gen;
 pub use modes::{run_clean, run_terms};
 pub use run_spec::Status;
 pub use top::desk_top;

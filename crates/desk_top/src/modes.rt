@@ -108,7 +108,7 @@ fn rejection(alloc: Global, fault: ScriptFault) -> Result<List<u8>, AllocError>
 }
 
 // The status of a run whose output is written last.
-fn written<K: Sink>(sink: &mut K, output: &[u8], status: Status) -> Status
+pub(crate) fn written<K: Sink>(sink: &mut K, output: &[u8], status: Status) -> Status
     ensures { ends_spec.WritesLast (K.taken sink.old) (K.taken sink.new) (K.faults sink.old)
         (K.faults sink.new) output.now status result }
 {

@@ -3,8 +3,8 @@
 ghost use Rattle.std.specs.Prelude.{◌≡◌, IfOk, OnOk, OnErr, vec_len};
 ghost use Rattle.std.specs.Io.KnownBytes.{Appends};
 ghost use Rattle.dita_outside.specs.Cause as cause_spec;
-ghost use Rattle.desk_top.specs.Ends as ends_spec;
-ghost use Rattle.desk_top.specs.Reads as reads_spec;
+ghost use Rattle.run_spec.specs.Reads as reads_spec;
+ghost use Rattle.run_spec.specs.Written as written_spec;
 
 use dita_doc::{List, Stop};
 use dita_outside::{Failed, Sink, Source};
@@ -51,7 +51,7 @@ fn zeros(alloc: Global, count: usize) -> Result<Vec<u8>, AllocError>
 pub fn write_all<K: Sink>(sink: &mut K, bytes: &[u8]) -> Result<(), Stop<Failed>>
     ensures ok { OnOk result (Appends (K.taken sink.old) (K.taken sink.new) bytes.now) }
     ensures err { OnErr result
-        (ends_spec.AppendsFront (K.taken sink.old) (K.taken sink.new) bytes.now) }
+        (written_spec.AppendsFront (K.taken sink.old) (K.taken sink.new) bytes.now) }
     ensures cause { cause_spec.HasCauseOrNoMemory (K.faults sink.old) (K.faults sink.new) result }
 {
     let mut done = 0;

@@ -5,6 +5,7 @@ ghost use Rattle.command_line.specs.Command as command_spec;
 ghost use Rattle.desk_top.specs.Ends as ends_spec;
 ghost use Rattle.desk_top.specs.Outside as outside_spec;
 
+use crate::generate::run_gen;
 use crate::modes::{run_clean, run_terms};
 use command_line::{Mode, mode};
 use dita_doc::NoMemory;
@@ -26,14 +27,33 @@ pub fn desk_top<S: Source, K: Sink, O: Outlet>(
     ensures { let outside = outside_spec.outside_at
         S.left S.faults K.taken K.faults O.pages O.faults in
         ends_spec.EndsProgram (command_spec.mode_of (map string_bytes words.now))
-        (λ mode. ends_spec.EndsMode mode (outside source.old sink.old outlet.old)
-        (outside source.new sink.new outlet.new))
+        (λ mode. ends_spec.EndsMode mode ((source.new ≡ source.old) × (outlet.new ≡ outlet.old))
+        (outside source.old sink.old outlet.old) (outside source.new sink.new outlet.new))
         ((source.new ≡ source.old) × (sink.new ≡ sink.old) × (outlet.new ≡ outlet.old)) result }
 {
     match mode(alloc, words) {
-        Ok(Some(Mode::Clean)) => run_clean(alloc, source, sink, outlet),
-        Ok(Some(Mode::Terms)) => run_terms(alloc, source, sink, outlet),
+        Ok(Some(mode)) => run_mode(alloc, &mode, source, sink, outlet),
         Ok(None) => Status::Words,
         Err(NoMemory) => Status::NoMemory,
+    }
+}
+
+// Runs a mode, and answers its status.
+fn run_mode<S: Source, K: Sink, O: Outlet>(
+    alloc: Global,
+    mode: &Mode,
+    source: &mut S,
+    sink: &mut K,
+    outlet: &mut O,
+) -> Status
+    ensures { let outside = outside_spec.outside_at
+        S.left S.faults K.taken K.faults O.pages O.faults in
+        ends_spec.EndsMode mode.now ((source.new ≡ source.old) × (outlet.new ≡ outlet.old))
+        (outside source.old sink.old outlet.old) (outside source.new sink.new outlet.new) result }
+{
+    match mode {
+        Mode::Clean => run_clean(alloc, source, sink, outlet),
+        Mode::Terms => run_terms(alloc, source, sink, outlet),
+        Mode::Gen(project) => run_gen(alloc, project.number(), project.topics(), sink),
     }
 }

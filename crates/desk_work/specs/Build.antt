@@ -17,7 +17,7 @@ use Rattle.desk_lock.specs.Lists.{Each, StartsWith}
 use Rattle.desk_lock.specs.Meaning.{Meaning}
 use Rattle.desk_lock.specs.declared.view.View.{View}
 use Rattle.version_store.specs.declared.full.Full as full_declared
-use Rattle.desk_work.specs.Language.{Language, parts_of}
+use Rattle.desk_language.specs.Language.{Language, parts_of}
 use Rattle.desk_work.specs.Work.{Basis, Job, Progress}
 use Rattle.desk_work.specs.declared.built.BuildStop.{BuildStop}
 use Rattle.desk_work.specs.declared.built.BuildStop.TheVariants.{OutletFault, NoMemory, Full}

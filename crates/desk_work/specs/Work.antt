@@ -9,7 +9,7 @@ use Rattle.desk_lock.specs.Knows.{ends, serials}
 use Rattle.desk_lock.specs.Lists.{Each, StartsWith}
 use Rattle.desk_lock.specs.Meaning.{IsRightRow, Meaning, NoLaterAgrees}
 use Rattle.desk_lock.specs.declared.view.View.{View}
-use Rattle.desk_work.specs.Language.{Language, part_bytes}
+use Rattle.desk_language.specs.Language.{Language, part_bytes}
 
 -- a part of the build, and the row that is cited for it once it is done
 pub record Job : Type 0 where

@@ -21,8 +21,8 @@ utf8_if false x y first second = second
 
 -- what is written for a byte; one that is no ASCII stands for itself
 pub record ShowsAscii (shown : ℕ → List ℕ) : Type 0 where
-  low : (b : ℕ) → b < 128 → IsUtf8 (shown b)
-  high : (b : ℕ) → 128 ≤ b → shown b ≡ b ∷ []
+  pub low : (b : ℕ) → b < 128 → IsUtf8 (shown b)
+  pub high : (b : ℕ) → 128 ≤ b → shown b ≡ b ∷ []
 
 pub high_shown : (shown : ℕ → List ℕ) (char rest : List ℕ) → ShowsAscii shown → AreHigh char
     → flat_map shown (char ++ rest) ≡ char ++ flat_map shown rest

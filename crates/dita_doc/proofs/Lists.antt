@@ -5,8 +5,8 @@ use Rattle.std.specs.Cmp.Lexicographic.{slice_cmp}
 use Rattle.std.specs.List.{filter_map, list_all, list_any}
 use Rattle.std.specs.Option.{option_copied, option_or, option_to_list}
 use Rattle.std.specs.Ordering.{match_ordering, nat_cmp}
-use Rattle.std.specs.Prelude.{Bool, Err, List, None, Ok, OnErr, OnOk, Option, Result, Some, bytes_eq, false, filter, length, map, not, slice_get, suc, true, unwrap_or, zero, ℕ, ◌&&◌, ◌++◌, ◌<◌, ◌||◌, ◌∷◌, ◌≡◌, []}
-use Rattle.std.proofs.Common.{Equal, Greater, Less, Ordering, ap, append_assoc, arith, get_or, refl, sym, ◌∙◌}
+use Rattle.std.specs.Prelude.{Bool, Err, List, None, Ok, OnErr, OnOk, Option, Result, Some, bytes_eq, false, filter, map, not, slice_get, suc, true, unwrap_or, zero, ℕ, ◌&&◌, ◌++◌, ◌<◌, ◌||◌, ◌∷◌, ◌≡◌, []}
+use Rattle.std.proofs.Common.{Equal, Greater, Less, Ordering, ap, append_assoc, arith, get_or, length, refl, sym, ◌∙◌}
 use Rattle.std.proofs.lemmas.Bool.{and_parts}
 use Rattle.std.proofs.lemmas.Option.{none-some}
 use Rattle.dita_doc.proofs.NameOrder.{same_from_equal}
@@ -143,6 +143,10 @@ pub read_or : (value : Option (Bor (List ℕ))) (other : Bor (List ℕ))
     → (unwrap_or value other).now ≡ unwrap_or (option_copied value) other.now
 read_or None other = refl
 read_or (Some text) other = refl
+
+pub no_more : {X : Type 0} (xs : List X) (size : ℕ) → size ≡ length xs → size ≡ 0 → xs ≡ []
+no_more [] size same none = refl
+no_more (x ∷ xs) size same none = absurd (omega arith)
 
 -- Lists one behind the other
 

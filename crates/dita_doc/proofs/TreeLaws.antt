@@ -136,7 +136,8 @@ slice_get-take (suc n) [] k inside = refl
 slice_get-take (suc n) (node ∷ nodes) zero inside = refl
 slice_get-take (suc n) (node ∷ nodes) (suc k) inside = slice_get-take n nodes k (omega arith)
 
-pub slice_get-drop : (n : ℕ) (nodes : List Node) (k at : ℕ) → at ≡ n + k → slice_get (drop n nodes) k ≡ slice_get nodes at
+pub slice_get-drop : (n : ℕ) (nodes : List Node) (k at : ℕ) → at ≡ n + k
+    → slice_get (drop n nodes) k ≡ slice_get nodes at
 slice_get-drop zero nodes k at is = let same : k ≡ at = omega arith in ap (slice_get nodes) same
 slice_get-drop (suc n) nodes k zero is = absurd (omega arith)
 slice_get-drop (suc n) [] k (suc at) is = refl

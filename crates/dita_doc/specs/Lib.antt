@@ -21,3 +21,4 @@ pub mod History
 pub mod Seen
 pub mod Sources
 pub mod Shown
+pub mod TextOrder

@@ -117,7 +117,14 @@ pub names_more : (old new : Names) (name : Bor (List ℕ)) → AreNames old
     → Updates text_order old.seen new.seen name true → new.list ≡ old.list ++ name.now ∷ [] → AreNames new
 names_more old new name are updates list key =
     updates.0 key
-    ∙ rw (is_eq-slice_cmp name.now key.now, are key, list, list_any-append (bytes_eq key.now) old.list (name.now ∷ []), text_swaps name.now key.now)
+    ∙ rw (
+      is_eq-slice_cmp name.now key.now,
+      are key,
+      list,
+      list_any-append (bytes_eq key.now) old.list
+          (name.now ∷ []),
+      text_swaps name.now key.now,
+    )
     (last_or_first (bytes_eq key.now name.now) (list_any (bytes_eq key.now) old.list))
 
 pub names_same : (old new : Names) → AreNames old → IsUnchanged old.seen new.seen → new.list ≡ old.list → AreNames new

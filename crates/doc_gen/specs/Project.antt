@@ -6,7 +6,7 @@ use Rattle.std.specs.Prelude.{◌+◌, ◌-◌, ◌*◌, ◌/◌, ◌%◌, ◌^�
 use Rattle.std.specs.Fmt.{decimal}
 use Rattle.std.specs.List.{flat_map}
 use Rattle.dita_doc.specs.Request.{Put, Request, Single, Build}
-use Rattle.script_text.specs.Printed.{steps_text}
+use Rattle.script_text.specs.Printed.{step_text, steps_text}
 use Rattle.script_text.specs.Script.{Step}
 use Rattle.doc_gen.specs.Short.{of_domain, of_map, of_topic, plain, text}
 
@@ -29,7 +29,7 @@ numbers_from first (suc count) = first ∷ numbers_from (first + 1) count
 -- DITAVALs
 
 -- a DITAVAL that excludes one value of one attribute
-abbrev pub excluding : List ℕ → List ℕ → List ℕ
+unfoldable pub excluding : List ℕ → List ℕ → List ℕ
 excluding attribute value = plain (codes "val") []
     (plain (codes "prop")
     ((codes "action", codes "exclude") ∷ (codes "att", attribute) ∷ (codes "val", value) ∷ []) [])
@@ -42,29 +42,37 @@ topic_id index = codes "t" ++ decimal index
 abbrev pub topic_name : ℕ → List ℕ
 topic_name index = topic_id index ++ codes ".dita"
 
-abbrev pub topicref : ℕ → List ℕ → List ℕ
+unfoldable pub topicref : ℕ → List ℕ → List ℕ
 topicref index inside = of_map (codes "topicref") ((codes "href", topic_name index) ∷ []) inside
 
-abbrev pub keydef : ℕ → List ℕ
+-- what a key stands for: a keyword
+unfoldable pub key_meta : ℕ → List ℕ
+key_meta key = of_map (codes "topicmeta") [] (of_topic (codes "keyword") [] (text (codes "Key " ++ decimal key)))
+
+unfoldable pub keydef : ℕ → List ℕ
 keydef key = of_domain (codes "map/topicref") (codes "mapgroup-d") (codes "keydef")
     ((codes "keys", codes "k" ++ decimal key) ∷ (codes "processing-role", codes "resource-only") ∷ [])
-    (of_map (codes "topicmeta") [] (of_topic (codes "keyword") [] (text (codes "Key " ++ decimal key))))
+    (key_meta key)
+
+-- the suffix that the names of a branch's pages get
+unfoldable pub suffix_meta : List ℕ → List ℕ
+suffix_meta platform = of_domain (codes "map/topicmeta") (codes "ditavalref-d") (codes "ditavalmeta") []
+    (of_domain (codes "topic/data") (codes "ditavalref-d") (codes "dvrResourceSuffix") []
+    (text (codes "-" ++ platform)))
 
 -- a ditavalref to the DITAVAL of a platform, whose branch has the platform in the names of its pages
-abbrev pub ditavalref : List ℕ → List ℕ
+unfoldable pub ditavalref : List ℕ → List ℕ
 ditavalref platform = of_domain (codes "map/topicref") (codes "ditavalref-d") (codes "ditavalref")
     ((codes "href", platform ++ codes ".ditaval") ∷ [])
-    (of_domain (codes "map/topicmeta") (codes "ditavalref-d") (codes "ditavalmeta") []
-    (of_domain (codes "topic/data") (codes "ditavalref-d") (codes "dvrResourceSuffix") []
-    (text (codes "-" ++ platform))))
+    (suffix_meta platform)
 
-abbrev pub relcell : ℕ → List ℕ
+unfoldable pub relcell : ℕ → List ℕ
 relcell index = of_map (codes "relcell") [] (topicref index [])
 
-abbrev pub reltable : List ℕ
+unfoldable pub reltable : List ℕ
 reltable = of_map (codes "reltable") [] (of_map (codes "relrow") [] (relcell 1 ++ relcell 2))
 
-abbrev pub book : ℕ → List ℕ
+unfoldable pub book : ℕ → List ℕ
 book topics = of_map (codes "map") [] (of_topic (codes "title") [] (text (codes "Book"))
     ++ flat_map keydef (numbers_from 1 3)
     ++ flat_map (λ index. topicref index []) (numbers_from 1 topics)
@@ -73,22 +81,25 @@ book topics = of_map (codes "map") [] (of_topic (codes "title") [] (text (codes 
 
 -- Topics
 
-abbrev pub paragraph : List (List ℕ × List ℕ) → List ℕ → List ℕ
+unfoldable pub paragraph : List (List ℕ × List ℕ) → List ℕ → List ℕ
 paragraph attributes inside = of_topic (codes "p") attributes inside
 
--- the topic of this index, by its value, with this number in its text
-abbrev pub topic : ℕ → ℕ → ℕ → ℕ → List ℕ
-topic topics index value number =
+-- the body of a topic, by its value, with this number in its text
+unfoldable pub topic_body : ℕ → ℕ → ℕ → List ℕ
+topic_body topics value number =
     let other = topic_id (1 + value % topics) in
-    of_topic (codes "topic") ((codes "id", topic_id index) ∷ [])
-    (of_topic (codes "title") [] (text (codes "Topic " ++ decimal index))
-    ++ of_topic (codes "body") []
+    of_topic (codes "body") []
     (paragraph ((codes "id", codes "s") ∷ []) (text (codes "Text " ++ decimal number))
     ++ paragraph [] (of_topic (codes "ph") ((codes "keyref", codes "k" ++ decimal (1 + value % 3)) ∷ []) [])
     ++ paragraph ((codes "audience", codes "internal") ∷ []) (text (codes "I"))
     ++ paragraph ((codes "platform", codes "win") ∷ []) (text (codes "W"))
     ++ paragraph ((codes "platform", codes "lin") ∷ []) (text (codes "L"))
-    ++ paragraph ((codes "conref", other ++ codes ".dita#" ++ other ++ codes "/s") ∷ []) []))
+    ++ paragraph ((codes "conref", other ++ codes ".dita#" ++ other ++ codes "/s") ∷ []) [])
+
+-- the topic of this index
+unfoldable pub topic : ℕ → ℕ → ℕ → ℕ → List ℕ
+topic topics index value number = of_topic (codes "topic") ((codes "id", topic_id index) ∷ [])
+    (of_topic (codes "title") [] (text (codes "Topic " ++ decimal index)) ++ topic_body topics value number)
 
 -- Requests
 
@@ -97,6 +108,10 @@ asks session request = record { session = session; request = request }
 
 abbrev pub puts : ℕ → List ℕ → List ℕ → Step
 puts session name body = asks session (Single (Put name body))
+
+-- a put's text
+unfoldable pub put_text : ℕ → List ℕ → List ℕ → List ℕ
+put_text session name body = step_text (puts session name body)
 
 abbrev pub builds : ℕ → Step
 builds session = asks session (Build (codes "book.ditamap") (Some (codes "val.ditaval")))

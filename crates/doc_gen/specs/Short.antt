@@ -8,16 +8,23 @@ use Rattle.dita_doc.specs.Lines.{line}
 abbrev pub Given : Type 0
 Given = List ℕ × List ℕ
 
-abbrev pub attribute_text : Given → List ℕ
+unfoldable pub attribute_text : Given → List ℕ
 attribute_text given = line (codes "A" ++ given.0 ++ codes " " ++ given.1)
 
-abbrev pub text : List ℕ → List ℕ
+unfoldable pub text : List ℕ → List ℕ
 text words = line (codes "-" ++ words)
+
+-- the lines that an element begins and ends with
+unfoldable pub begun : List ℕ → List ℕ
+begun name = line (codes "(" ++ name)
+
+unfoldable pub ended : List ℕ → List ℕ
+ended name = line (codes ")" ++ name)
 
 -- an element without a class, with these attributes, and with this inside
 abbrev pub plain : List ℕ → List Given → List ℕ → List ℕ
 plain name attributes inside =
-    line (codes "(" ++ name) ++ flat_map attribute_text attributes ++ inside ++ line (codes ")" ++ name)
+    begun name ++ flat_map attribute_text attributes ++ inside ++ ended name
 
 abbrev pub classed : List ℕ → List ℕ → List Given → List ℕ → List ℕ
 classed name class attributes inside = plain name ((codes "class", class) ∷ attributes) inside

@@ -1,9 +1,9 @@
 //! What facts say of the language: when they agree with sources, when they are sound, and what they
 //! may ask.
 //!
-//! What is used above it: `Language`, through which the table of rows and the book know the language.
+//! What is used above it: `MapParts`, through which the table of rows and the book know the language.
 #![tactic(auto)]
 
-mod language;
+mod map_parts;
 
-pub use language::Language;
+pub use map_parts::MapParts;

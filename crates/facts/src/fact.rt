@@ -1,10 +1,6 @@
 //! Finished parts of builds.
 
-ghost use Rattle.std.specs.Prelude.{◌≡◌, IfOk};
-ghost use Rattle.std.specs.Arc.{arc_value};
-
-use dita_doc::{Asked, FactKey, Html, List, NoMemory, Plan, PlanStop};
-use std::alloc::Global;
+use dita_doc::{Asked, FactKey, Html, List, Plan, PlanStop};
 use std::sync::Arc;
 
 /// The plan of a build or why it has none, with the questions that it was made from and their
@@ -27,24 +23,4 @@ pub struct Fact {
     pub asked: List<Asked>,
     /// The page or the contents page; none if the part is the plan.
     pub html: Option<Arc<Html>>,
-}
-
-/// Two shares of one fact: one is kept, and one is given away without memory being taken then.
-#[derive(Drop)]
-pub struct FactPair {
-    pub kept: Arc<Fact>,
-    pub given: Arc<Fact>,
-    pub ghost same: { ∥ arc_value kept ≡ arc_value given ∥₁ },
-}
-
-impl FactPair {
-    /// Two shares of a fact, which is not copied.
-    pub fn new(alloc: Global, fact: Fact) -> Result<FactPair, NoMemory>
-        ensures kept { IfOk result (λ pair. arc_value pair.kept ≡ fact) }
-        ensures given { IfOk result (λ pair. arc_value pair.given ≡ fact) }
-    {
-        let kept = Arc::new(alloc, fact)?;
-        let given = Arc::try_clone(&kept)?;
-        Ok(FactPair { kept, given })
-    }
 }

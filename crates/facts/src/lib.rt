@@ -7,8 +7,10 @@
 
 mod fact;
 mod judged;
+mod pair;
 mod row;
 
-pub use fact::{Fact, FactPair, PlanFact};
+pub use fact::{Fact, PlanFact};
 pub use judged::{Judge, Judged, Parts};
+pub use pair::FactPair;
 pub use row::Row;

@@ -14,13 +14,14 @@ use Rattle.transcript_text.specs.Transcript.{BuildShown, BuiltPages, StoppedBy, 
 use Rattle.run_spec.specs.Cites.{CitePages, CitesPage, ShowsBuilt}
 use Rattle.run_spec.specs.Faithful.{ChoosesRepeats, CitesAgain, CitesEachRow, CountsRight, Repeats, serials_cited}
 use Rattle.run_spec.specs.HistoryTold.{BuildTold, builds_told}
-use Rattle.run_spec.specs.Language.{Language}
+use Rattle.desk_language.specs.Language.{Language}
 use Rattle.faithful_examples.proofs.Shown.{lines, all_of, pairs_of}
 
 abbrev small : Language
 small = record {
   clean = λ state root val. Done ((codes "index.html", lines ("<p>" ∷ [])) ∷ []) [];
-  parts = λ state root val. 100 ∷ 100 ∷ [];
+  page_count = λ state root val. Some 0;
+  value_bytes = λ state key. 36;
   Reaches = λ state root val name. name ≡ root;
 }
 
@@ -160,10 +161,10 @@ uncounted counts = omega (arith, counts.entries)
 same_serial : CitesEachRow (transcript 2 (row_of_serial 2 ∷ row_of_serial 2 ∷ []) (totals 2 2 0)) → ⊥
 same_serial rows = rows.different 0 1 (row_of_serial 2) (omega arith) (omega arith) refl
 
-abbrev serials : List ℕ
+abbrev pub serials : List ℕ
 serials = 2 ∷ 2 ∷ []
 
-not_three : (place : ℕ) → place < 2 → ◌≡◌ {A = ℕ} (slice_index_or serials place 3) 3 → ⊥
+pub not_three : (place : ℕ) → place < 2 → ◌≡◌ {A = ℕ} (slice_index_or serials place 3) 3 → ⊥
 not_three zero low e = omega (arith, e)
 not_three (suc zero) low e = omega (arith, e)
 not_three (suc (suc place)) low e = omega (arith, low)

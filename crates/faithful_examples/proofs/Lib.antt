@@ -1,6 +1,12 @@
 mod Shown
+mod Verdicts
+mod Reading
+mod NothingStored
+mod OneStored
 mod TwoSessions
 mod BuildAgain
 mod OneMap
+mod MapAgain
 mod OneTopic
+mod NoMap
 mod Generated

@@ -9,7 +9,8 @@ use Rattle.std.proofs.lemmas.List.Elements.{recursion_from_All}
 use Rattle.std.proofs.lemmas.Option.{none-some, same_Some}
 use lib.Utf8.{encode}
 use Rattle.build_spec.specs.Built.{BuildOutcome, Done}
-use Rattle.dita_doc.specs.Desk.{State, IsStored, next}
+use Rattle.desk_language.specs.Language.{bytes_of_parts}
+use Rattle.dita_doc.specs.Desk.{State, IsStored, next, reply}
 use Rattle.dita_doc.specs.Lines.{IsLineText}
 use Rattle.dita_doc.specs.Pyx.{document_of}
 use Rattle.dita_doc.specs.Request.{Put, Request, Single, Build}
@@ -26,16 +27,15 @@ use Rattle.run_spec.specs.Cites.{ShowsBuilt}
 use Rattle.run_spec.specs.Faithful.{CitesEachRow, CountsRight, HasEntries, IsFaithfulTo, IsInOrder, IsOfSession, ShowsBuild, ShowsBuilds, ShowsReply, ShowsReplies, TakesEachOnce, Repeats, parts_without, serials_cited}
 use Rattle.run_spec.specs.HistoryTold.{BuildTold, Moment, builds_told, moments_of}
 use Rattle.run_spec.specs.Language.{dita}
-use Rattle.run_spec.specs.RowBytes.{part_bytes}
 use Rattle.faithful_examples.proofs.Shown.{on_line, lines, all_of, pairs_of, each_number}
 
-abbrev in_m : List ℕ
+abbrev pub in_m : List ℕ
 in_m = codes "m.ditamap"
 
-abbrev body : List ℕ
+abbrev pub body : List ℕ
 body = lines ("(map" ∷ "Aclass - map/map " ∷ ")map" ∷ [])
 
-abbrev put : Request
+abbrev pub put : Request
 put = Single (Put in_m body)
 
 abbrev steps : List Step
@@ -63,7 +63,7 @@ map_stored : next [] 0 put ≡ stored
 unfolding document_of is_utf8 chars encode
 map_stored = refl
 
-abbrev page_lines : List (List ℕ)
+abbrev pub page_lines : List (List ℕ)
 page_lines = codes "<!DOCTYPE html>" ∷ codes "<html><head><meta charset=\"utf-8\"><title>Contents</title></head>"
     ∷ codes "<body>"
     ∷ codes "<nav class=\"toc\"><h1>Contents</h1></nav>" ∷ codes "</body></html>" ∷ []
@@ -72,30 +72,30 @@ abbrev page : List ℕ
 page = lines ("<!DOCTYPE html>" ∷ "<html><head><meta charset=\"utf-8\"><title>Contents</title></head>" ∷ "<body>"
     ∷ "<nav class=\"toc\"><h1>Contents</h1></nav>" ∷ "</body></html>" ∷ [])
 
-abbrev build : BuildOutcome
+abbrev pub build : BuildOutcome
 build = Done ((codes "index.html", page) ∷ []) []
 
 build_of_stored : clean_build (world_of stored) in_m None ≡ build
 unfolding clean_build plan_of map_included page_part all_pushes contents items_from
 build_of_stored = refl
 
-its_build : dita.clean (next [] 0 put) in_m None ≡ build
+pub its_build : dita.clean (next [] 0 put) in_m None ≡ build
 its_build = ap (λ state. clean_build (world_of state) in_m None) map_stored ∙ build_of_stored
 
 -- its parts are a plan with one node and no page, and the contents page of 144 bytes; one name is stored
-parts_of_stored : part_bytes stored in_m None ≡ 352 ∷ 240 ∷ []
+parts_of_stored : bytes_of_parts dita stored in_m None ≡ 352 ∷ 240 ∷ []
 unfolding plan_of map_included page_part all_pushes contents items_from
 parts_of_stored = refl
 
-its_parts : dita.parts (next [] 0 put) in_m None ≡ 352 ∷ 240 ∷ []
-its_parts = ap (λ state. part_bytes state in_m None) map_stored ∙ parts_of_stored
+pub its_parts : bytes_of_parts dita (next [] 0 put) in_m None ≡ 352 ∷ 240 ∷ []
+its_parts = ap (λ state. bytes_of_parts dita state in_m None) map_stored ∙ parts_of_stored
 
 -- The transcript
 
-abbrev row : ℕ → List (List ℕ) → RowShown
+abbrev pub row : ℕ → List (List ℕ) → RowShown
 row serial text = record { serial = serial; part = IsContents; map = in_m; val = None; lines = text }
 
-abbrev stores : ℕ → EntryShown
+abbrev pub stores : ℕ → EntryShown
 stores version = record { place = 0; session = 1; number = 1; shown = StoredAt version }
 
 abbrev built : PageMark → EntryShown
@@ -143,7 +143,7 @@ build_form = record {
   );
 }
 
-row_form : IsRowShown (row 2 page_lines)
+pub row_form : IsRowShown (row 2 page_lines)
 unfolding is_utf8 chars encode
 row_form = record {
   serial = omega arith;
@@ -191,6 +191,10 @@ its_requests = record {
       (refl, (refl, tt));
   order = pairs_of IsInOrder entries ((λ same. omega arith, tt), (tt, tt));
 }
+
+pub put_reply : reply [] 0 put ≡ IsStored 1
+unfolding document_of is_utf8 chars encode
+put_reply = refl
 
 its_replies : ShowsReplies steps entries
 unfolding document_of is_utf8 chars encode
@@ -246,7 +250,7 @@ two_parts : (given : Bool) (chosen : ℕ → Bool) → chosen 0 ≡ given → (g
     → parts_without dita chosen 0 told ≡ 2
 two_parts true chosen e none = absurd (none refl)
 two_parts false chosen e none =
-    ap (λ (first : Bool). (if first then 0 else length (dita.parts (next [] 0 put) in_m None)) + 0) e
+    ap (λ (first : Bool). (if first then 0 else length (bytes_of_parts dita (next [] 0 put) in_m None)) + 0) e
     ∙ ap (λ (parts : List ℕ). length parts + 0) its_parts
 
 its_counts : CountsRight dita steps transcript told

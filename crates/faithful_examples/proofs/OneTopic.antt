@@ -7,6 +7,7 @@ use Rattle.std.specs.List.{flat_map}
 use Rattle.std.proofs.Common.{refl, subst, sym, arith}
 use Rattle.build_spec.specs.Built.{BuildOutcome, Done, Stopped}
 use Rattle.conref_spec.specs.Content.{followed_from, resolved_from}
+use Rattle.desk_language.specs.Language.{bytes_of_parts}
 use Rattle.dita_doc.specs.Desk.{State}
 use Rattle.dita_doc.specs.Lines.{line}
 use Rattle.dita_doc.specs.Tree.{Chars, Content, Element, End, nodes_of}
@@ -21,61 +22,77 @@ use Rattle.part_spec.specs.Parts.{clean_build, page_part}
 use Rattle.transcript_text.specs.Transcript.{BuiltPages, InRow, IsContents, IsPage, OfBuild, PageShown, PartShown, RowShown, StoppedBy}
 use Rattle.run_spec.specs.Cites.{ShowsBuilt}
 use Rattle.run_spec.specs.Language.{dita}
+use Rattle.faithful_examples.proofs.Shown.{lines}
 
-abbrev in_m : List ℕ
+abbrev pub in_m : List ℕ
 in_m = codes "m.ditamap"
 
-abbrev given : String → String → Attribute
+abbrev pub in_t : List ℕ
+in_t = codes "t.dita"
+
+abbrev pub given : String → String → Attribute
 given name value = record { name = codes name; value = codes value }
 
-abbrev map_tree : Content
+abbrev pub map_tree : Content
 map_tree = Element (codes "map") (given "class" "- map/map " ∷ []) 0 1
     (Element (codes "topicref") (given "class" "- map/topicref " ∷ given "href" "t.dita" ∷ []) 0 3 End End) End
 
-abbrev topic_tree : Content
+abbrev pub topic_tree : Content
 topic_tree = Element (codes "topic") (given "class" "- topic/topic " ∷ given "id" "t" ∷ []) 0 1
     (Element (codes "title") (given "class" "- topic/title " ∷ []) 0 4 (Chars (codes "Hello") 0 0 End)
     (Element (codes "body") (given "class" "- topic/body " ∷ []) 0 8
     (Element (codes "p") (given "class" "- topic/p " ∷ []) 0 10 (Chars (codes "A & B") 0 0 End) End) End)) End
 
-abbrev stored : State
-stored = record { name = in_m; nodes = nodes_of map_tree 0; bytes = []; version = 1 }
-    ∷ record { name = codes "t.dita"; nodes = nodes_of topic_tree 0; bytes = []; version = 2 } ∷ []
+abbrev pub map_body : List ℕ
+map_body = lines ("(map" ∷ "Aclass - map/map " ∷ "(topicref" ∷ "Aclass - map/topicref " ∷ "Ahref t.dita" ∷ ")topicref"
+    ∷ ")map" ∷ [])
 
-abbrev topic : List (List ℕ)
+abbrev pub topic_body : List ℕ
+topic_body = lines ("(topic" ∷ "Aclass - topic/topic " ∷ "Aid t" ∷ "(title" ∷ "Aclass - topic/title " ∷ "-Hello"
+    ∷ ")title" ∷ "(body" ∷ "Aclass - topic/body " ∷ "(p" ∷ "Aclass - topic/p " ∷ "-A & B" ∷ ")p" ∷ ")body" ∷ ")topic"
+    ∷ [])
+
+abbrev pub map_alone : State
+map_alone = record { name = in_m; nodes = nodes_of map_tree 0; bytes = map_body; version = 1 } ∷ []
+
+abbrev pub stored : State
+stored = record { name = in_m; nodes = nodes_of map_tree 0; bytes = map_body; version = 1 }
+    ∷ record { name = in_t; nodes = nodes_of topic_tree 0; bytes = topic_body; version = 2 } ∷ []
+
+abbrev pub topic : List (List ℕ)
 topic = map codes ("<!DOCTYPE html>" ∷ "<html><head><meta charset=\"utf-8\"><title>Hello</title></head>" ∷ "<body>"
     ∷ "<article id=\"t\"><h1>Hello</h1><div class=\"body\"><p>A &amp; B</p></div></article>" ∷ "</body></html>" ∷ [])
 
-abbrev contents_page : List (List ℕ)
+abbrev pub contents_page : List (List ℕ)
 contents_page = map codes ("<!DOCTYPE html>" ∷ "<html><head><meta charset=\"utf-8\"><title>Contents</title></head>"
     ∷ "<body>" ∷ "<nav class=\"toc\"><h1>Contents</h1><ul><li><a href=\"t.html\">Hello</a></li></ul></nav>"
     ∷ "</body></html>" ∷ [])
 
-abbrev build : BuildOutcome
+abbrev pub build : BuildOutcome
 build = Done ((codes "t.html", flat_map line topic) ∷ (codes "index.html", flat_map line contents_page) ∷ []) []
 
-its_build : dita.clean stored in_m None ≡ build
+pub its_build : dita.clean stored in_m None ≡ build
 unfolding clean_build plan_of map_included page_part all_pushes resolved_from followed_from body_html digits contents
     items_from
 its_build = refl
 
 -- a plan with two nodes and one page, a page of 181 bytes and a contents page of 188; two names are stored
-its_parts : dita.parts stored in_m None ≡ 896 ∷ 309 ∷ 316 ∷ []
+pub its_parts : bytes_of_parts dita stored in_m None ≡ 896 ∷ 309 ∷ 316 ∷ []
 unfolding plan_of map_included page_part all_pushes resolved_from followed_from body_html digits contents items_from
 its_parts = refl
 
 -- The transcript of the build
 
-abbrev row : ℕ → PartShown → List (List ℕ) → RowShown
+abbrev pub row : ℕ → PartShown → List (List ℕ) → RowShown
 row serial part text = record { serial = serial; part = part; map = in_m; val = None; lines = text }
 
-abbrev rows : List RowShown
+abbrev pub rows : List RowShown
 rows = row 2 (IsPage 0) topic ∷ row 3 IsContents contents_page ∷ []
 
-abbrev shown : List PageShown
+abbrev pub shown : List PageShown
 shown = record { name = codes "t.html"; mark = InRow 2 } ∷ record { name = codes "index.html"; mark = InRow 3 } ∷ []
 
-shows_pages : ShowsBuilt rows in_m None build (OfBuild (BuiltPages shown []))
+pub shows_pages : ShowsBuilt rows in_m None build (OfBuild (BuiltPages shown []))
 shows_pages = (
   shown,
   refl,
@@ -107,13 +124,13 @@ its_shown = subst (λ given. ShowsBuilt rows in_m None given (OfBuild (BuiltPage
 
 -- A map that is not stored: its build is stopped, and has one part, which has no value
 
-no_map : dita.clean [] in_m None ≡ Stopped stops.NoMap
+pub no_map : dita.clean [] in_m None ≡ Stopped stops.NoMap
 unfolding clean_build plan_of
 no_map = refl
 
-no_map_parts : dita.parts [] in_m None ≡ 64 ∷ []
+pub no_map_parts : bytes_of_parts dita [] in_m None ≡ 64 ∷ []
 unfolding plan_of
 no_map_parts = refl
 
-no_map_shown : ShowsBuilt [] in_m None (dita.clean [] in_m None) (OfBuild (StoppedBy stops.NoMap))
+pub no_map_shown : ShowsBuilt [] in_m None (dita.clean [] in_m None) (OfBuild (StoppedBy stops.NoMap))
 no_map_shown = subst (λ given. ShowsBuilt [] in_m None given (OfBuild (StoppedBy stops.NoMap))) (sym no_map) refl

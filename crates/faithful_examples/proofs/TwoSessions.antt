@@ -3,7 +3,7 @@
 use Rattle.std.specs.Fmt.{digits}
 use Rattle.std.specs.Prelude.{◌≡◌, ◌==◌, ℕ, List, [], ◌∷◌, Option, None, Some, Ok, Contains, codes, count_by}
 use Rattle.std.specs.Str.{is_utf8, chars}
-use Rattle.std.proofs.Common.{refl, arith}
+use Rattle.std.proofs.Common.{refl, subst, arith}
 use Rattle.std.proofs.lemmas.List.Elements.{recursion_from_All}
 use Rattle.std.proofs.lemmas.Option.{none-some}
 use lib.Utf8.{encode}
@@ -12,10 +12,12 @@ use Rattle.dita_doc.specs.Pyx.{document_of}
 use Rattle.dita_doc.specs.Request.{PutIf, Request, Single}
 use Rattle.script_text.specs.Script.{Step, script_of}
 use Rattle.transcript_text.specs.Transcript.{BuildShown, EntryShown, IsEntryShown, IsTranscript, IsRowShown, RowShown, Shown, StoredAt, Refuses, ConflictAt, Transcript, reply_shown, transcript_text}
-use Rattle.run_spec.specs.Faithful.{CitesEachRow, CountsRight, IsFaithful, IsInOrder, IsOfSession, ShowsBuild, ShowsReply, ShowsReplies, TakesEachOnce, serials_cited}
+use Rattle.run_spec.specs.Faithful.{CitesEachRow, CountsRight, IsFaithful, IsFaithfulTo, IsInOrder, IsOfSession, ShowsBuild, ShowsReply, ShowsReplies, TakesEachOnce, serials_cited}
 use Rattle.run_spec.specs.HistoryTold.{Moment, moments_of}
-use Rattle.run_spec.specs.Language.{Language}
+use Rattle.run_spec.specs.Language.{dita}
+use Rattle.desk_language.specs.Language.{Language}
 use Rattle.faithful_examples.proofs.Shown.{lines, all_of, pairs_of, each_number}
+use Rattle.faithful_examples.proofs.Verdicts.{keeps, only, rowless_form}
 
 abbrev body : List ℕ
 body = lines ("(p" ∷ ")p" ∷ [])
@@ -181,3 +183,39 @@ unfolding document_of is_utf8 chars encode
 not_both replies =
     let second = recursion_from_All ShowsReply (moments_of steps both_store) replies in
     shows_none second.1.0.0 second.1.0.1
+
+-- From the bytes of the script to those of each text
+
+first_is_faithful_to : IsFaithfulTo script
+    (lines ("dita transcript 1" ∷ "entry 0 1 1 stored 1" ∷ "entry 1 2 2 conflict 1" ∷ "end 2 0 0" ∷ []))
+first_is_faithful_to = record {
+  steps = steps;
+  are = its_steps;
+  faithful = subst (IsFaithful dita steps) first_text (first_is_faithful dita);
+}
+
+second_is_faithful_to : IsFaithfulTo script
+    (lines ("dita transcript 1" ∷ "entry 0 2 2 stored 1" ∷ "entry 1 1 1 conflict 1" ∷ "end 2 0 0" ∷ []))
+second_is_faithful_to = record {
+  steps = steps;
+  are = its_steps;
+  faithful = subst (IsFaithful dita steps) second_text (second_is_faithful dita);
+}
+
+-- both store it: it falls with the reply at place 1
+abbrev both_text : List ℕ
+both_text = lines ("dita transcript 1" ∷ "entry 0 1 1 stored 1" ∷ "entry 1 2 2 stored 2" ∷ "end 2 0 0" ∷ [])
+
+both_is : both_text ≡ transcript_text (transcript both_store)
+unfolding digits
+both_is = refl
+
+both_form : IsTranscript (transcript both_store)
+both_form = rowless_form both_store (only 2) (
+  record { place = omega arith; session = omega arith; number = omega arith; shown = omega arith },
+  (record { place = omega arith; session = omega arith; number = omega arith; shown = omega arith }, tt),
+) (omega arith) (omega arith) (omega arith)
+
+both_falls : IsFaithfulTo script both_text → ⊥
+both_falls given =
+    not_both (keeps script both_text steps (transcript both_store) its_steps both_form both_is given).replies

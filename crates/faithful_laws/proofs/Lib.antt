@@ -1,1 +1,3 @@
 pub mod StoredLaws
+pub mod OrderLaws
+pub mod SameLaws

@@ -141,7 +141,8 @@ family_added groups nodes old new place targets before count put first pushed = 
   are = λ page.
       ap (λ l. flat_map (targets_at l) (listed page new.of_pages.entries)) pushed
       ∙ ap (flat_map (targets_at kept)) (here page)
-      ∙ flat_map-append (targets_at kept) (listed page old.of_pages.entries) (if is_linking page nodes then last ∷ [] else [])
+      ∙ flat_map-append (targets_at kept) (listed page old.of_pages.entries)
+      (if is_linking page nodes then last ∷ [] else [])
       ∙ (λ i. (all_before old.targets.items targets (listed page old.of_pages.entries) (before.within page)
       ∙ before.are page) i ++ added (is_linking page nodes) i)
       ∙ sym (flat_map-append (siblings_of page) groups (nodes ∷ [])

@@ -7,10 +7,9 @@ use Rattle.dita_doc.specs.declared.content.LinkKind.TheVariants as links
 use Rattle.dita_doc.specs.declared.plan.PagePlan.{PagePlan}
 use Rattle.dita_doc.specs.declared.plan.Plan.{Plan}
 use Rattle.link_groups.specs.LinkNodes.{AreLinkNodes}
-use Rattle.link_groups.specs.declared.link_list.LinksMade.{LinksMade}
 use Rattle.link_groups.specs.declared.link_nodes.LinkNode.{LinkNode}
 use Rattle.link_groups.specs.declared.link_nodes.LinkNodes.{LinkNodes}
-use Rattle.link_spec.specs.Links.{LinkTo, family_links, links_of_kind}
+use Rattle.link_spec.specs.Links.{LinkTo, links_of_kind}
 use Rattle.plan_nodes.specs.Carried.{CarryValues}
 use Rattle.plan_nodes.specs.Preorder.{HasParentsBefore}
 use Rattle.reader_spec.specs.World.{World}
@@ -79,7 +78,3 @@ pub record IsMadeMore (kind : Option GroupKind) (entries : List (ℕ × Vec Link
 abbrev pub links_by_collections : World → Plan → ℕ → List LinkTo
 links_by_collections world plan page =
     flat_map (links_of_kind world plan page) (links.Previous ∷ links.Next ∷ links.Sibling ∷ [])
-
-pub record AreFamilyLinks (world : World) (plan : Plan) (page : ℕ) (made : LinksMade) : Type 0 where
-  pub links : made.links ≡ family_links world plan page
-  pub faults : made.faults ≡ []

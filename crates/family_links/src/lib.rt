@@ -1,8 +1,8 @@
 //! Links by collections: from each page of a sequence to those before and behind it, and from each
 //! page of a family to all others.
 //!
-//! What is used above it: `Collections`, made once for a plan, and `by_families`, which makes the
-//! links of one page alone, each exactly as the definition says.
+//! What is used above it: `Collections`, made once for a plan, whose links are exactly those of the
+//! definition.
 #![tactic(auto)]
 
 mod families;
@@ -11,4 +11,4 @@ mod lists;
 mod sequences;
 mod table;
 
-pub use table::{Collections, by_families};
+pub use table::Collections;

@@ -11,7 +11,6 @@ ghost use Rattle.plan_nodes.specs.Preorder as preorder_spec;
 ghost use Rattle.reader_spec.specs.World.{World};
 ghost use Rattle.readers.specs.Documents as documents_spec;
 ghost use Rattle.readers.specs.Documents.{AsksOnly};
-ghost use Rattle.readers.specs.Founded as founded_spec;
 ghost use Rattle.readers.specs.Founded.{Grows, StaysFounded};
 ghost use Rattle.readers.specs.Told.{Agrees};
 
@@ -19,8 +18,8 @@ use crate::families::Families;
 use crate::groups::{GroupKind, children_of, kinds_of};
 use crate::lists::copied;
 use crate::sequences::Sequences;
-use dita_doc::{List, NoMemory, Plan};
-use link_groups::{LinkList, LinkNode, LinkNodes, LinksMade};
+use dita_doc::{NoMemory, Plan};
+use link_groups::{LinkList, LinkNode, LinkNodes};
 use plan_nodes::{NodeElements, place_of};
 use readers::Asker;
 use std::alloc::Global;
@@ -116,56 +115,4 @@ fn collected(
         made.add(alloc, at, *kind, children)?;
     }
     Ok(made)
-}
-
-/// The links of a page by the collections of its plan. There are no faults.
-pub fn by_families<A: Asker>(
-    alloc: Global,
-    asker: &mut A,
-    plan: &Plan,
-    page: u32,
-) -> Result<LinksMade, NoMemory>
-    ensures known { (world : World) → Agrees world (A.told asker.new)
-        → spec.IsReady world plan.now (A.stand asker.old).setting.pages
-        → IfOk result (spec.AreFamilyLinks world plan.now page) }
-    ensures value { spec.IsReady (A.stand asker.old).world plan.now
-        (A.stand asker.old).setting.pages
-        → IfOk result (spec.AreFamilyLinks (A.stand asker.old).world plan.now page) }
-    ensures stand { A.stand asker.new ≡ A.stand asker.old }
-    ensures founded { StaysFounded (link_nodes_spec.plan_names plan.now) (A.told asker.old)
-        (A.told asker.new) }
-    ensures asks { AsksOnly documents_spec.nothing (founded_spec.homes plan.now.nodes)
-        (A.told asker.old) (A.told asker.new) }
-    ensures grows { Grows (A.told asker.old) (A.told asker.new) }
-{
-    families_linked(alloc, asker, plan, page)
-}
-
-// What `by_families` says, but of the reader's own world.
-#[tactic(auto, using(readers::proofs::Rules::walking))]
-fn families_linked<A: Asker>(
-    alloc: Global,
-    asker: &mut A,
-    plan: &Plan,
-    page: u32,
-) -> Result<LinksMade, NoMemory>
-    ensures known { (world : World) → Agrees world (A.told asker.new)
-        → spec.IsReady world plan.now (A.stand asker.old).setting.pages
-        → IfOk result (spec.AreFamilyLinks world plan.now page) }
-    ensures stand { A.stand asker.new ≡ A.stand asker.old }
-    ensures founded { StaysFounded (link_nodes_spec.plan_names plan.now) (A.told asker.old)
-        (A.told asker.new) }
-    ensures asks { AsksOnly documents_spec.nothing (founded_spec.homes plan.now.nodes)
-        (A.told asker.old) (A.told asker.new) }
-    ensures grows { Grows (A.told asker.old) (A.told asker.new) }
-{
-    let homes = NodeElements::of(alloc, asker, plan.nodes.as_slice())?;
-    let mut link_nodes = LinkNodes::new(alloc);
-    let collections = Collections::of(alloc, asker, plan, &homes, &mut link_nodes)?;
-    let mut links = LinkList::new(alloc, page);
-    collections.append(alloc, page, &mut links)?;
-    Ok(LinksMade {
-        links: links.written(alloc, asker, plan)?,
-        faults: List::new(alloc),
-    })
 }

@@ -12,8 +12,8 @@ use Rattle.dita_doc.specs.HtmlEscapes.{escaped_value, escaped_value_byte}
 use Rattle.dita_doc.specs.declared.content.Mark.{Mark}
 use Rattle.dita_doc.proofs.LackLaws.{no_equal}
 use Rattle.dita_doc.proofs.Tests.{less_before, not_zero, number_itself}
-use Rattle.html_blocks.specs.Marks.{AreRising, behind, class_text, class_with, texts_text}
-use Rattle.html_spec.specs.Blocks.{is_mark_at, marks_at, spaced}
+use Rattle.html_blocks.specs.Marks.{AreRising, behind, class_text, texts_text}
+use Rattle.html_spec.specs.Blocks.{class_with, is_mark_at, marks_at, spaced}
 
 -- The first of some marks
 

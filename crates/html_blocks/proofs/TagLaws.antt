@@ -4,14 +4,14 @@ use Rattle.std.specs.Borrow.{Bor}
 use Rattle.std.specs.Option.{option_and_then, option_copied, option_map_or}
 use Rattle.std.proofs.Common.{refl, sym, ap, ◌∙◌, append_assoc}
 use Rattle.dita_doc.specs.HtmlEscapes.{escaped_value}
-use Rattle.html_blocks.specs.Marks.{behind, class_text, class_with}
+use Rattle.html_blocks.specs.Marks.{behind, class_text}
 use Rattle.html_blocks.specs.Opened.{kind_text, note_begun, note_text}
 use Rattle.html_blocks.specs.Shown.{id_behind, name_begun}
 use Rattle.html_blocks.proofs.MarkLaws.{shown_value}
 use Rattle.map_spec.specs.Elements.{attribute}
 use Rattle.map_spec.specs.Titles.{id_of}
 use Rattle.map_spec.specs.Written.{Element}
-use Rattle.html_spec.specs.Blocks.{HtmlContext, attribute_text, id_attribute, if_some_text, note_class, start_of}
+use Rattle.html_spec.specs.Blocks.{HtmlContext, attribute_text, class_with, id_attribute, if_some_text, note_class, start_of}
 
 -- Ids
 

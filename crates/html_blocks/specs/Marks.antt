@@ -2,11 +2,10 @@
 use Rattle.std.specs.Prelude.{ℕ, List, ◌++◌, codes}
 use Rattle.std.specs.List.{flat_map}
 use Rattle.std.specs.List.Sorted.{IsNonDecreasingBy}
-use Rattle.std.specs.Option.{option_to_list}
 use Rattle.dita_doc.specs.HtmlEscapes.{escaped_value}
 use Rattle.dita_doc.specs.declared.content.Mark.{Mark}
 use Rattle.html_blocks.specs.declared.mark.ElementMarks.{ElementMarks}
-use Rattle.html_spec.specs.Blocks.{attribute_text, if_some_text, marks_at, spaced}
+use Rattle.html_spec.specs.Blocks.{attribute_text, if_some_text, marks_at}
 
 -- the places never fall from one mark to the next
 abbrev pub AreRising : List Mark → Type 0
@@ -15,10 +14,6 @@ AreRising marks = IsNonDecreasingBy (λ (mark : Mark). mark.place) marks
 -- the texts of an element's marks
 abbrev pub texts_of : ElementMarks → List (List ℕ)
 texts_of marks = marks_at marks.among.now marks.place
-
--- a class, and marks behind it
-abbrev pub class_with : List (List ℕ) → List ℕ → List ℕ
-class_with marks class = spaced (option_to_list (if_some_text class) ++ marks)
 
 -- the attribute of a class; an empty class is none
 abbrev pub class_text : List ℕ → List ℕ

@@ -4,7 +4,6 @@ use Rattle.std.specs.Option.{option_copied, option_map_or}
 use Rattle.dita_doc.specs.HtmlEscapes.{escaped, escaped_value}
 use Rattle.dita_doc.specs.declared.fact.Html.{Html}
 use Rattle.dita_doc.specs.declared.fault.FaultCode.TheVariants as faults
-use Rattle.html_blocks.specs.Marks.{class_with}
 use Rattle.html_blocks.specs.Shown.{counted}
 use Rattle.html_blocks.specs.Walk.{IsWithin, content_shown}
 use Rattle.html_blocks.specs.declared.element.Element as declared
@@ -16,7 +15,7 @@ use Rattle.map_spec.specs.Titles.{id_of}
 use Rattle.map_spec.specs.Written as written
 use Rattle.map_spec.specs.Written.{Element, Written}
 use Rattle.html_spec.specs.Blocks as blocks
-use Rattle.html_spec.specs.Blocks.{HtmlContext, Form, Overlay, alt_of, attribute_text, end_tag, if_some_text, is_type, note_class, shown, shown_with, spans, start_of, start_tag}
+use Rattle.html_spec.specs.Blocks.{Form, HtmlContext, Overlay, alt_of, attribute_text, class_with, end_tag, if_some_text, is_type, note_class, shown, shown_with, spans, start_of, start_tag}
 
 -- Where an element stands: what a token changes for those within
 

@@ -24,7 +24,7 @@ pub(crate) fn append_class(
     marks: &Marks<'_>,
 ) -> Result<(), AllocError>
     ensures { (name : List ℕ) → OnOk result (out.new ≡ out.old ++ marks_spec.class_text
-        (marks_spec.class_with (blocks_spec.marks_at marks.now.marks.now element.entry.place)
+        (blocks_spec.class_with (blocks_spec.marks_at marks.now.marks.now element.entry.place)
         (opened_spec.class_by (elements_walk.element_of name element.entry.node.now)
         (form_shown_of form)))) }
 {
@@ -88,7 +88,7 @@ fn append_marked_class(
     marks: ElementMarks<'_>,
 ) -> Result<(), AllocError>
     ensures { (name : List ℕ) → OnOk result (out.new ≡ out.old ++ marks_spec.class_text
-        (marks_spec.class_with (marks_spec.texts_of marks.entry) (opened_spec.class_by
+        (blocks_spec.class_with (marks_spec.texts_of marks.entry) (opened_spec.class_by
         (elements_walk.element_of name element.now) (form_shown_of form)))) }
 {
     match form {
@@ -100,7 +100,7 @@ fn append_marked_class(
 
 fn append_tag_class(out: &mut Text, class: &str, marks: ElementMarks<'_>) -> Result<(), AllocError>
     ensures { OnOk result (out.new ≡ out.old ++ marks_spec.class_text
-        (marks_spec.class_with (marks_spec.texts_of marks.entry) class.now)) }
+        (blocks_spec.class_with (marks_spec.texts_of marks.entry) class.now)) }
 {
     if class.is_empty() {
         append_marks(out, marks)

@@ -163,24 +163,24 @@ module _ (here : Here) (of_here : IsUtf8Here here) where
 
   -- Links and cross references
 
-  utf8_in_topic : (topic href : List ℕ) (target : Target) → IsUtf8 topic → IsUtf8Target target
-      → IsUtf8Target (in_topic here topic href target)
-  utf8_in_topic topic href targets.Nothing first second = tt
-  utf8_in_topic topic href (targets.Local name reference) first second =
+  utf8_in_topic : (topic : List ℕ) (target : Target) → IsUtf8 topic → IsUtf8Target target
+      → IsUtf8Target (in_topic here topic target)
+  utf8_in_topic topic targets.Nothing first second = tt
+  utf8_in_topic topic (targets.Local name reference) first second =
       chosen IsUtf8Target ((length reference.file == 0) && bytes_eq reference.topic (codes ".")
       && not (length reference.element == 0)) (targets.Local here.page.id.doc (record reference { topic = topic }))
       (targets.Local name reference) (of_here.page.0, first, second.2) second
-  utf8_in_topic topic href (targets.File name rest) first second = second
-  utf8_in_topic topic href (targets.Other value) first second = second
+  utf8_in_topic topic (targets.File name rest) first second = second
+  utf8_in_topic topic (targets.Other value) first second = second
 
   utf8_read_href : (topic : List ℕ) (element : Element) (href : Option (List ℕ)) → IsUtf8 topic → IsUtf8Element element
       → IfSome href IsUtf8 → IsUtf8Read (read_href here topic element href)
   utf8_read_href topic element None first second is = tt
   utf8_read_href topic element (Some href) first second is =
       let target = target_by href (format_of element) (scope_of element) element.href_doc in
-      utf8_read_as element href (option_map (in_topic here topic href) target)
-      (of_option_map IsUtf8Target IsUtf8Target (in_topic here topic href) target
-      (λ found one. utf8_in_topic topic href found first one)
+      utf8_read_as element href (option_map (in_topic here topic) target)
+      (of_option_map IsUtf8Target IsUtf8Target (in_topic here topic) target
+      (λ found one. utf8_in_topic topic found first one)
       (utf8_target_by href (format_of element) (scope_of element) element.href_doc is second.2))
 
   utf8_href_or_nothing : (element : Element) → IsUtf8Element element

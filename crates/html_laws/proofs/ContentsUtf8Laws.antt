@@ -24,14 +24,12 @@ use Rattle.link_spec.specs.Links.{is_child, page_of_node, plan_target}
 use Rattle.html_laws.specs.Utf8.{HasUtf8Value, IsUtf8Node, IsUtf8Page, IsUtf8Plan, IsUtf8Target, IsUtf8World}
 use Rattle.html_laws.proofs.ContentUtf8Laws.{IsUtf8Whole, utf8_attribute_at, utf8_attribute_of, utf8_child, utf8_first, utf8_text_of, utf8_title_in, utf8_under, utf8_whole_at}
 use Rattle.html_laws.proofs.EachLaws.{always, chosen, of_and_then, of_any, of_map_or, of_option, of_option_map, of_place}
+use Rattle.html_laws.proofs.MarkUtf8Laws.{conditional_low}
 use Rattle.html_laws.proofs.PageUtf8Laws.{text_utf8, utf8_each}
 use Rattle.html_laws.proofs.TextUtf8Laws.{is_low, utf8_attribute, utf8_codes, utf8_end, utf8_escaped, utf8_start, utf8_three}
 use Rattle.html_laws.proofs.WordLaws.{among_passes}
 
 -- The attributes of an item
-
-conditional_low : list_all (list_all is_low) conditional_names ≡ true
-conditional_low = refl
 
 data_by : (given : Attribute) (conditional : Bool) → is_conditional given.name ≡ conditional → HasUtf8Value given
     → IsUtf8 (data_text given)

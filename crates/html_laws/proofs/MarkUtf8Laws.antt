@@ -19,7 +19,7 @@ use Rattle.html_laws.proofs.FormLaws.{each_passes}
 use Rattle.html_laws.proofs.TextUtf8Laws.{is_low, utf8_codes, utf8_three}
 
 -- the names of attributes that are conditional in every document
-conditional_low : list_all (list_all is_low) conditional_names ≡ true
+pub conditional_low : list_all (list_all is_low) conditional_names ≡ true
 conditional_low = refl
 
 each_utf8 : (names : List (List ℕ)) → AllByRecursion (λ name. list_all is_low name ≡ true) names → AreUtf8Names names

@@ -294,7 +294,8 @@ module _ (setting : ResolveInput) (of_setting : IsUtf8Setting setting) where
   utf8_element : (resolve : Resolve) (is_range : Bool) (around : ContentAround) (depth : ℕ) (path : List Place)
       (element : Element) (inside : Written) (own : ContentAround → Made) → ResolvesInUtf8 resolve → IsUtf8Around around
       → IsUtf8Element element → IsUtf8Content inside → ResolvesOwnInUtf8 own
-      → IsUtf8Made (element_resolved resolve setting is_range around depth path element inside own)
+      → IsUtf8Made (element_resolved resolve setting
+      (record { is_range = is_range; around = around; depth = depth; path = path }) element inside own)
   utf8_element resolve is_range around depth path element inside own resolves names first second owns =
       let here = around_for is_range element around in
       let names_here = utf8_declared_by around.declared element.attributes names first.0 in
@@ -318,7 +319,8 @@ module _ (setting : ResolveInput) (of_setting : IsUtf8Setting setting) where
       ((all.0, tt), (tt, tt)) (utf8_among resolve is_range around depth path rest resolves names all.1)
   utf8_among resolve is_range around depth path (Node element inside rest) resolves names all =
       let own = λ (here : ContentAround). resolved_among resolve setting false here (depth + 1) path inside in
-      utf8_made_beside (element_resolved resolve setting is_range around depth path element inside own)
+      utf8_made_beside (element_resolved resolve setting
+      (record { is_range = is_range; around = around; depth = depth; path = path }) element inside own)
       (resolved_among resolve setting is_range around depth path rest)
       (utf8_element resolve is_range around depth path element inside own resolves names all.0 all.1
       (λ here known. utf8_among resolve false here (depth + 1) path inside resolves known all.1))

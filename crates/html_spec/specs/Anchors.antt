@@ -113,11 +113,11 @@ abbrev pub scope_of : Element → List ℕ
 scope_of element = unwrap_or (attribute (codes "scope") element) default_scope
 
 -- `#./element` means the topic where the element stands, on this page
-abbrev pub in_topic : Here → List ℕ → List ℕ → Target → Target
-in_topic here topic href (targets.Local name reference) =
+abbrev pub in_topic : Here → List ℕ → Target → Target
+in_topic here topic (targets.Local name reference) =
     if is_same_topic reference then targets.Local here.page.id.doc (record reference { topic = topic })
     else targets.Local name reference
-in_topic here topic href target = target
+in_topic here topic target = target
 
 -- what an href leads to, and that it can't be read
 pub record HrefRead : Type 0 where
@@ -132,7 +132,7 @@ read_as element href (Some target) = record { target = target; faults = [] }
 abbrev pub read_href : Here → List ℕ → Element → Option (List ℕ) → HrefRead
 read_href here topic element None = record { target = targets.Nothing; faults = [] }
 read_href here topic element (Some href) = read_as element href
-    (option_map (in_topic here topic href) (target_by href (format_of element) (scope_of element) element.href_doc))
+    (option_map (in_topic here topic) (target_by href (format_of element) (scope_of element) element.href_doc))
 
 -- Texts of elements without children
 

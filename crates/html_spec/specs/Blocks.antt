@@ -265,6 +265,7 @@ pub record Overlay : Type 0 where
 abbrev pub is_mark_at : ℕ → Mark → Bool
 is_mark_at place mark = mark.place == place
 
+-- the texts of the marks of the element at a place
 abbrev pub marks_at : List Mark → ℕ → List (List ℕ)
 marks_at marks place = map (λ (mark : Mark). mark.text) (filter (is_mark_at place) marks)
 
@@ -273,9 +274,13 @@ abbrev pub spaced : List (List ℕ) → List ℕ
 spaced [] = []
 spaced (text ∷ texts) = text ++ flat_map (λ other. codes " " ++ other) texts
 
+-- a class, if it is not empty, and the texts of marks behind it
+abbrev pub class_with : List (List ℕ) → List ℕ → List ℕ
+class_with marks class = spaced (option_to_list (if_some_text class) ++ marks)
+
 -- the class of an element: that of its form, if it has one, and behind it the element's marks
 abbrev pub class_at : Overlay → ℕ → List ℕ → List ℕ
-class_at overlay place class = spaced (option_to_list (if_some_text class) ++ marks_at overlay.marks place)
+class_at overlay place class = class_with (marks_at overlay.marks place) class
 
 -- Links
 

@@ -2,8 +2,6 @@
 use Rattle.std.specs.Prelude.{◌≡◌, ◌+◌, ℕ, Bool, true, false, List, [], ◌∷◌, ◌++◌, Some, None, Result, Ok, Err, OnOk, codes, is_ok, map, if◌then◌else◌}
 use Rattle.std.proofs.Common.{refl, sym, ap, ◌∙◌, append_assoc, subst}
 use Rattle.std.proofs.lemmas.List.{append-nil, map-append}
-use Rattle.dita_doc.specs.Tree as tree
-use Rattle.dita_doc.specs.Tree.{Content, size_of}
 use Rattle.html_forms.specs.Shown.{row_among}
 use Rattle.html_tables.specs.declared.context.TableContext.{TableContext}
 use Rattle.html_tables.specs.declared.groups.Groups.{Groups}
@@ -15,7 +13,6 @@ use Rattle.map_spec.specs.Written.{Element, Written, Chars, Node, size}
 use Rattle.html_spec.specs.Blocks as blocks
 use Rattle.html_spec.specs.Blocks.{CellAt, HtmlContext, Form, cell_by, cells_from, columns_in, context_in, head_in, is_type, row_for, simple_head_in, topic_in, within_type}
 use Rattle.html_spec.specs.Tables.{columns_of, is_column_group, rows_of}
-use Rattle.readers.specs.Named.{under_names}
 
 -- Contexts
 
@@ -166,12 +163,6 @@ more_again old new next first second one two = record {
 }
 
 -- Sizes
-
-pub size_named : (names : List (List ℕ)) (c : Content) → size (under_names names c) ≡ size_of c
-size_named names tree.End = refl
-size_named names (tree.Chars text origin line rest) = ap (λ n. 1 + n) (size_named names rest)
-size_named names (tree.Element name attributes origin line inside rest) =
-    rw (size_named names inside, size_named names rest) refl
 
 module _ (around : HtmlContext) (here : ℕ) (nodes : Written) where
   -- an element, what it holds, and what comes behind it

@@ -15,9 +15,10 @@ use Rattle.std.proofs.Common.{◌+◌, ◌<◌, add-one, append-nil, append_asso
 use Rattle.std.proofs.lemmas.List.{map-append}
 use Rattle.std.proofs.lemmas.List.Elements.{All-head, All-tail}
 use Rattle.std.proofs.lemmas.Slice.Eq.{bytes_eq-Decides}
+use Rattle.dita_doc.specs.TextOrder.{text_cmp}
 use Rattle.dita_doc.specs.declared.content.TermEntry.{TermEntry}
 use Rattle.html_spec.specs.Terms.{IndexPages, below, ends, entry_behind, first_text, item, items_of}
-use Rattle.index_page.specs.Groups.{AreGroups, Groups, if_there, listed, text_cmp}
+use Rattle.index_page.specs.Groups.{AreGroups, Groups, if_there, listed}
 use Rattle.index_page.specs.Rows.{all_end, entries_of, entry_of}
 use Rattle.index_page.specs.Walk.{entry_at}
 use Rattle.index_page.specs.declared.rows.TermRow.{TermRow}

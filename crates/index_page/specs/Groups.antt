@@ -1,13 +1,12 @@
 -- The rows of a level by their first texts (own).
 use Rattle.std.specs.Prelude.{◌≡◌, ℕ, List, [], ◌∷◌, if◌then◌else◌}
 use Rattle.std.specs.BTreeMap.{is_at}
-use Rattle.std.specs.Cmp.Lexicographic.{slice_cmp}
 use Rattle.std.specs.Map.{keys_of, lookup}
 use Rattle.std.specs.Option.{option_map_or}
-use Rattle.std.specs.Ordering.{is_eq, nat_cmp}
-use Rattle.std.specs.declared.cmp.Ordering.{Ordering}
+use Rattle.std.specs.Ordering.{is_eq}
 use Rattle.std.specs.declared.alloc.Global.{Global}
 use Rattle.std.specs.declared.vec.Vec.{Vec}
+use Rattle.dita_doc.specs.TextOrder.{text_cmp}
 use Rattle.dita_doc.specs.declared.content.TermEntry.{TermEntry}
 use Rattle.html_spec.specs.Terms.{below, texts_of}
 use Rattle.index_page.specs.Rows.{entries_of}
@@ -16,9 +15,6 @@ use Rattle.index_page.specs.declared.rows.TermRow.{TermRow}
 -- rows by a text
 abbrev pub Groups : Type 0
 Groups = List (List ℕ × Vec TermRow Global)
-
-abbrev pub text_cmp : List ℕ → List ℕ → Ordering
-text_cmp one other = slice_cmp nat_cmp one other
 
 -- the rows that were put at a text
 abbrev pub listed : List ℕ → Groups → List TermRow

@@ -3,6 +3,7 @@
 ghost use Rattle.std.specs.Prelude.{◌≡◌, ◌++◌, ℕ, List, IfOk, OnOk};
 ghost use Rattle.std.specs.BTreeSet.{insert_key};
 ghost use Rattle.std.specs.Map.{keys_of};
+ghost use Rattle.dita_doc.specs.TextOrder.{text_cmp};
 ghost use Rattle.index_page.specs.Groups as spec;
 ghost use Rattle.index_page.specs.Rows as rows_spec;
 
@@ -41,7 +42,7 @@ fn put<'a>(
     row: TermRow<'a>,
 ) -> Result<(), NoMemory>
     ensures texts { OnOk result (keys_of groups.new.entries
-        ≡ insert_key spec.text_cmp (keys_of groups.old.entries) text) }
+        ≡ insert_key text_cmp (keys_of groups.old.entries) text) }
     ensures rows { OnOk result ((other : List ℕ) → spec.listed other groups.new.entries
         ≡ spec.listed other groups.old.entries ++ spec.if_there other text row.entry) }
 {

@@ -106,7 +106,8 @@ fits_dot dot scope key name d within is = by_found (behind_dot name key) refl
             let first : nat_lt (length name) (dot + 1) ≡ true = grind (arith, nat_tests) in
             let second : nat_lt (length name) dot ≡ false = grind (arith, nat_tests) in
             rw (first, second) refl
-        by_test false f = by_lengths (cases_Bool (nat_lt (length name) dot)) (cases_Bool (nat_lt (length name) (dot + 1)))
+        by_test false f =
+            by_lengths (cases_Bool (nat_lt (length name) dot)) (cases_Bool (nat_lt (length name) (dot + 1)))
           where
             by_lengths : (nat_lt (length name) dot ≡ true) ⊎ (nat_lt (length name) dot ≡ false)
                 → (nat_lt (length name) (dot + 1) ≡ true) ⊎ (nat_lt (length name) (dot + 1) ≡ false)
@@ -134,7 +135,8 @@ fits_no_dot dot key name d other = by_found (behind_dot name key) refl
     by_found : (found : Option (List ℕ)) → behind_dot name key ≡ found
         → (nat_lt (length name) (dot + 1) && is_some found) ≡ (nat_lt (length name) dot && is_some found)
     by_found None e = none (nat_lt (length name) (dot + 1)) (nat_lt (length name) dot)
-    by_found (Some rest) e = by_lengths (cases_Bool (nat_lt (length name) dot)) (cases_Bool (nat_lt (length name) (dot + 1)))
+    by_found (Some rest) e =
+        by_lengths (cases_Bool (nat_lt (length name) dot)) (cases_Bool (nat_lt (length name) (dot + 1)))
       where
         by_lengths : (nat_lt (length name) dot ≡ true) ⊎ (nat_lt (length name) dot ≡ false)
             → (nat_lt (length name) (dot + 1) ≡ true) ⊎ (nat_lt (length name) (dot + 1) ≡ false)

@@ -174,5 +174,6 @@ searched test from to (node ∷ nodes) long =
       here = behind.here;
       low = let less = behind.low in omega (arith, less);
       high = behind.high;
-      first = λ other low high. at_first e other low (λ less. behind.first other less high) (cases_Bool (other == from));
+      first = λ other low high. at_first e other low (λ less. behind.first other less high)
+          (cases_Bool (other == from));
     }

@@ -163,7 +163,8 @@ module _ (ends : List ℕ) (nested : AreNested ends) (definitions : List Definit
     is = ap (slice_get definitions) top ∙ is;
     of_key = refl;
     around = inl top;
-    least = λ place other there_is low same around. by_test place other there_is same around (cases_Bool (place == at)) low;
+    least = λ place other there_is low same around. by_test place other there_is same around
+        (cases_Bool (place == at)) low;
   }
     where
       by_test : (place : ℕ) (other : Definition) → slice_get definitions place ≡ Some other → other.key ≡ own.key

@@ -274,7 +274,8 @@ module _ (world : World) (nodes : List PlanNode) (scope : ℕ) (key : List ℕ) 
         ∙ All-contains (NotBefore counts e) sorted (key, scope, is.level, at) (least counts sorted e ordered found)
         (there_is is.level at is.within is.here) (counts_it is.level at is.high) in
         ap Some (same_place e at is.level both.0.within here not is.lower is.first
-        (cases_Bool (nat_lt is.level e.2)) (cases_Bool (nat_lt e.2 is.level)) (cases_Bool (nat_lt at e.3)) (cases_Bool (nat_lt e.3 at)))
+        (cases_Bool (nat_lt is.level e.2)) (cases_Bool (nat_lt e.2 is.level)) (cases_Bool (nat_lt at e.3))
+        (cases_Bool (nat_lt e.3 at)))
       where
         same_place : (e : KeyEntry) (at level : ℕ) → e.3 < length nodes → hit world nodes scope key e.2 e.3 ≡ true
             → is_lt (ordering_then (nat_cmp level e.2) (nat_cmp at e.3)) ≡ false

@@ -108,8 +108,10 @@ made_same resolve other setting is_range around depth path own own_too found sam
 element_same : (resolve other : Resolve) (setting : ResolveInput) (is_range : Bool) (around : ContentAround) (depth : ℕ)
     (path : List Place) (element : Element) (inside : Written) (own own_too : ContentAround → Made)
     → ResolveAlike path resolve other → IsPath path → ((here : ContentAround) → own here ≡ own_too here)
-    → element_resolved resolve setting is_range around depth path element inside own
-    ≡ element_resolved other setting is_range around depth path element inside own_too
+    → element_resolved resolve setting
+    (record { is_range = is_range; around = around; depth = depth; path = path }) element inside own
+    ≡ element_resolved other setting
+    (record { is_range = is_range; around = around; depth = depth; path = path }) element inside own_too
 element_same resolve other setting is_range around depth path element inside own own_too same is own_same =
     let here = around_for is_range element around in
     let found = followed setting here.topic depth path element inside in

@@ -76,7 +76,8 @@ once_has page (link ∷ links) = by_test (once_has page links) (link.page == pag
 new_behind : (link other : LinkTo) (links : List LinkTo)
     → is_new (link ∷ links) other ≡ (beside link other && is_new links other)
 new_behind link other links =
-    by_tests (link.page == other.page) (other.page == link.page) (has links other.page) (number_swaps link.page other.page)
+    by_tests (link.page == other.page) (other.page == link.page) (has links other.page)
+    (number_swaps link.page other.page)
   where
     by_tests : (a b c : Bool) → a ≡ b → not (a || c) ≡ (not b && not c)
     by_tests true true c e = refl

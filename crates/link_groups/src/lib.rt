@@ -9,5 +9,5 @@
 mod link_list;
 mod link_nodes;
 
-pub use link_list::{LinkList, LinksMade};
+pub use link_list::LinkList;
 pub use link_nodes::{LinkNode, LinkNodes, name_at, node_at};

@@ -15,18 +15,11 @@ ghost use Rattle.readers.specs.Founded.{Grows, StaysFounded};
 ghost use Rattle.readers.specs.Told.{Agrees};
 
 use crate::link_nodes::LinkNode;
-use dita_doc::{Fault, LinkKind, List, NoMemory, PageLink, PagePlan, Plan, Text};
+use dita_doc::{LinkKind, List, NoMemory, PageLink, PagePlan, Plan, Text};
 use href_text::relative;
 use readers::Asker;
 use std::alloc::Global;
 use std::collections::BTreeSet;
-
-/// The links of a page, and the faults that were met.
-#[derive(Drop)]
-pub struct LinksMade {
-    pub links: List<PageLink>,
-    pub faults: List<Fault>,
-}
 
 // A link to a page.
 #[derive(Clone, Copy)]

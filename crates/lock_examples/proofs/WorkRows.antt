@@ -12,7 +12,7 @@ use Rattle.desk_lock.specs.Knows.{arrived, both, drew, first_view, has_met, part
 use Rattle.desk_lock.specs.Meaning.{IsRightRow, Meaning}
 use Rattle.desk_lock.specs.declared.view.View.{View}
 use Rattle.desk_work.specs.Build.{Ends, EndsBuilt, BuildOrder, Stood, Whole}
-use Rattle.desk_work.specs.Language.{Language, key_of}
+use Rattle.desk_language.specs.Language.{Language, key_of}
 use Rattle.desk_work.specs.Work.{Cites, Basis, IsMadeFor, Job, Progress, Worked}
 use Rattle.desk_work.specs.declared.built.Built.{Built}
 use Rattle.desk_work.specs.declared.built.Outcome.TheVariants as outcomes
@@ -36,6 +36,7 @@ language = record {
   clean = λ state root val. clean_spec.Stopped stops.NoMap;
   page_count = λ state root val. None;
   value_bytes = λ state key. 0;
+  Reaches = λ state root val name. name ≡ root;
 }
 
 -- what the parts mean, and the fact of this plan, which is right

@@ -102,7 +102,8 @@ all_of grown nodes faults is =
 pub finished : (grown : Grown) (made : Expanded) → made.nodes ≡ plan_nodes grown.tree → made.faults ≡ grown.faults
     → count grown.tree ≤ map_node_limit → given (limited map_node_limit grown) ≡ Ok made
 finished grown made nodes faults fits =
-    ap (λ (t : Bool). given (if t then Ok grown else Err stops.TooManyNodes)) (le-leb (count grown.tree) map_node_limit fits)
+    ap (λ (t : Bool). given (if t then Ok grown else Err stops.TooManyNodes))
+    (le-leb (count grown.tree) map_node_limit fits)
     ∙ ap Ok (same_expanded (plan_nodes grown.tree) made.nodes grown.faults made.faults (sym nodes) (sym faults))
   where
     same_expanded : (a b : List PlanNode) (f h : List Fault) → a ≡ b → f ≡ h

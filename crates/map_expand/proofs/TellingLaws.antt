@@ -128,7 +128,8 @@ module _ (element : Element) (href name : List ℕ) (is : attribute (codes "href
   gives_name : IsTrue (is_among (names_of_element element) name)
   gives_name =
       let read : name_joined element.doc href ≡ Some name =
-      name_by (is_far (unwrap_or (attribute (codes "scope") element) default_scope)) (is_external href) _ _ name named in
+      name_by (is_far (unwrap_or (attribute (codes "scope") element) default_scope)) (is_external href) _ _ name
+      named in
       let found : option_and_then (name_joined element.doc) (attribute (codes "href") element) ≡ Some name =
       ap (option_and_then (name_joined element.doc)) is ∙ read in
       first_among (codes "href") element.doc element.attributes name refl

@@ -1,5 +1,5 @@
 -- What a key gives is the same for nodes that are alike.
-use Rattle.std.specs.Prelude.{◌≡◌, ◌+◌, ◌==◌, ℕ, Bool, false, zero, suc, List, [], ◌∷◌, ◌++◌, Option, Some, None, is_some, map, slice_get, unwrap_or, codes, if◌then◌else◌, true, ◌<◌, length, ◌≤◌}
+use Rattle.std.specs.Prelude.{◌≡◌, ◌+◌, ◌==◌, ℕ, zero, suc, List, [], ◌∷◌, ◌++◌, Option, Some, None, is_some, map, slice_get, unwrap_or, codes, if◌then◌else◌, true, ◌<◌, length, ◌≤◌, Bool, false}
 use Rattle.std.specs.List.{IsDistinct, flat_map, list_any}
 use Rattle.std.specs.Option.{option_and_then, option_map_or, option_or}
 use Rattle.std.proofs.Common.{ap, arith, eqb, length-append, refl, sym, ◌∙◌}
@@ -150,7 +150,8 @@ none_found [] f none = refl
 none_found (x ∷ xs) f none = first_beside (f x) (flat_map f xs) ∙ rw (none x) (none_found xs f none)
 
 -- nor where no answer is anything
-pub none_mapped : {X Y : Type 0} (xs : List X) (f : X → Option Y) → ((x : X) → f x ≡ None) → first_found (map f xs) ≡ None
+pub none_mapped : {X Y : Type 0} (xs : List X) (f : X → Option Y) → ((x : X) → f x ≡ None)
+    → first_found (map f xs) ≡ None
 none_mapped [] f none = refl
 none_mapped (x ∷ xs) f none = rw (none x) (none_mapped xs f none)
 
@@ -166,7 +167,8 @@ told_if true found x e = e
 told_if false found x e = absurd (cc)
 
 -- what stands behind a beginning is shorter by its length
-pub behind_shorter : (front text rest : List ℕ) → behind front text ≡ Some rest → length text ≡ length front + length rest
+pub behind_shorter : (front text rest : List ℕ) → behind front text ≡ Some rest
+    → length text ≡ length front + length rest
 behind_shorter [] text rest e = let same : text ≡ rest = cc in omega (arith, ap length same)
 behind_shorter (b ∷ front) [] rest e = absurd (cc)
 behind_shorter (b ∷ front) (c ∷ text) rest e =

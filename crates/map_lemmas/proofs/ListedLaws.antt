@@ -5,7 +5,8 @@ use Rattle.std.proofs.lemmas.List.{take_more}
 use Rattle.dita_doc.specs.declared.plan.PlanNode.{PlanNode}
 use Rattle.map_spec.specs.Scopes.{places, places_from}
 
-pub get_place : {X : Type 0} (xs : List X) (from at d : ℕ) → at < length xs → get_or (places_from from xs) at d ≡ from + at
+pub get_place : {X : Type 0} (xs : List X) (from at d : ℕ) → at < length xs
+    → get_or (places_from from xs) at d ≡ from + at
 get_place [] from at d within = absurd (omega arith)
 get_place (x ∷ xs) from zero d within = omega arith
 get_place (x ∷ xs) from (suc at) d within =

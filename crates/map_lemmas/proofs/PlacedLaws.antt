@@ -133,7 +133,8 @@ abbrev pub InDocument : List ℕ → List Standing → Type 0
 InDocument name [] = Unit {0}
 InDocument name (standing ∷ more) = (standing.whole.0.doc ≡ name) × InDocument name more
 
-pub of_both : (name : List ℕ) (some more : List Standing) → InDocument name some → InDocument name more → InDocument name (some ++ more)
+pub of_both : (name : List ℕ) (some more : List Standing) → InDocument name some → InDocument name more
+    → InDocument name (some ++ more)
 of_both name [] more here there = there
 of_both name (standing ∷ some) more here there = (here.0, of_both name some more here.1 there)
 

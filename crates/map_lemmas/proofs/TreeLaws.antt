@@ -30,7 +30,8 @@ below_beside parent place (MapNode head below more) second =
     ap (λ others. node ∷ (inner ++ others)) (below_beside parent end more second)
     ∙ ap (λ n. node ∷ (inner ++ (nodes_below parent end more ++ nodes_below parent n second))) behind
     ∙ ap (λ others. node ∷ others)
-    (sym (append_assoc inner (nodes_below parent end more) (nodes_below parent (place + (1 + (count below + count more))) second)))
+    (sym (append_assoc inner (nodes_below parent end more)
+    (nodes_below parent (place + (1 + (count below + count more))) second)))
 
 -- what is written is as large as its content
 pub size_written : (name : List ℕ) (content : Content) → size (written_in name content) ≡ size_of content

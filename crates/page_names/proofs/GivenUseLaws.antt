@@ -21,9 +21,8 @@ use Rattle.plan_nodes.proofs.TargetLaws.{doc_there}
 use Rattle.reader_spec.specs.World.{World}
 use Rattle.readers.specs.Founded.{AreAllowed, Grows, StaysFounded, homes}
 use Rattle.readers.specs.Told.{Told, key}
-use Rattle.readers.proofs.FoundedLaws.{given_allowed, none_allowed, one_allowed, stays_after, stays_one, stays_then}
+use Rattle.readers.proofs.FoundedLaws.{given_allowed, none_allowed, one_allowed, stays_after, stays_then}
 use Rattle.page_names.specs.Aims.{IsAim, IsGiven, IsHrefOf, MayName, names_of_target}
-use Rattle.page_names.proofs.UseLaws.{home_there}
 
 -- The href of a node
 
@@ -137,10 +136,3 @@ pub known_founded : (known nodes : List PlanNode) (a b c : List Told) → known 
     → StaysFounded (homes nodes) a b → StaysFounded (homes known) b c → StaysFounded (homes nodes) a c
 known_founded known nodes a b c same grows before next = stays_after (homes nodes) a b c grows before
     (subst (λ ns. StaysFounded (homes ns) b c) same next)
-
-pub alone_founded : (nodes alone : List PlanNode) (at : ℕ) (node : PlanNode) (old new : List Told)
-    → slice_get nodes at ≡ Some node → alone ≡ node ∷ [] → StaysFounded (homes alone) old new
-    → StaysFounded (homes nodes) old new
-alone_founded nodes alone at node old new there is stays =
-    stays_one node.doc (homes nodes) old new (home_there nodes at node there)
-    (subst (λ ns. StaysFounded (homes ns) old new) is stays)

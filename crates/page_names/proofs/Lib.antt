@@ -2,7 +2,7 @@ mod AimLaws
 mod BaseLaws
 mod GivenUseLaws
 mod KeyLaws
-mod MadeLaws
+pub mod MadeLaws
 mod NameLaws
 mod OnceLaws
 mod PageUseLaws

@@ -1,5 +1,5 @@
 -- What the nodes so far lead to and use, and one node more.
-use Rattle.std.specs.Prelude.{◌≡◌, ◌+◌, ◌-◌, ◌<◌, ◌&&◌, ◌++◌, ℕ, zero, suc, Bool, true, false, List, [], ◌∷◌, Option, Some, None, OnOk, Result, IsTrue, drop, length, map, option_map, slice_get, take, unwrap_or, if◌then◌else◌}
+use Rattle.std.specs.Prelude.{◌≡◌, ◌+◌, ◌-◌, ◌<◌, ◌&&◌, ◌++◌, ℕ, zero, suc, Bool, true, false, List, [], ◌∷◌, Option, Some, None, OnOk, Result, length, map, option_map, slice_get, take, unwrap_or, if◌then◌else◌}
 use Rattle.std.specs.List.{filter_map, flat_map}
 use Rattle.std.specs.Option.{option_and_then, option_map_or, option_to_list}
 use Rattle.std.proofs.Common.{refl, sym, ap, subst, ◌∙◌, arith, append-nil, append_assoc}
@@ -19,11 +19,6 @@ use Rattle.plan_nodes.specs.Preorder.{is_in_table_at, tables_around}
 use Rattle.reader_spec.specs.World.{World}
 use Rattle.page_names.specs.Aims.{Carries, IsAim}
 use Rattle.page_names.specs.PageUses.{AreFirst, use_by, with_use}
-use Rattle.readers.specs.Documents.{AsksOnly, nothing}
-use Rattle.readers.specs.Founded.{homes, is_among}
-use Rattle.readers.specs.Told.{Told}
-use Rattle.readers.proofs.DocumentLaws.{asks_one}
-use Rattle.readers.proofs.FoundedLaws.{among_behind, among_first}
 use Rattle.dita_doc.specs.declared.question.DocKind.{DocKind}
 use Rattle.dita_doc.proofs.Lists.{one_found}
 use Rattle.map_lemmas.proofs.ListedLaws.{count_places, place_there, places_more}
@@ -113,7 +108,8 @@ pub node_added : (world : World) (nodes : List PlanNode) (at : ℕ) (node : Plan
 node_added world nodes at node target is_in used old middle added new there carries inside before aim kept is_used adds
     targets_new documents_new pages_new faults_new =
     let so_far = take at (places nodes) in
-    let more : take (at + 1) (places nodes) ≡ so_far ++ at ∷ [] = places_more nodes at (slice_get_within nodes at node there) in
+    let more : take (at + 1) (places nodes) ≡ so_far ++ at ∷ [] = places_more nodes at
+    (slice_get_within nodes at node there) in
     let use_is : used ≡ used_at world nodes at =
     used_there world nodes at node target is_in used there inside aim.leads is_used in
     let names_are : with_names (each_once (filter_map (used_at world nodes) so_far)) used
@@ -194,31 +190,3 @@ pub some_added : {A : Type 0} (world : World) (nodes : List PlanNode) (at : ℕ)
     → OnOk result (IsAdded world nodes at node names uses found old new)
 some_added world nodes at node names uses found name result old new some is =
     subst (λ f. OnOk result (IsAdded world nodes at node names uses f old new)) (sym some) is
-
--- One of the nodes
-
-one_there : {X : Type 0} (xs : List X) (at : ℕ) (x : X) → slice_get xs at ≡ Some x → take 1 (drop at xs) ≡ x ∷ []
-one_there [] at x is = cc
-one_there (first ∷ xs) zero x is = let same : first ≡ x = cc in ap (λ y. y ∷ []) same
-one_there (first ∷ xs) (suc at) x is = one_there xs at x is
-
-pub alone_there : {X : Type 0} (xs : List X) (at : ℕ) (x : X) → slice_get xs at ≡ Some x
-    → take ((at + 1) - at) (drop at xs) ≡ x ∷ []
-alone_there xs at x is =
-    let one : (at + 1) - at ≡ 1 = omega arith in ap (λ n. take n (drop at xs)) one ∙ one_there xs at x is
-
-pub home_there : (nodes : List PlanNode) (at : ℕ) (node : PlanNode) → slice_get nodes at ≡ Some node
-    → IsTrue (is_among (homes nodes) node.doc)
-home_there [] at node is = cc
-home_there (first ∷ nodes) zero node is =
-    let same : first ≡ node = cc in
-    subst (λ (n : PlanNode). IsTrue (is_among (homes (first ∷ nodes)) n.doc)) same (among_first first.doc (homes nodes))
-home_there (first ∷ nodes) (suc at) node is =
-    among_behind first.doc (homes nodes) node.doc (home_there nodes at node is)
-
-pub alone_asks : (nodes alone : List PlanNode) (at : ℕ) (node : PlanNode) (old new : List Told)
-    → slice_get nodes at ≡ Some node → alone ≡ node ∷ [] → AsksOnly nothing (homes alone) old new
-    → AsksOnly nothing (homes nodes) old new
-alone_asks nodes alone at node old new there is asks =
-    asks_one nothing node.doc (homes nodes) old new (home_there nodes at node there)
-    (subst (λ ns. AsksOnly nothing (homes ns) old new) is asks)

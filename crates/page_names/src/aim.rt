@@ -1,6 +1,6 @@
 //! What a reference of a map leads to: by its key, else by its href.
 
-ghost use Rattle.std.specs.Prelude.{◌≡◌, ◌++◌, [], ◌∷◌, ℕ, List, IfOk, OnOk, Some, codes, slice_get};
+ghost use Rattle.std.specs.Prelude.{◌≡◌, ◌++◌, [], ℕ, List, IfOk, OnOk, Some, codes, slice_get};
 ghost use Rattle.std.specs.Option.{option_copied};
 ghost use Rattle.dita_doc.specs.declared.plan.PlanNode as plan_node_spec;
 ghost use Rattle.map_spec.specs.Cascade as cascade_spec;
@@ -8,6 +8,7 @@ ghost use Rattle.map_spec.specs.Included as included_spec;
 ghost use Rattle.map_spec.specs.Pages as pages_spec;
 ghost use Rattle.page_names.specs.Aims as spec;
 ghost use Rattle.page_names.specs.Made as made_spec;
+ghost use Rattle.plan_nodes.specs.Carried as carried_spec;
 ghost use Rattle.reader_spec.specs.World.{World};
 ghost use Rattle.readers.specs.Documents as documents_spec;
 ghost use Rattle.readers.specs.Documents.{AsksOnly};
@@ -21,8 +22,9 @@ use readers::Keys;
 use std::alloc::Global;
 use targets::{split_key, target_by};
 
-/// What the node at this place leads to. Only a reference leads anywhere, and only for a reference
-/// its document is asked for.
+/// What the node at this place leads to. Only a reference leads anywhere. For a reference the
+/// documents of all nodes are asked for: which format and scope its href has may cascade to it from
+/// the nodes above.
 ///
 /// # Errors
 ///
@@ -33,8 +35,10 @@ pub fn target<K: Keys>(
     nodes: &List<PlanNode>,
     at: u32,
 ) -> Result<Target, NoMemory>
-    ensures known { (world : World) → Agrees world (K.told asker.new)
-        → made_spec.IsTarget (K.stand asker.old).setting.nodes world nodes.now at result }
+    ensures known { (K.stand asker.old).setting.nodes ≡ nodes.now
+        → carried_spec.CarryValues (K.stand asker.old).world nodes.now
+        → carried_spec.CarryScopes nodes.now → (world : World) → Agrees world (K.told asker.new)
+        → IfOk result (λ target. target ≡ (pages_spec.aim_at world nodes.now at).target) }
     ensures value { made_spec.IsTarget (K.stand asker.old).setting.nodes
         (K.stand asker.old).world nodes.now at result }
     ensures stand { K.stand asker.new ≡ K.stand asker.old }
@@ -55,8 +59,10 @@ fn target_in<K: Keys>(
     nodes: &[PlanNode],
     at: usize,
 ) -> Result<Target, NoMemory>
-    ensures known { (world : World) → Agrees world (K.told asker.new)
-        → made_spec.IsTarget (K.stand asker.old).setting.nodes world nodes.now at result }
+    ensures known { (K.stand asker.old).setting.nodes ≡ nodes.now
+        → carried_spec.CarryValues (K.stand asker.old).world nodes.now
+        → carried_spec.CarryScopes nodes.now → (world : World) → Agrees world (K.told asker.new)
+        → IfOk result (λ target. target ≡ (pages_spec.aim_at world nodes.now at).target) }
     ensures stand { K.stand asker.new ≡ K.stand asker.old }
     ensures founded { (K.stand asker.old).setting.nodes ≡ nodes.now
         → StaysFounded (founded_spec.homes nodes.now) (K.told asker.old) (K.told asker.new) }
@@ -70,7 +76,7 @@ fn target_in<K: Keys>(
     if !is_reference(node.kind) {
         return Ok(Target::Nothing);
     }
-    target_alone(alloc, asker, &nodes[at..at + 1], node)
+    target_among(alloc, asker, nodes, at, node)
 }
 
 pub(crate) fn node_at(nodes: &[PlanNode], at: usize) -> Option<&PlanNode>
@@ -85,32 +91,32 @@ pub(crate) fn is_reference(kind: PlanKind) -> bool
     kind == PlanKind::Reference
 }
 
-// What a reference leads to, which is alone in the list.
+// What a reference leads to, which stands at this place among the nodes.
 #[tactic(auto, using(readers::proofs::Rules::walking))]
-fn target_alone<K: Keys>(
+fn target_among<K: Keys>(
     alloc: Global,
     asker: &mut K,
-    alone: &[PlanNode],
+    nodes: &[PlanNode],
+    at: usize,
     node: &PlanNode,
 ) -> Result<Target, NoMemory>
-    ensures known { (world : World) (nodes : List plan_node_spec.PlanNode) (at : ℕ)
-        → Agrees world (K.told asker.new) → (K.stand asker.old).setting.nodes ≡ nodes
-        → spec.Carries world nodes at node.now → alone.now ≡ node.now ∷ []
-        → IfOk result (λ target. target ≡ (pages_spec.aim_with world nodes at node.now
+    ensures known { (K.stand asker.old).setting.nodes ≡ nodes.now
+        → carried_spec.CarryValues (K.stand asker.old).world nodes.now
+        → carried_spec.CarryScopes nodes.now → slice_get nodes.now at ≡ Some node.now
+        → (world : World) → Agrees world (K.told asker.new)
+        → IfOk result (λ target. target ≡ (pages_spec.aim_with world nodes.now at node.now
         (cascade_spec.attribute_at world (codes "keyref") node.now)).target) }
     ensures stand { K.stand asker.new ≡ K.stand asker.old }
-    ensures founded { (nodes : List plan_node_spec.PlanNode) (at : ℕ)
-        → (K.stand asker.old).setting.nodes ≡ nodes → slice_get nodes at ≡ Some node.now
-        → alone.now ≡ node.now ∷ []
-        → StaysFounded (founded_spec.homes nodes) (K.told asker.old) (K.told asker.new) }
-    ensures asks { AsksOnly documents_spec.nothing (founded_spec.homes alone.now)
+    ensures founded { (K.stand asker.old).setting.nodes ≡ nodes.now
+        → StaysFounded (founded_spec.homes nodes.now) (K.told asker.old) (K.told asker.new) }
+    ensures asks { AsksOnly documents_spec.nothing (founded_spec.homes nodes.now)
         (K.told asker.old) (K.told asker.new) }
     ensures grows { Grows (K.told asker.old) (K.told asker.new) }
 {
-    let homes = NodeElements::of(alloc, asker, alone)?;
+    let homes = NodeElements::of(alloc, asker, nodes)?;
     let mut faults = List::new(alloc);
-    let keyref = homes.value(0, "keyref");
-    let href = homes.value(0, "href");
+    let keyref = homes.value(at, "keyref");
+    let href = homes.value(at, "href");
     target_of(alloc, asker, node, keyref, href, &mut faults)
 }
 

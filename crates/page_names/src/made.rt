@@ -42,8 +42,9 @@ pub fn pages<K: Keys>(
     asker: &mut K,
     nodes: &List<PlanNode>,
 ) -> Result<PagesMade, Stop<PlanStop>>
-    ensures known { (world : World) → Agrees world (K.told asker.new)
-        → spec.ArePages (K.stand asker.old).setting.nodes world nodes.now result }
+    ensures known { uses_spec.AreReady (K.stand asker.old).setting.nodes (K.stand asker.old).world
+        nodes.now → (world : World) → Agrees world (K.told asker.new)
+        → Gives result (spec.pages_made 4096 world nodes.now) }
     ensures value { spec.ArePages (K.stand asker.old).setting.nodes (K.stand asker.old).world
         nodes.now result }
     ensures stand { K.stand asker.new ≡ K.stand asker.old }
@@ -63,8 +64,9 @@ fn pages_of<K: Keys>(
     asker: &mut K,
     nodes: &[PlanNode],
 ) -> Result<PagesMade, Stop<PlanStop>>
-    ensures known { (world : World) → Agrees world (K.told asker.new)
-        → spec.ArePages (K.stand asker.old).setting.nodes world nodes.now result }
+    ensures known { uses_spec.AreReady (K.stand asker.old).setting.nodes (K.stand asker.old).world
+        nodes.now → (world : World) → Agrees world (K.told asker.new)
+        → Gives result (spec.pages_made 4096 world nodes.now) }
     ensures stand { K.stand asker.new ≡ K.stand asker.old }
     ensures founded { (K.stand asker.old).setting.nodes ≡ nodes.now
         → StaysFounded (founded_spec.homes nodes.now) (K.told asker.old) (K.told asker.new) }

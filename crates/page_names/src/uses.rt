@@ -42,8 +42,8 @@ impl Uses {
         asker: &mut K,
         nodes: &[PlanNode],
     ) -> Result<Uses, NoMemory>
-        ensures known { (world : World) → Agrees world (K.told asker.new)
-            → spec.AreReady (K.stand asker.old).setting.nodes world nodes.now
+        ensures known { spec.AreReady (K.stand asker.old).setting.nodes (K.stand asker.old).world
+            nodes.now → (world : World) → Agrees world (K.told asker.new)
             → IfOk result (λ uses. spec.AreUses world nodes.now (length nodes.now) uses) }
         ensures stand { K.stand asker.new ≡ K.stand asker.old }
         ensures founded { (K.stand asker.old).setting.nodes ≡ nodes.now

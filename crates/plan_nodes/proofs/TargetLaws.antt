@@ -73,7 +73,8 @@ module _ (told : List Told) (format scope name : List ℕ) (reference : Referenc
       → IsTrue (is_allowed roots told name)
   by_whole world node None is was target = cc
   by_whole world node (Some whole) is was target =
-      by_href whole.0 node.doc (attribute (codes "href") whole.0) (was whole is) (doc_there world node whole is) refl target
+      by_href whole.0 node.doc (attribute (codes "href") whole.0) (was whole is) (doc_there world node whole is) refl
+      target
 
 pub may_target_at : (told : List Told) (world : World) (nodes around : List PlanNode) (at : ℕ) (node : PlanNode)
     (name : List ℕ) (reference : Reference) → AreTold told (map (whole_at world) nodes)

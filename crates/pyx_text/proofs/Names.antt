@@ -9,13 +9,10 @@ use Rattle.std.specs.Cmp.Lexicographic.{slice_cmp}
 use Rattle.std.specs.BTreeMap.{is_at}
 use Rattle.std.specs.BTreeSet.{BTreeSet, insert_key}
 use Rattle.std.proofs.lemmas.Map.Text.{is_eq-slice_cmp}
+use Rattle.dita_doc.specs.TextOrder.{text_cmp}
 use Rattle.dita_doc.proofs.NameOrder.{same_from_equal}
 use Rattle.dita_doc.proofs.Tests.{or_swap, or_twice}
 use Rattle.pyx_text.specs.Machine.{has_name}
-
--- how the set compares its names
-abbrev pub name_cmp : List ℕ → List ℕ → Ordering
-name_cmp x y = slice_cmp nat_cmp x y
 
 -- whether a name is one of these
 abbrev pub is_among : List ℕ → List (List ℕ) → Bool
@@ -39,13 +36,13 @@ is_among-placed other k x keys more Greater is rest =
 
 -- the keys with a name put among them
 is_among-insert : (other : List ℕ) (k : List ℕ) (keys : List (List ℕ))
-    → is_among other (insert_key name_cmp keys k) ≡ (bytes_eq other k || is_among other keys)
+    → is_among other (insert_key text_cmp keys k) ≡ (bytes_eq other k || is_among other keys)
 is_among-insert other k [] = ap (λ b. b || false) (is_eq-slice_cmp other k)
-is_among-insert other k (x ∷ keys) = is_among-placed other k x keys (insert_key name_cmp keys k)
+is_among-insert other k (x ∷ keys) = is_among-placed other k x keys (insert_key text_cmp keys k)
     (slice_cmp nat_cmp k x) refl (is_among-insert other k keys)
 
 -- after a name was put into a set, the set has it and those that it had
 pub has_name-insert : (other name : List ℕ) (k : List ℕ) (old new : BTreeSet (List ℕ)) → k ≡ name
-    → new.keys ≡ insert_key name_cmp old.keys k → has_name other new ≡ (bytes_eq other name || has_name other old)
+    → new.keys ≡ insert_key text_cmp old.keys k → has_name other new ≡ (bytes_eq other name || has_name other old)
 has_name-insert other name k old new is keys =
     ap (is_among other) keys ∙ is_among-insert other k old.keys ∙ ap (λ n. bytes_eq other n || has_name other old) is

@@ -37,7 +37,8 @@ among_targets (target ∷ more) zero name named = rw named (among_first name (fi
 among_targets (target ∷ more) (suc at) name named =
     by_name (among_targets more at name named) (local_name target) refl
   where
-    by_name : IsTrue (is_among (filter_map local_name more) name) → (other : Option (List ℕ)) → local_name target ≡ other
+    by_name : IsTrue (is_among (filter_map local_name more) name) → (other : Option (List ℕ))
+        → local_name target ≡ other
         → IsTrue (is_among (filter_map local_name (target ∷ more)) name)
     by_name behind None e = rw e behind
     by_name behind (Some other) e = rw e (among_behind other (filter_map local_name more) name behind)

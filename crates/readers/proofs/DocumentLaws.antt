@@ -3,8 +3,9 @@ use Rattle.std.proofs.Common.{◌≡◌, ℕ, List, [], ◌∷◌, ◌++◌, IsT
 use Rattle.std.proofs.Math.Logic.{∥∥₁_elim, ⊎_elim}
 use Rattle.std.proofs.Props.{props}
 use Rattle.std.proofs.lemmas.Bool.{false≢true, or_cases, or_left, or_right}
+use Rattle.dita_doc.specs.declared.plan.PlanNode.{PlanNode}
 use Rattle.readers.specs.Documents.{AskedBy, AsksOnly, Covers, Follows, MayAsk, documents_asked, may_ask, nothing}
-use Rattle.readers.specs.Founded.{Grows, is_among}
+use Rattle.readers.specs.Founded.{Grows, homes, is_among}
 use Rattle.readers.specs.Noted.{told_of, told_onto}
 use Rattle.readers.specs.Setting.{Setting}
 use Rattle.readers.specs.Told.{Told}
@@ -141,3 +142,9 @@ may_behind rule roots t ts m none may =
 abbrev pub reach : Follows → List (List ℕ) → List Told → List (List ℕ)
 reach follows roots [] = roots
 reach follows roots (t ∷ ts) = follows t ++ reach follows roots ts
+
+-- the documents of nodes that are the same
+pub homes_asked : (nodes all : List PlanNode) (old new : List Told) → nodes ≡ all
+    → AsksOnly nothing (homes nodes) old new
+    → AsksOnly nothing (homes all) old new
+homes_asked nodes all old new same = subst (λ l. AsksOnly nothing (homes l) old new) same

@@ -1,22 +1,23 @@
 -- What documents that were told give: it may be asked about, and what their content references name may be asked for.
 use Rattle.std.proofs.Common.{◌≡◌, ◌++◌, ℕ, Bool, List, [], ◌∷◌, IsTrue, false, true, bytes_eq, codes, refl, ap, ◌∙◌}
-use Rattle.std.specs.Prelude.{Option, Some, None, option_map}
+use Rattle.std.specs.Prelude.{Option, Some, None, option_map, ◌+◌}
 use Rattle.std.specs.List.{filter_map, list_any}
 use Rattle.std.specs.Option.{option_and_then, option_to_list}
 use Rattle.std.proofs.Math.Logic.{⊎_elim}
 use Rattle.std.proofs.lemmas.Bool.{false≢true, or_cases, or_left, or_right}
 use Rattle.std.proofs.lemmas.Slice.Eq.{bytes_eq-Decides}
 use Rattle.dita_doc.specs.ClassValue.{value_of}
-use Rattle.dita_doc.specs.Tree.{Content}
+use Rattle.dita_doc.specs.Tree.{Content, size_of}
 use Rattle.dita_doc.specs.declared.doc.Attribute.{Attribute}
-use Rattle.map_spec.specs.Written.{Element, Written, End, Chars, Node, written_in}
+use Rattle.map_spec.specs.Written.{Element, Written, End, Chars, Node, written_in, size}
 use Rattle.readers.specs.Documents.{Covers, Follows, IsGiven, MayAsk, may_ask, of_documents}
 use Rattle.readers.specs.Founded.{AreAllowed, Grows, is_allowed, is_among, names_given}
-use Rattle.readers.specs.Named.{name_joined, name_written, names_in, names_of_element, names_of_found, references, reused_by, reused_in, reused_of_found}
+use Rattle.readers.specs.Named.{name_joined, name_written, under_names, names_in, names_of_element, names_of_found, references, reused_by, reused_in, reused_of_found}
 use Rattle.readers.specs.Told.{Told, document, kind, title, first, key, pushes, page_of, pending, pending_document}
 use Rattle.readers.proofs.AmongLaws.{among_back, among_either, among_front}
 use Rattle.readers.proofs.DocumentLaws.{all_before, covers_same, follows_may, none_may}
 use Rattle.readers.proofs.FoundedLaws.{cons_behind, cons_first}
+use Rattle.dita_doc.specs.Tree as tree
 
 -- What may be asked for by what documents give
 
@@ -128,3 +129,10 @@ reused_allowed roots ts None given = record { each = λ m among. absurd (false�
 reused_allowed roots ts (Some nodes) given = record {
   each = λ m among. allowed_by roots ts m (given.named.each m (reused_named_in nodes m among));
 }
+
+-- what was written in several documents is as large as its content
+pub size_named : (names : List (List ℕ)) (c : Content) → size (under_names names c) ≡ size_of c
+size_named names tree.End = refl
+size_named names (tree.Chars text origin line rest) = ap (λ n. 1 + n) (size_named names rest)
+size_named names (tree.Element name attributes origin line inside rest) =
+    rw (size_named names inside, size_named names rest) refl

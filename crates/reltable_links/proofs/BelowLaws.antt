@@ -115,7 +115,8 @@ module _ {X : Type 0} (p q : X → Bool) where
   front_kept [] (suc at) all within out = refl
   front_kept (x ∷ xs) zero all within out = none_kept (x ∷ xs) out
   front_kept (x ∷ xs) (suc at) all within out =
-      rw (and_from (p x) (q x) (not-false (p x) (all 0 x (omega arith) (omega arith))) (within 0 x (omega arith) (omega arith)))
+      rw (and_from (p x) (q x) (not-false (p x) (all 0 x (omega arith) (omega arith)))
+      (within 0 x (omega arith) (omega arith)))
       (ap (λ more. x ∷ more) (front_kept xs at (λ k d low high. all (suc k) d (omega arith) (omega arith))
       (λ k d low high. within (suc k) d (omega arith) (omega arith))
       (λ k d low high. out (suc k) d (omega arith) (omega arith))))
@@ -240,7 +241,8 @@ module _ (cells : List RowCell) (index : ℕ) (d : RowCell) (done : ℕ) (within
     ended : (at : ℕ) → is_below_one so_far at ≡ true → at < done
     ended at is =
         let here = any_where (contains at) so_far is in
-        less_is at done (ends at ∙ any_passes_from_place (λ (c : RowCell). nat_lt at c.end) so_far here.at here.item here.is
+        less_is at done (ends at ∙ any_passes_from_place
+        (λ (c : RowCell). nat_lt at c.end) so_far here.at here.item here.is
         (second_holds (nat_lt here.item.at at) (nat_lt at here.item.end) here.holds))
 
     begun : (at : ℕ) → is_new cell done at ≡ true → done ≤ at

@@ -192,7 +192,8 @@ module _ (plan : Plan) where
       → list_any test (all_cells world) ≡ true
   cell_here world test cell row_cell holds =
       any_filter_map (cell_at world plan) test (places plan.nodes)
-      ∙ any_passes_from_place (λ at. option_map_or test (cell_at world plan at) false) (places plan.nodes) cell.at cell.at
+      ∙ any_passes_from_place (λ at. option_map_or test (cell_at world plan at) false)
+      (places plan.nodes) cell.at cell.at
       (place_there 0 cell.at plan.nodes row_cell.node row_cell.there ∙ zeroth cell.at)
       (ap (λ found. option_map_or test found false) (found_cell world cell row_cell) ∙ holds)
     where

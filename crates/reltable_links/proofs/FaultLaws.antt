@@ -46,7 +46,8 @@ module _ (world : World) (plan : Plan) (tree : IsTree plan.nodes) where
   in_row row at node kind there = by_truth (is_in_row (all_cells plan world) row at) (is_some (cell_of plan row at))
       (λ some.
       let found = cell_where plan world (λ (c : RowCell). (row == c.row) && contains at c) some in
-      let one = sym (eqb-true row found.cell.row (first_holds (row == found.cell.row) (contains at found.cell) found.holds)) in
+      let one = sym (eqb-true row found.cell.row
+      (first_holds (row == found.cell.row) (contains at found.cell) found.holds)) in
       ap is_some (ap (λ r. cell_of plan r at) (sym one)
       ∙ is_cell_of plan tree found.cell.row at found.cell.at node there
       (cell_over plan world found.cell at found.row_cell

@@ -145,7 +145,8 @@ module _ (world : World) (plan : Plan) where
         let node = linking.node in
         let is_own = first_holds (is_from page node) _ linking.holds in
         let from_page : page_of_node plan node.at ≡ Some page =
-        linking.kept.page ∙ ap (λ p. Some p) (eqb-true node.page page (first_holds (node.page == page) node.is_source is_own)) in
+        linking.kept.page ∙ ap (λ p. Some p) (eqb-true node.page page
+        (first_holds (node.page == page) node.is_source is_own)) in
         let source : is_source_at world plan node.at ≡ true =
         sym (ap (λ (n : LinkNode). n.is_source) linking.kept.is)
         ∙ second_holds (node.page == page) node.is_source is_own in
@@ -258,11 +259,13 @@ module _ (world : World) (plan : Plan) where
                 → (not (one == two) || has_node_value world plan (codes "collection-type") (codes "family") two) ≡ true
             by_test false e there = rw e refl
             by_test true e there = rw e (
-                ap (has_node_value world plan (codes "collection-type") (codes "family")) (sym (eqb-true one two e)) ∙ there)
+                ap (has_node_value world plan (codes "collection-type") (codes "family")) (sym (eqb-true one two e))
+                ∙ there)
 
     pub linked_same : (is_below plan to && (is_target_at world plan to && is_linked_at page cells all_nodes to))
         ≡ is_linked world plan page links.Related to
     linked_same = by_truth _ _ (λ all.
-        let rest = second_holds (is_below plan to) (is_target_at world plan to && is_linked_at page cells all_nodes to) all in
+        let rest = second_holds (is_below plan to)
+        (is_target_at world plan to && is_linked_at page cells all_nodes to) all in
         forth (first_holds (is_target_at world plan to) (is_linked_at page cells all_nodes to) rest)
         (second_holds (is_target_at world plan to) (is_linked_at page cells all_nodes to) rest)) back

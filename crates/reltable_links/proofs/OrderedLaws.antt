@@ -55,7 +55,8 @@ among_kept q nodes at node is =
     (λ some. let here = any_where (λ k. q k && (k == at)) (places nodes) some in
     ap q (sym (eqb-true here.item at (second_holds (q here.item) (here.item == at) here.holds)))
     ∙ first_holds (q here.item) (here.item == at) here.holds)
-    (λ holds. any_passes_from_place (λ k. q k && (k == at)) (places nodes) at at (place_there 0 at nodes node is ∙ zeroth at)
+    (λ holds. any_passes_from_place (λ k. q k && (k == at)) (places nodes) at at
+    (place_there 0 at nodes node is ∙ zeroth at)
     (and_from (q at) (at == at) holds (number_itself at)))
 
 -- Elements that are found, kept and led to, by their places

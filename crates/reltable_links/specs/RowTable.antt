@@ -7,11 +7,10 @@ use Rattle.dita_doc.specs.declared.fault.FaultCode.TheVariants as faults
 use Rattle.dita_doc.specs.declared.plan.PagePlan.{PagePlan}
 use Rattle.dita_doc.specs.declared.plan.Plan.{Plan}
 use Rattle.link_groups.specs.LinkNodes.{AreLinkNodes}
-use Rattle.link_groups.specs.declared.link_list.LinksMade.{LinksMade}
 use Rattle.link_groups.specs.declared.link_nodes.LinkNodes.{LinkNodes}
 use Rattle.map_spec.specs.Pages.{local_name}
 use Rattle.map_spec.specs.Scopes.{node_fault, places}
-use Rattle.link_spec.specs.Links.{row_faults, row_links, plan_target}
+use Rattle.link_spec.specs.Links.{plan_target}
 use Rattle.plan_nodes.specs.Carried.{CarryValues}
 use Rattle.plan_nodes.specs.Preorder.{IsTree}
 use Rattle.reader_spec.specs.World.{World}
@@ -35,11 +34,6 @@ pub record AreRowsOf (world : World) (plan : Plan) (rows : Rows) : Type 0 where
 pub record AreRowsFound (world : World) (plan : Plan) (rows : Rows) (nodes : LinkNodes) : Type 0 where
   pub are : AreRowsOf world plan rows
   pub kept : AreLinkNodes world plan nodes
-
--- the links of a page and the faults of all rows
-pub record AreRowLinks (world : World) (plan : Plan) (page : ℕ) (made : LinksMade) : Type 0 where
-  pub links : made.links ≡ row_links world plan page
-  pub faults : made.faults ≡ row_faults plan
 
 -- Faults
 

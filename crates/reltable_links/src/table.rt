@@ -10,7 +10,6 @@ ghost use Rattle.link_spec.specs.Links as links_spec;
 ghost use Rattle.reader_spec.specs.World.{World};
 ghost use Rattle.readers.specs.Documents as documents_spec;
 ghost use Rattle.readers.specs.Documents.{AsksOnly};
-ghost use Rattle.readers.specs.Founded as founded_spec;
 ghost use Rattle.readers.specs.Founded.{Grows, StaysFounded};
 ghost use Rattle.readers.specs.Told.{Agrees};
 ghost use Rattle.reltable_links.specs.RowTable as spec;
@@ -19,7 +18,7 @@ use crate::cells::Cells;
 use crate::faults::{append_below, append_faults};
 use crate::standings::Standings;
 use dita_doc::{Fault, List, NoMemory, Plan};
-use link_groups::{LinkList, LinkNodes, LinksMade};
+use link_groups::{LinkList, LinkNodes};
 use plan_nodes::NodeElements;
 use readers::Asker;
 use std::alloc::Global;
@@ -131,57 +130,4 @@ impl Rows {
         )?;
         Ok(())
     }
-}
-
-/// The links of a page by the relationship tables of its plan. The faults are those of all rows,
-/// whatever the page.
-pub fn by_rows<A: Asker>(
-    alloc: Global,
-    asker: &mut A,
-    plan: &Plan,
-    page: u32,
-) -> Result<LinksMade, NoMemory>
-    ensures known { (world : World) → Agrees world (A.told asker.new)
-        → spec.CanLink world plan.now (A.stand asker.old).setting.pages
-        → IfOk result (spec.AreRowLinks world plan.now page) }
-    ensures value { spec.CanLink (A.stand asker.old).world plan.now
-        (A.stand asker.old).setting.pages
-        → IfOk result (spec.AreRowLinks (A.stand asker.old).world plan.now page) }
-    ensures stand { A.stand asker.new ≡ A.stand asker.old }
-    ensures founded { StaysFounded (link_nodes_spec.plan_names plan.now) (A.told asker.old)
-        (A.told asker.new) }
-    ensures asks { AsksOnly documents_spec.nothing (founded_spec.homes plan.now.nodes)
-        (A.told asker.old) (A.told asker.new) }
-    ensures grows { Grows (A.told asker.old) (A.told asker.new) }
-{
-    rows_linked(alloc, asker, plan, page)
-}
-
-// What `by_rows` says, but of the reader's own world.
-#[tactic(auto, using(readers::proofs::Rules::walking))]
-fn rows_linked<A: Asker>(
-    alloc: Global,
-    asker: &mut A,
-    plan: &Plan,
-    page: u32,
-) -> Result<LinksMade, NoMemory>
-    ensures known { (world : World) → Agrees world (A.told asker.new)
-        → spec.CanLink world plan.now (A.stand asker.old).setting.pages
-        → IfOk result (spec.AreRowLinks world plan.now page) }
-    ensures stand { A.stand asker.new ≡ A.stand asker.old }
-    ensures founded { StaysFounded (link_nodes_spec.plan_names plan.now) (A.told asker.old)
-        (A.told asker.new) }
-    ensures asks { AsksOnly documents_spec.nothing (founded_spec.homes plan.now.nodes)
-        (A.told asker.old) (A.told asker.new) }
-    ensures grows { Grows (A.told asker.old) (A.told asker.new) }
-{
-    let homes = NodeElements::of(alloc, asker, plan.nodes.as_slice())?;
-    let mut link_nodes = LinkNodes::new(alloc);
-    let rows = Rows::of(alloc, asker, plan, &homes, &mut link_nodes)?;
-    let mut links = LinkList::new(alloc, page);
-    rows.append(alloc, page, &mut links)?;
-    Ok(LinksMade {
-        links: links.written(alloc, asker, plan)?,
-        faults: rows.faults_by_row(alloc, plan)?,
-    })
 }

@@ -3,13 +3,14 @@
 -- one thread at its place, and each build is the clean build over what is stored at its place. The rows that it cites,
 -- and the counts of its end, fit one table of finished parts, in which nothing is made twice without need.
 use Rattle.std.specs.Prelude.{◌≡◌, ◌≢◌, ◌≤◌, ◌<◌, ◌+◌, ◌==◌, ℕ, Bool, true, List, [], ◌∷◌, Option, Some, Ok, All, AllPairs, Contains, count_by, flat_map, if◌then◌else◌, length, option_map, slice_get, sum, sum_by}
+use Rattle.desk_language.specs.Language.{Language, bytes_of_parts}
 use Rattle.dita_doc.specs.Desk.{reply, version_at}
 use Rattle.dita_doc.specs.Request.{Request, Single, Get, Names, Build, Group}
 use Rattle.script_text.specs.Script.{Step, script_of}
 use Rattle.transcript_text.specs.Transcript.{BuildShown, EntryShown, IsTranscript, RowShown, Totals, Transcript, reply_shown, transcript_text}
 use Rattle.run_spec.specs.Cites.{ShowsBuilt}
 use Rattle.run_spec.specs.HistoryTold.{BuildTold, Moment, builds_told, cited_by, moments_of, step_of}
-use Rattle.run_spec.specs.Language.{Language, dita}
+use Rattle.run_spec.specs.Language.{dita}
 
 -- (1) The form, with an entry for each request
 
@@ -114,7 +115,7 @@ table_limit = 1073741824
 
 -- the bytes of the rows of a build's parts
 abbrev pub bytes_of : Language → BuildTold → List ℕ
-bytes_of language build = language.parts build.state build.root build.val
+bytes_of language build = bytes_of_parts language build.state build.root build.val
 
 -- the bytes of the rows of all parts of all builds
 abbrev pub all_bytes : Language → List BuildTold → ℕ

@@ -9,6 +9,6 @@ pub mod HistoryTold
 pub mod Language
 pub mod Reached
 pub mod Reads
-pub mod RowBytes
 pub mod Status
+pub mod ValueBytes
 pub mod Written

@@ -7,3 +7,4 @@ pub mod BlocksSaid
 pub mod BlocksRead
 pub mod WholeLaws
 pub mod Later
+pub mod PrintedLaws

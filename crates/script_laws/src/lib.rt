@@ -6,6 +6,8 @@ ghost use Rattle.dita_doc.specs.Bytes.{Bytes};
 ghost use Rattle.script_laws.specs.Blocks as blocks_spec;
 ghost use Rattle.script_laws.specs.Follows as follows_spec;
 ghost use Rattle.script_text.specs.Requests as requests_spec;
+ghost use Rattle.script_laws.specs.Printable as printable_spec;
+ghost use Rattle.script_text.specs.Printed as printed_spec;
 ghost use Rattle.script_text.specs.Script as script_spec;
 
 /// The bytes that `read_script` accepts are the texts of lists of blocks, and the steps that it
@@ -23,4 +25,10 @@ pub fn scripts_are_blocks()
 pub fn read_requests_stay()
     ensures { (text rest : Bytes) → follows_spec.Follows
         (requests_spec.requests_of text) (requests_spec.requests_of (text ++ rest)) }
+{}
+
+/// What requests are printed as is read as these requests, if a script can ask them.
+pub fn printed_is_read()
+    ensures { (steps : blocks_spec.Steps) → printable_spec.CanPrint steps →
+        script_spec.script_of (printed_spec.steps_text steps) ≡ Ok steps }
 {}

@@ -1,3 +1,4 @@
+pub mod AskedLaws
 pub mod Walking
 pub mod TreeTexts
 pub mod BelowLaws

@@ -1,7 +1,7 @@
 //! What an item leads to.
 
 ghost use Rattle.std.specs.Arc.{arc_value};
-ghost use Rattle.std.specs.Prelude.{◌≡◌, ◌++◌, [], ◌∷◌, slice_get, IfOk, Some};
+ghost use Rattle.std.specs.Prelude.{◌≡◌, ◌++◌, [], ◌∷◌, slice_get, IfOk, OnOk, Some};
 ghost use Rattle.std.specs.Option.{option_copied, option_to_list};
 ghost use Rattle.map_spec.specs.Pages as pages_spec;
 ghost use Rattle.html_spec.specs.Contents as contents_spec;
@@ -10,10 +10,13 @@ ghost use Rattle.reader_spec.specs.World.{World};
 ghost use Rattle.readers.specs.Documents as documents_spec;
 ghost use Rattle.readers.specs.Documents.{AsksOnly};
 ghost use Rattle.readers.specs.Founded.{Grows, StaysFounded};
+ghost use Rattle.readers.specs.Only.{TellsOnly};
+ghost use Rattle.readers.specs.Only as only_spec;
 ghost use Rattle.readers.specs.Told.{Agrees};
 ghost use Rattle.toc_page.specs.Made as made_spec;
 ghost use Rattle.toc_page.specs.Toc as spec;
 
+use crate::item::node_at;
 use dita_doc::{Context, Name, NoMemory, PageId, Plan, PlanNode, Target, Text};
 use plan_nodes::{copy_affixes, copy_names};
 use readers::Asker;
@@ -37,6 +40,9 @@ pub(crate) fn href_of<A: Asker>(
     ensures founded { StaysFounded (made_spec.contents_names plan.now) (A.told asker.old)
         (A.told asker.new) }
     ensures asks { AsksOnly documents_spec.nothing [] (A.told asker.old) (A.told asker.new) }
+    ensures only { slice_get plan.now.nodes at ≡ Some node.now
+        → OnOk result (TellsOnly (made_spec.is_page_of_nodes plan.now) (A.told asker.old)
+        (A.told asker.new)) }
     ensures grows { Grows (A.told asker.old) (A.told asker.new) }
 {
     match target_at(plan, at) {
@@ -68,6 +74,9 @@ fn href_by<A: Asker>(
     ensures founded { StaysFounded (option_to_list (pages_spec.local_name target.now))
         (A.told asker.old) (A.told asker.new) }
     ensures asks { AsksOnly documents_spec.nothing [] (A.told asker.old) (A.told asker.new) }
+    ensures only { OnOk result (TellsOnly
+        (made_spec.is_page_by (Some node.now) (pages_spec.local_name target.now))
+        (A.told asker.old) (A.told asker.new)) }
     ensures grows { Grows (A.told asker.old) (A.told asker.new) }
 {
     match target {
@@ -102,6 +111,9 @@ fn page_href<A: Asker>(
     ensures stand { A.stand asker.new ≡ A.stand asker.old }
     ensures founded { StaysFounded (name.now ∷ []) (A.told asker.old) (A.told asker.new) }
     ensures asks { AsksOnly documents_spec.nothing [] (A.told asker.old) (A.told asker.new) }
+    ensures only { OnOk result (TellsOnly
+        (only_spec.is_page_in name.now (links_spec.context_of node.now name.now))
+        (A.told asker.old) (A.told asker.new)) }
     ensures grows { Grows (A.told asker.old) (A.told asker.new) }
 {
     let context = context_of(alloc, plan, node, name)?;
@@ -122,23 +134,21 @@ fn name_of_page(alloc: Global, plan: &Plan, page: Option<u32>) -> Result<Option<
     }
 }
 
-// What sets the page of a node apart from others of its document. The page alone counts: no page is
-// being made here that could have a name.
+// Where a document is used by a node of a plan. The map is the plan's, and what sets pages apart is
+// the node's. A plan does not say its DITAVAL, and only the answer says which page has a name.
 fn context_of(
     alloc: Global,
     plan: &Plan,
     node: &PlanNode,
     name: &Name,
 ) -> Result<Arc<Context>, AllocError>
-    ensures { IfOk result (λ context. (arc_value context).page
+    ensures page { IfOk result (λ context. (arc_value context).page
         ≡ links_spec.context_of node.now name.now) }
+    ensures map { IfOk result (λ context. (arc_value context).map
+        ≡ made_spec.map_of plan.now node.now) }
 {
-    let map = match plan.nodes.as_slice().first() {
-        Some(root) => root.doc.clone()?,
-        None => node.doc.clone()?,
-    };
     let context = Context {
-        map,
+        map: map_of(plan, node).clone()?,
         val: None,
         page: PageId {
             doc: name.clone()?,
@@ -149,4 +159,14 @@ fn context_of(
         name: name.clone()?,
     };
     Ok(Arc::new(alloc, context)?)
+}
+
+// The document of the plan's map, in which its first node stands.
+fn map_of<'p>(plan: &'p Plan, node: &'p PlanNode) -> &'p Name
+    ensures { result.now ≡ made_spec.map_of plan.now node.now }
+{
+    match node_at(plan, 0) {
+        Some(root) => &root.doc,
+        None => &node.doc,
+    }
 }

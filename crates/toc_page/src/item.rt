@@ -12,6 +12,7 @@ ghost use Rattle.reader_spec.specs.World.{World};
 ghost use Rattle.readers.specs.Documents as documents_spec;
 ghost use Rattle.readers.specs.Documents.{AsksOnly};
 ghost use Rattle.readers.specs.Founded.{Grows, StaysFounded};
+ghost use Rattle.readers.specs.Only.{TellsOnly};
 ghost use Rattle.readers.specs.Told.{Agrees};
 ghost use Rattle.toc_page.specs.Made as made_spec;
 ghost use Rattle.toc_page.specs.Opened as opened_spec;
@@ -58,6 +59,8 @@ pub(crate) fn append_items<A: Asker>(
     ensures founded { StaysFounded (made_spec.contents_names toc.entry.plan.now)
         (A.told asker.old) (A.told asker.new) }
     ensures asks { AsksOnly documents_spec.nothing [] (A.told asker.old) (A.told asker.new) }
+    ensures only { OnOk result (TellsOnly (made_spec.is_of_contents toc.entry.plan.now)
+        (A.told asker.old) (A.told asker.new)) }
     ensures grows { Grows (A.told asker.old) (A.told asker.new) }
 {
     let mut items = OpenItems::new(alloc);
@@ -88,6 +91,8 @@ fn append_node<A: Asker>(
     ensures founded { StaysFounded (made_spec.contents_names toc.entry.plan.now)
         (A.told asker.old) (A.told asker.new) }
     ensures asks { AsksOnly documents_spec.nothing [] (A.told asker.old) (A.told asker.new) }
+    ensures only { OnOk result (TellsOnly (made_spec.is_of_contents toc.entry.plan.now)
+        (A.told asker.old) (A.told asker.new)) }
     ensures grows { Grows (A.told asker.old) (A.told asker.new) }
 {
     let Some(node) = node_at(toc.plan, at) else {
@@ -105,7 +110,8 @@ fn append_node<A: Asker>(
     Ok(())
 }
 
-fn node_at(plan: &Plan, at: usize) -> Option<&PlanNode>
+/// The node at this place, if there is one.
+pub(crate) fn node_at(plan: &Plan, at: usize) -> Option<&PlanNode>
     ensures { option_copied result ≡ slice_get plan.now.nodes at }
 {
     plan.nodes.as_slice().get(at)
@@ -132,6 +138,9 @@ fn append_front<A: Asker>(
     ensures founded { StaysFounded (made_spec.contents_names toc.entry.plan.now)
         (A.told asker.old) (A.told asker.new) }
     ensures asks { AsksOnly documents_spec.nothing [] (A.told asker.old) (A.told asker.new) }
+    ensures only { slice_get toc.entry.plan.now.nodes at ≡ Some node.now
+        → OnOk result (TellsOnly (made_spec.is_of_contents toc.entry.plan.now)
+        (A.told asker.old) (A.told asker.new)) }
     ensures grows { Grows (A.told asker.old) (A.told asker.new) }
 {
     append_start(out, node.cascaded.as_slice())?;

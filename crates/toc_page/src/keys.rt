@@ -1,6 +1,6 @@
 //! Whether a node has its target by its key.
 
-ghost use Rattle.std.specs.Prelude.{◌≡◌, ℕ, true, false, map, slice_get, IfOk, Some};
+ghost use Rattle.std.specs.Prelude.{◌≡◌, ℕ, true, false, map, slice_get, IfOk, OnOk, Some};
 ghost use Rattle.dita_doc.specs.declared.plan.Plan as plan_spec;
 ghost use Rattle.map_spec.specs.Cascade as cascade_spec;
 ghost use Rattle.html_spec.specs.Contents as contents_spec;
@@ -11,6 +11,8 @@ ghost use Rattle.readers.specs.Documents as documents_spec;
 ghost use Rattle.readers.specs.Documents.{AsksOnly};
 ghost use Rattle.readers.specs.Founded as founded_spec;
 ghost use Rattle.readers.specs.Founded.{Grows, StaysFounded};
+ghost use Rattle.readers.specs.Only.{TellsOnly};
+ghost use Rattle.readers.specs.Only as only_spec;
 ghost use Rattle.readers.specs.Told.{Agrees};
 ghost use Rattle.toc_page.specs.Toc as spec;
 
@@ -40,6 +42,9 @@ pub(crate) fn key_table<A: Asker>(
         (A.told asker.new) }
     ensures asks { AsksOnly documents_spec.nothing (founded_spec.homes plan.now.nodes)
         (A.told asker.old) (A.told asker.new) }
+    ensures only { OnOk result (TellsOnly
+        (only_spec.is_document_of (founded_spec.homes plan.now.nodes)) (A.told asker.old)
+        (A.told asker.new)) }
     ensures grows { Grows (A.told asker.old) (A.told asker.new) }
 {
     if !needs_keys(plan, homes) {

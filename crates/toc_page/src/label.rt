@@ -1,6 +1,6 @@
 //! The label of an item.
 
-ghost use Rattle.std.specs.Prelude.{◌≡◌, ◌++◌, ◌||◌, ◌&&◌, [], true, not, slice_get, unwrap_or, IfOk, Some};
+ghost use Rattle.std.specs.Prelude.{◌≡◌, ◌∷◌, ◌++◌, ◌||◌, ◌&&◌, [], true, not, slice_get, unwrap_or, IfOk, OnOk, Some};
 ghost use Rattle.std.specs.Option.{option_to_list};
 ghost use Rattle.map_spec.specs.Pages as pages_spec;
 ghost use Rattle.dita_doc.specs.declared.plan.Target.TheVariants as targets_spec;
@@ -10,6 +10,8 @@ ghost use Rattle.reader_spec.specs.World.{World};
 ghost use Rattle.readers.specs.Documents as documents_spec;
 ghost use Rattle.readers.specs.Documents.{AsksOnly};
 ghost use Rattle.readers.specs.Founded.{Grows, StaysFounded};
+ghost use Rattle.readers.specs.Only.{TellsOnly};
+ghost use Rattle.readers.specs.Told as told_spec;
 ghost use Rattle.readers.specs.Told.{Agrees};
 ghost use Rattle.toc_page.specs.Made as made_spec;
 ghost use Rattle.toc_page.specs.Toc as spec;
@@ -41,6 +43,8 @@ pub(crate) fn label_of<A: Asker>(
     ensures founded { StaysFounded (made_spec.contents_names toc.entry.plan.now)
         (A.told asker.old) (A.told asker.new) }
     ensures asks { AsksOnly documents_spec.nothing [] (A.told asker.old) (A.told asker.new) }
+    ensures only { OnOk result (TellsOnly (made_spec.is_title_of_targets toc.entry.plan.now)
+        (A.told asker.old) (A.told asker.new)) }
     ensures grows { Grows (A.told asker.old) (A.told asker.new) }
 {
     if navtitle_counts(toc, at, &navtitle) {
@@ -75,6 +79,8 @@ fn label_by_target<A: Asker>(
     ensures founded { StaysFounded (made_spec.contents_names toc.entry.plan.now)
         (A.told asker.old) (A.told asker.new) }
     ensures asks { AsksOnly documents_spec.nothing [] (A.told asker.old) (A.told asker.new) }
+    ensures only { OnOk result (TellsOnly (made_spec.is_title_of_targets toc.entry.plan.now)
+        (A.told asker.old) (A.told asker.new)) }
     ensures grows { Grows (A.told asker.old) (A.told asker.new) }
 {
     match target_at(toc.plan, at) {
@@ -102,14 +108,30 @@ fn label_by<A: Asker>(
     ensures founded { StaysFounded (option_to_list (pages_spec.local_name target.now))
         (A.told asker.old) (A.told asker.new) }
     ensures asks { AsksOnly documents_spec.nothing [] (A.told asker.old) (A.told asker.new) }
+    ensures only { OnOk result (TellsOnly
+        (made_spec.is_title_among (option_to_list (pages_spec.local_name target.now)))
+        (A.told asker.old) (A.told asker.new)) }
     ensures grows { Grows (A.told asker.old) (A.told asker.new) }
 {
     match target {
-        Target::Local(name, _) => asker.title(alloc, name, &Text::new(alloc)),
+        Target::Local(name, _) => document_title(alloc, asker, name),
         Target::File(name, rest) => Ok(file_label(alloc, toc, at, node, name, rest)?),
         Target::Other(value) => Ok(value.clone()?),
         Target::Nothing => Ok(Text::new(alloc)),
     }
+}
+
+// The title of a document: that of its first topic.
+fn document_title<A: Asker>(alloc: Global, asker: &mut A, name: &Name) -> Result<Text, NoMemory>
+    ensures told { IfOk result (λ text. A.told asker.new
+        ≡ told_spec.title name.now [] text ∷ A.told asker.old) }
+    ensures stand { A.stand asker.new ≡ A.stand asker.old }
+    ensures founded { StaysFounded (name.now ∷ []) (A.told asker.old) (A.told asker.new) }
+    ensures asks { AsksOnly documents_spec.nothing [] (A.told asker.old) (A.told asker.new) }
+    ensures grows { Grows (A.told asker.old) (A.told asker.new) }
+{
+    let no_topic = Text::new(alloc);
+    asker.title(alloc, name, &no_topic)
 }
 
 fn is_local(toc: Toc<'_>, at: usize) -> bool

@@ -1,6 +1,6 @@
 //! The page as a whole, and its faults.
 
-ghost use Rattle.std.specs.Prelude.{◌≡◌, ◌++◌, [], codes, map, IfOk};
+ghost use Rattle.std.specs.Prelude.{◌≡◌, ◌++◌, [], codes, map, IfOk, OnOk};
 ghost use Rattle.std.specs.List.{flat_map};
 ghost use Rattle.dita_doc.specs.HtmlEscapes as html_escapes_spec;
 ghost use Rattle.map_spec.specs.Cascade as cascade_spec;
@@ -11,6 +11,8 @@ ghost use Rattle.readers.specs.Documents as documents_spec;
 ghost use Rattle.readers.specs.Documents.{AsksOnly};
 ghost use Rattle.readers.specs.Founded as founded_spec;
 ghost use Rattle.readers.specs.Founded.{Grows, StaysFounded};
+ghost use Rattle.readers.specs.Only.{TellsOnly};
+ghost use Rattle.readers.specs.Only as only_spec;
 ghost use Rattle.readers.specs.Told.{Agrees};
 ghost use Rattle.toc_page.specs.Made as spec;
 
@@ -36,6 +38,8 @@ pub fn contents<A: Asker>(alloc: Global, asker: &mut A, plan: &Plan) -> Result<H
         (A.told asker.new) }
     ensures asks { AsksOnly documents_spec.nothing (founded_spec.homes plan.now.nodes)
         (A.told asker.old) (A.told asker.new) }
+    ensures only { OnOk result (TellsOnly (spec.is_of_contents plan.now)
+        (A.told asker.old) (A.told asker.new)) }
     ensures grows { Grows (A.told asker.old) (A.told asker.new) }
 {
     contents_made(alloc, asker, plan)
@@ -52,6 +56,8 @@ fn contents_made<A: Asker>(alloc: Global, asker: &mut A, plan: &Plan) -> Result<
         (A.told asker.new) }
     ensures asks { AsksOnly documents_spec.nothing (founded_spec.homes plan.now.nodes)
         (A.told asker.old) (A.told asker.new) }
+    ensures only { OnOk result (TellsOnly (spec.is_of_contents plan.now)
+        (A.told asker.old) (A.told asker.new)) }
     ensures grows { Grows (A.told asker.old) (A.told asker.new) }
 {
     Ok(Html {
@@ -72,6 +78,8 @@ fn bytes_of<A: Asker>(alloc: Global, asker: &mut A, plan: &Plan) -> Result<List<
         (A.told asker.new) }
     ensures asks { AsksOnly documents_spec.nothing (founded_spec.homes plan.now.nodes)
         (A.told asker.old) (A.told asker.new) }
+    ensures only { OnOk result (TellsOnly (spec.is_of_contents plan.now)
+        (A.told asker.old) (A.told asker.new)) }
     ensures grows { Grows (A.told asker.old) (A.told asker.new) }
 {
     let homes = NodeElements::of(alloc, asker, plan.nodes.as_slice())?;
@@ -100,6 +108,8 @@ fn body_of<A: Asker>(
         (A.told asker.new) }
     ensures asks { AsksOnly documents_spec.nothing (founded_spec.homes plan.now.nodes)
         (A.told asker.old) (A.told asker.new) }
+    ensures only { OnOk result (TellsOnly (spec.is_of_contents plan.now)
+        (A.told asker.old) (A.told asker.new)) }
     ensures grows { Grows (A.told asker.old) (A.told asker.new) }
 {
     let keys = key_table(alloc, asker, plan, homes)?;
@@ -142,6 +152,8 @@ fn push_faults<A: Asker>(
     ensures stand { A.stand asker.new ≡ A.stand asker.old }
     ensures founded { StaysFounded documents.now (A.told asker.old) (A.told asker.new) }
     ensures asks { AsksOnly documents_spec.nothing [] (A.told asker.old) (A.told asker.new) }
+    ensures only { OnOk result (TellsOnly (only_spec.is_pushes_of documents.now)
+        (A.told asker.old) (A.told asker.new)) }
     ensures grows { Grows (A.told asker.old) (A.told asker.new) }
 {
     let mut faults = List::new(alloc);

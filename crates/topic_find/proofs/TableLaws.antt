@@ -14,6 +14,7 @@ use Rattle.std.proofs.lemmas.List.{append-nil}
 use Rattle.std.proofs.lemmas.List.Folds.{find-append, list_any-append}
 use Rattle.std.proofs.lemmas.Map.Text.{is_eq-slice_cmp}
 use Rattle.std.proofs.lemmas.Slice.Eq.{bytes_eq-Decides}
+use Rattle.dita_doc.specs.TextOrder.{text_cmp}
 use Rattle.dita_doc.proofs.Lists.{option_or_none}
 use Rattle.dita_doc.proofs.Tests.{and_false, and_swap}
 use Rattle.map_spec.specs.Elements.{attribute, is_value}
@@ -21,7 +22,7 @@ use Rattle.map_spec.specs.Titles.{has_id, id_of}
 use Rattle.map_spec.specs.Written.{Element, Written, End, Chars, Node, size}
 use Rattle.map_spec.specs.Places.{Standing, TopicAt, first_topic, is_topic, is_topic_there, is_topic_with, standing_from, topic_inside}
 use Rattle.topic_find.specs.declared.table.TargetTable.{TargetTable}
-use Rattle.topic_find.specs.Table.{HasElementMore, HasTopicMore, IsNext, IsOnTheWay, IsTableOf, fragment_cmp, fragment_of, has_topic_around, is_first_topic, or_at, place_of_fragment, text_cmp}
+use Rattle.topic_find.specs.Table.{HasElementMore, HasTopicMore, IsNext, IsOnTheWay, IsTableOf, fragment_cmp, fragment_of, has_topic_around, is_first_topic, or_at, place_of_fragment}
 use Rattle.topic_find.specs.Walk.{place_of}
 use Rattle.topic_find.proofs.WalkLaws.{place_or}
 

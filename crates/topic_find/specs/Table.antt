@@ -2,18 +2,15 @@
 use Rattle.std.specs.Prelude.{◌≡◌, ◌==◌, ◌&&◌, ◌++◌, ℕ, Bool, false, List, Option, Some, None, length, option_map, is_some, if◌then◌else◌}
 use Rattle.std.specs.Option.{option_map_or, option_or}
 use Rattle.std.specs.BTreeMap as tree
-use Rattle.std.specs.Cmp.Lexicographic.{slice_cmp}
 use Rattle.std.specs.List.{list_any}
-use Rattle.std.specs.Ordering.{is_eq, nat_cmp, ordering_then}
+use Rattle.std.specs.Ordering.{is_eq, ordering_then}
 use Rattle.std.specs.declared.cmp.Ordering.{Ordering}
+use Rattle.dita_doc.specs.TextOrder.{text_cmp}
 use Rattle.map_spec.specs.Written.{Element, Written}
 use Rattle.map_spec.specs.Places.{Standing, TopicAt, all_standing, first_topic, standing_from, target_among}
 use Rattle.topic_find.specs.Walk.{place_of}
 use Rattle.topic_find.specs.declared.table.Fragment.{Fragment}
 use Rattle.topic_find.specs.declared.table.TargetTable.{TargetTable}
-
-abbrev pub text_cmp : List ℕ → List ℕ → Ordering
-text_cmp text other = slice_cmp nat_cmp text other
 
 abbrev pub fragment_cmp : Fragment → Fragment → Ordering
 fragment_cmp one other = ordering_then (text_cmp one.topic other.topic) (text_cmp one.element other.element)

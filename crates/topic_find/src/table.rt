@@ -5,6 +5,7 @@ ghost use Rattle.std.specs.BTreeMap as tree;
 ghost use Rattle.std.specs.Ordering.{is_eq};
 ghost use Rattle.dita_doc.specs.Siblings as siblings_spec;
 ghost use Rattle.dita_doc.specs.Tree as tree_spec;
+ghost use Rattle.dita_doc.specs.TextOrder.{text_cmp};
 ghost use Rattle.map_spec.specs.Written.{Element};
 ghost use Rattle.map_spec.specs.Places as places_spec;
 ghost use Rattle.map_spec.specs.Places.{Standing};
@@ -232,9 +233,9 @@ fn add_if(
     id: &str,
     place: u32,
 ) -> Result<(), NoMemory>
-    ensures { OnOk result ((other : List ℕ) → tree.get table_spec.text_cmp places.new other
-        ≡ table_spec.or_at (tree.get table_spec.text_cmp places.old other)
-        (is && is_eq (table_spec.text_cmp id.now other)) place) }
+    ensures { OnOk result ((other : List ℕ) → tree.get text_cmp places.new other
+        ≡ table_spec.or_at (tree.get text_cmp places.old other)
+        (is && is_eq (text_cmp id.now other)) place) }
 {
     if !is {
         return Ok(());

@@ -1,7 +1,8 @@
 //! The laws of transcripts: a text is that of one transcript alone, and what is read of it is that
 //! transcript.
 //!
-//! A law is a function that does nothing: its contract is the law. Only laws stand on this crate.
+//! A law is a function that does nothing: its contract is the law. Only laws and examples stand on
+//! this crate.
 #![tactic(auto)]
 
 ghost use Rattle.std.specs.Prelude.{◌≡◌};

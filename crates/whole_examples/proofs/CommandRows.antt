@@ -5,7 +5,7 @@ use Rattle.clap.specs.Walk.{Text}
 use Rattle.clap.specs.declared.error.kind.ErrorKind.TheVariants as kinds
 use Rattle.clap.proofs.OnLiterals.{clap_on_literals}
 use Rattle.command_line.specs.Command.{command, is_read, mode_of, out_folder}
-use Rattle.command_line.specs.declared.modes.Mode.TheVariants.{Clean, Terms}
+use Rattle.command_line.specs.declared.modes.Mode.TheVariants.{Clean, Terms, Gen}
 
 -- the program's name, and words
 abbrev line : List Text → List Text
@@ -18,6 +18,12 @@ the_mode_alone = refl
 the_other_mode : mode_of (line (codes "terms" ∷ [])) ≡ Some Terms
 unfolding command clap_on_literals
 the_other_mode = refl
+
+-- its number is 1 where the words say none
+the_generator : mode_of (line (codes "gen" ∷ codes "--topics" ∷ codes "9" ∷ []))
+    ≡ Some (Gen (record { number = 1; topics = 9 }))
+unfolding command clap_on_literals
+the_generator = refl
 
 no_mode : mode_of (line (codes "fly" ∷ [])) ≡ None
 unfolding command clap_on_literals

@@ -10,6 +10,8 @@ mod documents;
 #[cfg(test)]
 mod faults;
 #[cfg(test)]
+mod generated;
+#[cfg(test)]
 mod pages;
 #[cfg(test)]
 mod replies;

@@ -21,26 +21,26 @@ module _ (here : Here) (topic : List ℕ) (element : Element) where
         ∙ ap (target_by href (format_of element) (scope_of element)) home)
 
     read_by : (found : Option Target) (target : Target) (old new : List Fault) → found ≡ target_by href format scope doc
-        → IsRead (read_as element href (option_map (in_topic here topic href) found)) target old new
+        → IsRead (read_as element href (option_map (in_topic here topic) found)) target old new
         → IsRead (read_href here topic element (attribute (codes "href") element)) target old new
     read_by found target old new is read =
         subst (λ h. IsRead (read_href here topic element h) target old new) (sym written)
-        (subst (λ f. IsRead (read_as element href (option_map (in_topic here topic href) f)) target old new)
+        (subst (λ f. IsRead (read_as element href (option_map (in_topic here topic) f)) target old new)
         (sym (target_is found is)) read)
 
     pub read_some : (found : Option Target) (target read : Target) (met : List Fault)
-        → found ≡ target_by href format scope doc → found ≡ Some target → read ≡ in_topic here topic href target
+        → found ≡ target_by href format scope doc → found ≡ Some target → read ≡ in_topic here topic target
         → IsRead (read_href here topic element (attribute (codes "href") element)) read met met
     read_some found target read met is some leads = read_by found read met met is
-        (subst (λ f. IsRead (read_as element href (option_map (in_topic here topic href) f)) read met met)
+        (subst (λ f. IsRead (read_as element href (option_map (in_topic here topic) f)) read met met)
         (sym some) (record { leads = leads; faults = sym (append-nil met) }))
 
 -- What the result of the last call is read as
 pub read_ends : (here : Here) (topic : List ℕ) (element : Element) (target : Target) (result : Result Target NoMemory)
-    (href : List ℕ) (met : List Fault)
-    → ((read : Target) → read ≡ in_topic here topic href target
+    (met : List Fault)
+    → ((read : Target) → read ≡ in_topic here topic target
     → IsRead (read_href here topic element (attribute (codes "href") element)) read met met)
-    → IfOk result (λ read. read ≡ in_topic here topic href target)
+    → IfOk result (λ read. read ≡ in_topic here topic target)
     → IfOk result (λ read. IsRead (read_href here topic element (attribute (codes "href") element)) read met met)
-read_ends here topic element target (Ok read) href met make is = make read is
-read_ends here topic element target (Err error) href met make is = tt
+read_ends here topic element target (Ok read) met make is = make read is
+read_ends here topic element target (Err error) met make is = tt

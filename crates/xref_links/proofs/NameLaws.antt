@@ -91,25 +91,25 @@ module _ (here : Here) (topic : List ℕ) (element : Element) (m : List ℕ) whe
       (or_cases (bytes_eq here.page.id.doc m) false among))
   by_test false name reference other joined among = or_right (bytes_eq here.page.id.doc m) _ (joined among)
 
-  by_target : (href : List ℕ) (target : Target)
+  by_target : (target : Target)
       → ((name : List ℕ) (reference : Reference) → target ≡ targets.Local name reference → Among (name ∷ [])
       → Among (link_names element))
-      → Among (names_of_target (in_topic here topic href target)) → Among (here.page.id.doc ∷ link_names element)
-  by_target href targets.Nothing joined among = absurd (false≢true among)
-  by_target href (targets.Local name reference) joined among = by_test
+      → Among (names_of_target (in_topic here topic target)) → Among (here.page.id.doc ∷ link_names element)
+  by_target targets.Nothing joined among = absurd (false≢true among)
+  by_target (targets.Local name reference) joined among = by_test
       ((length reference.file == 0) && bytes_eq reference.topic (codes ".") && not (length reference.element == 0))
       name reference (record reference { topic = topic }) (joined name reference refl) among
-  by_target href (targets.File name rest) joined among = absurd (false≢true among)
-  by_target href (targets.Other value) joined among = absurd (false≢true among)
+  by_target (targets.File name rest) joined among = absurd (false≢true among)
+  by_target (targets.Other value) joined among = absurd (false≢true among)
 
   by_read : (href : List ℕ) (read : Option Target)
       → ((name : List ℕ) (reference : Reference) → read ≡ Some (targets.Local name reference) → Among (name ∷ [])
       → Among (link_names element))
-      → Among (names_of_target (read_as element href (option_map (in_topic here topic href) read)).target)
+      → Among (names_of_target (read_as element href (option_map (in_topic here topic) read)).target)
       → Among (here.page.id.doc ∷ link_names element)
   by_read href None joined among = absurd (false≢true among)
   by_read href (Some target) joined among =
-      by_target href target (λ name reference is. joined name reference (ap (λ t. Some t) is)) among
+      by_target target (λ name reference is. joined name reference (ap (λ t. Some t) is)) among
 
   joined_link : (href name : List ℕ) (reference : Reference) → attribute (codes "href") element ≡ Some href
       → target_by href (format_of element) (scope_of element) element.href_doc ≡ Some (targets.Local name reference)

@@ -1,7 +1,7 @@
 //! Hrefs as they are written, and what they lead to.
 
 ghost use Rattle.std.specs.Arc.{arc_value};
-ghost use Rattle.std.specs.Prelude.{◌≡◌, ◌||◌, ℕ, List, IfOk, codes, unwrap_or};
+ghost use Rattle.std.specs.Prelude.{◌≡◌, ◌||◌, IfOk, codes, unwrap_or};
 ghost use Rattle.dita_doc.specs.ClassValue as class_value_spec;
 ghost use Rattle.href_text.specs.Reference as reference_spec;
 ghost use Rattle.map_spec.specs.Elements as elements_spec;
@@ -43,8 +43,8 @@ pub(crate) fn read_href<'a>(
 
 // `#./element` means the topic where the element stands, on this page.
 fn in_topic(page: PageRead<'_>, topic: &str, target: Target) -> Result<Target, NoMemory>
-    ensures { (here : Here) (href : List ℕ) → here.page.id ≡ (arc_value page.entry.context.now).page
-        → IfOk result (λ read. read ≡ anchors_spec.in_topic here topic.now href target) }
+    ensures { (here : Here) → here.page.id ≡ (arc_value page.entry.context.now).page
+        → IfOk result (λ read. read ≡ anchors_spec.in_topic here topic.now target) }
 {
     match target {
         Target::Local(name, reference) => {

@@ -9,10 +9,15 @@ use Rattle.build_plan.proofs.keyed.pages_under.Goals as goal
 
 pub returns-clause-known : goal.returns-clause-known
 returns-clause-known g c = λ world agrees.
-    let layer = c.pages.new.asker in
-    let start = agrees_before world _ _ layer.grown agrees in
-    c.pages.ensures.known world (layer.carried.agrees world agrees) refl c.requires.parents
-    (c.args.layer.now.ready.values world start) c.args.layer.now.ready.scopes
+    let layer = c.args.layer.now in
+    let own = (g.T.Reader.stand layer.lower.now).world in
+    let start = agrees_before own _ _ layer.grown (g.met.T.Reader.agrees layer.lower.now) in
+    c.pages.ensures.known (record {
+      keys = refl;
+      before = c.requires.parents;
+      values = layer.ready.values own start;
+      scopes = layer.ready.scopes;
+    }) world (c.pages.new.asker.carried.agrees world agrees)
 
 pub returns-clause-founded : goal.returns-clause-founded
 returns-clause-founded g c =

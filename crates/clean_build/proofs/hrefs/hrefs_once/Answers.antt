@@ -5,9 +5,10 @@ use Rattle.std.specs.Vec.Iter.{into_iter_items}
 use Rattle.std.proofs.Common.{rules, sym, ap, subst, ◌∙◌, append-nil, arith, length}
 use Rattle.branch_copies.specs.Seen.{AreSeen}
 use Rattle.dita_doc.specs.declared.content.PageLink.{PageLink}
+use Rattle.dita_doc.proofs.Lists.{no_more}
 use Rattle.part_spec.specs.Parts.{hrefs_once}
 use Rattle.branch_copies.proofs.SeenLaws.{seen_again, seen_push, seen_test}
-use Rattle.clean_build.proofs.OnceLaws.{left_all, left_once, new_link, no_more, old_link}
+use Rattle.clean_build.proofs.OnceLaws.{left_all, left_once, new_link, old_link}
 use Rattle.clean_build.proofs.hrefs.hrefs_once.Goals as goal
 
 pub loop-link-init : goal.loop-link-init

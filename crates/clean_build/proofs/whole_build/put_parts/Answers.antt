@@ -8,9 +8,8 @@ use Rattle.map_spec.specs.Pushes.{pushed}
 use Rattle.part_spec.specs.Parts.{page_part, page_parts, rooms}
 use Rattle.clean_build.specs.Bodies.{terms_wanted}
 use Rattle.clean_build.specs.Made.{number_wanted, page_behind, page_content_of}
-use Rattle.clean_build.proofs.PartLaws.{all_put, next_put, none_put, without_rows}
+use Rattle.clean_build.proofs.PartLaws.{all_put, next_put, none_put, page_at, without_rows}
 use Rattle.clean_build.proofs.PlanLaws.{plan_facts}
-use Rattle.clean_build.proofs.SingleLaws.{page_at}
 use Rattle.clean_build.proofs.TermLaws.{all_terms, next_terms}
 use Rattle.clean_build.proofs.whole_build.put_parts.Goals as goal
 

@@ -9,6 +9,7 @@ use Rattle.conref_pull.specs.Putting.{built}
 use Rattle.conref_pull.specs.Resolved.{HasMemory, IsDone}
 use Rattle.conref_pull.specs.declared.resolver.TooMany.{TooMany}
 use Rattle.conref_pull.proofs.HrefLaws.{filled_named}
+use Rattle.conref_pull.proofs.MetLaws.{asks_same}
 use Rattle.conref_pull.proofs.calls.finish.Goals as goal
 
 pub returns-in-Err-clause-known : goal.returns-in-Err-clause-known
@@ -31,3 +32,9 @@ returns-in-Err-clause-asks g c = c.stopped.ensures.asks
 
 pub returns-in-Ok-clause-asks : goal.returns-in-Ok-clause-asks
 returns-in-Ok-clause-asks g c = λ nodes. about_same nodes _ _ _ refl
+
+pub returns-in-Err-clause-only : goal.returns-in-Err-clause-only
+returns-in-Err-clause-only g c = c.stopped.ensures.only
+
+pub returns-in-Ok-clause-only : goal.returns-in-Ok-clause-only
+returns-in-Ok-clause-only g c = λ page agrees at. asks_same page _ _ refl

@@ -17,3 +17,6 @@ returns-clause-value g c =
     c.resolve_page_with.ensures.stand (g.met.A.Reader.agrees c.resolve_page_with.new.asker))
     (c.new-tables.ensures.rules world)
     (c.new-tables.ensures.places (documents_in world (g.A.Reader.stand c.args.asker.now).setting))
+
+pub returns-clause-only : goal.returns-clause-only
+returns-clause-only g c = c.resolve_page_with.ensures.only

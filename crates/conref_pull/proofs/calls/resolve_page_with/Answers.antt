@@ -16,6 +16,7 @@ use Rattle.readers.proofs.GrowthLaws.{agrees_before, grows_trans}
 use Rattle.conref_targets.specs.Asking.{AreGiven, reused_of_doc}
 use Rattle.conref_targets.specs.Origin.{named_content}
 use Rattle.conref_targets.specs.Hrefs.{HaveNamed}
+use Rattle.conref_targets.specs.PageAsking.{AreMet, page_at}
 use Rattle.conref_targets.specs.Rules.{ditavals, page_rules}
 use Rattle.conref_targets.specs.ResolveInput.{documents_in, setting_of}
 use Rattle.conref_targets.proofs.AskingLaws.{about_ditavals, about_next, about_rules_first, about_then, given_reused, none_among}
@@ -29,6 +30,7 @@ use Rattle.conref_pull.specs.Walking.{among_made, seen_by}
 use Rattle.conref_pull.proofs.CallLaws.{Begins, all_made, done_of, here_begins, none_made, ready_begins, setting_begins, tables_kept}
 use Rattle.conref_pull.proofs.HrefLaws.{building_later, linked_allowed}
 use Rattle.conref_pull.proofs.WalkLaws.{walks_as}
+use Rattle.conref_pull.proofs.CallAskLaws.{asks_done, asks_unless, asks_rules_first, at_later, at_next, begins_at, met_as, root_met}
 use Rattle.conref_pull.proofs.calls.resolve_page_with.Goals as goal
 
 pub returns-in_err-read-clause-founded : goal.returns-in_err-read-clause-founded
@@ -241,3 +243,26 @@ returns-clause-grows g c =
 pub returns-clause-stand : goal.returns-clause-stand
 returns-clause-stand g c =
     c.finish.ensures.stand ∙ c.siblings-done.ensures.stand ∙ c.pushed.ensures.stand ∙ c.read.ensures.stand
+
+pub returns-in_default-clause-only : goal.returns-in_default-clause-only
+returns-in_default-clause-only g c = λ world agrees. asks_rules_first world c.args.context.now c.in_ok-read.ensures.stand
+    c.in_ok-read.ensures.only (c.in_ok-doc.ensures.only world agrees)
+
+pub returns-clause-only : goal.returns-clause-only
+returns-clause-only g c = λ world agrees.
+    (let context = c.args.context.now in
+    let same = c.in_ok-read.ensures.stand in
+    let page = page_at world (g.A.Reader.stand c.args.asker.now).setting context.val context.page in
+    let later = agrees_before world _ _ c.finish.ensures.grows agrees in
+    let asked = agrees_before world _ _ c.siblings-done.ensures.grows later in
+    let at = at_later (begins_at world context same) c.in_ok-doc.ensures.stand in
+    asks_done page _ _ _ c.finish.result c.siblings-done.result c.finish.ensures.memory
+    (asks_unless page _ _ _ c.siblings-done.result
+    (asks_rules_first world context same c.in_ok-read.ensures.only (c.in_ok-doc.ensures.only world asked))
+    (c.siblings-done.ensures.only page later
+    (at_next at refl (ap (λ (at : Context). at.page) c.new-resolver.ensures.context))
+    (subst (AreMet page)
+    (sym (content_named c.of-2.result c.deref.result.now c.of-2.ensures.content c.of-2.ensures.document))
+    (met_as page c.deref.ensures (root_met world context same (named_tree (arc_value c.in-Some.doc))
+    (ap named_found (sym c.in-Some.is) ∙ c.in_ok-doc.ensures.known world asked))))))
+    (c.finish.ensures.only page agrees (at_later at c.siblings-done.ensures.stand)))

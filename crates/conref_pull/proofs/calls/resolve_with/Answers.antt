@@ -1,4 +1,4 @@
-use Rattle.std.proofs.Common.{Option, sym, ap, refl, subst, ◌∙◌, unwrap_or, false, ◌+◌}
+use Rattle.std.proofs.Common.{◌≡◌, Option, sym, ap, refl, subst, ◌∙◌, unwrap_or, false, ◌+◌}
 use Rattle.std.specs.Arc.{arc_value}
 use Rattle.std.specs.declared.alloc.Global.{Global}
 use Rattle.std.specs.declared.sync.Arc.{Arc}
@@ -16,6 +16,7 @@ use Rattle.conref_targets.proofs.AskingLaws.{about_next, about_page, about_rules
 use Rattle.std.proofs.lemmas.Result.{IfOk-weaker, on_ok_weaker}
 use Rattle.conref_spec.specs.Content.{Made, page_root, resolved_in}
 use Rattle.conref_targets.specs.Hrefs.{HaveNamed}
+use Rattle.conref_targets.specs.PageAsking.{page_at}
 use Rattle.conref_targets.specs.Rules.{ditavals, page_rules}
 use Rattle.conref_targets.specs.ResolveInput.{setting_of}
 use Rattle.conref_targets.specs.Around.{StandsAround, alone_at, around_at, nothing_around, standing_shown}
@@ -29,6 +30,7 @@ use Rattle.conref_pull.proofs.CallLaws.{Begins, all_made, done_of, here_begins, 
 use Rattle.conref_pull.proofs.HrefLaws.{building_later, linked_allowed, nodes_later}
 use Rattle.conref_pull.proofs.WalkLaws.{walks_as}
 use Rattle.conref_pull.proofs.NodeStandLaws.{node_walks}
+use Rattle.conref_pull.proofs.CallAskLaws.{asks_done, asks_first, asks_unless, asks_rules, at_later, at_next, begins_at, met_as, root_met}
 use Rattle.conref_pull.proofs.calls.resolve_with.Goals as goal
 
 pub returns-in_err-doc-clause-founded : goal.returns-in_err-doc-clause-founded
@@ -255,3 +257,28 @@ returns-clause-grows g c =
 pub returns-clause-stand : goal.returns-clause-stand
 returns-clause-stand g c =
     c.finish.ensures.stand ∙ c.node_at-done.ensures.stand ∙ c.read.ensures.stand ∙ c.pushed.ensures.stand
+
+pub returns-in_default-clause-only : goal.returns-in_default-clause-only
+returns-in_default-clause-only g c = λ world agrees.
+    (let stand = g.A.Reader.stand c.args.asker.now in
+    let same : stand ≡ stand = refl in
+    asks_first world c.args.context.now same (c.in_ok-doc.ensures.only world agrees))
+
+pub returns-clause-only : goal.returns-clause-only
+returns-clause-only g c = λ world agrees.
+    (let context = c.args.context.now in
+    let stand = g.A.Reader.stand c.args.asker.now in
+    let same : stand ≡ stand = refl in
+    let page = page_at world stand.setting context.val context.page in
+    let later = agrees_before world _ _ c.finish.ensures.grows agrees in
+    let read = agrees_before world _ _ c.node_at-done.ensures.grows later in
+    let asked = agrees_before world _ _ c.in_ok-read.ensures.grows read in
+    let at = at_later (begins_at world context same) (c.in_ok-read.ensures.stand ∙ c.in_ok-doc.ensures.stand) in
+    asks_done page _ _ _ c.finish.result c.node_at-done.result c.finish.ensures.memory
+    (asks_unless page _ _ _ c.node_at-done.result
+    (asks_rules world context same (c.in_ok-doc.ensures.only world asked) c.in_ok-read.ensures.only)
+    (c.node_at-done.ensures.only page later
+    (at_next at refl (ap (λ (at : Context). at.page) c.new-resolver.ensures.context))
+    (met_as page c.deref-2.ensures (root_met world context same (named_tree (arc_value c.in-Some.doc))
+    (ap named_found (sym c.in-Some.is) ∙ c.in_ok-doc.ensures.known world asked)))))
+    (c.finish.ensures.only page agrees (at_later at c.node_at-done.ensures.stand)))

@@ -19,3 +19,6 @@ returns-in-Fault-clause-asks g c = c.too_many.ensures.asks
 
 pub returns-in-NoMemory-clause-asks : goal.returns-in-NoMemory-clause-asks
 returns-in-NoMemory-clause-asks g c = λ nodes. about_same nodes _ _ _ refl
+
+pub returns-in-Fault-clause-only : goal.returns-in-Fault-clause-only
+returns-in-Fault-clause-only g c = c.too_many.ensures.only

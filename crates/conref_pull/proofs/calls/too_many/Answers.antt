@@ -1,4 +1,4 @@
-use Rattle.std.proofs.Common.{List, [], ◌∷◌, ◌++◌, ap, subst, sym, ◌∙◌}
+use Rattle.std.proofs.Common.{List, [], ◌∷◌, ◌++◌, refl, ap, subst, sym, ◌∙◌}
 use Rattle.std.specs.Arc.{arc_value}
 use Rattle.dita_doc.specs.Tree.{tree_of}
 use Rattle.dita_doc.specs.declared.doc.Doc.{Doc}
@@ -10,6 +10,7 @@ use Rattle.conref_targets.specs.Hrefs.{HaveNamed}
 use Rattle.doc_elements.specs.Root.{root_element}
 use Rattle.conref_targets.proofs.AskingLaws.{about_doc}
 use Rattle.conref_pull.proofs.RootLaws.{faults_none, faults_rootless, faults_some}
+use Rattle.conref_targets.proofs.PageAskingLaws.{asks_document, own_of}
 use Rattle.conref_pull.proofs.calls.too_many.Goals as goal
 use Rattle.conref_pull.proofs.calls.too_many.Goals.{in-Some, in-Some-root_of+in_ok-fault_at+in_ok-push, in_default-root_of, in_default}
 
@@ -61,3 +62,8 @@ returns-in_err-push-clause-asks g c = λ nodes.
 pub returns-clause-asks : goal.returns-clause-asks
 returns-clause-asks g c = λ nodes.
     about_doc nodes c.args.context.now.page.doc _ _ c.doc.ensures.founded c.doc.ensures.asks
+
+pub returns-clause-only : goal.returns-clause-only
+returns-clause-only g c = λ page agrees at.
+    asks_document page c.args.context.now.page.doc (tree_found c.in_ok-doc.field-0) _ _ (own_of at refl)
+    c.in_ok-doc.ensures.told

@@ -13,6 +13,7 @@ use Rattle.conref_targets.specs.Found.{IsKeyed}
 use Rattle.conref_targets.specs.ResolveInput.{setting_of}
 use Rattle.conref_targets.proofs.AskingLaws.{about_after, about_key, given_target}
 use Rattle.conref_targets.proofs.FindLaws.{keyed_none, keyed_some, target_there}
+use Rattle.conref_targets.proofs.PageAskingLaws.{asks_key, asks_same, at_later, finds_none, finds_then, key_leads}
 use Rattle.conref_targets.proofs.find.find_by_key.Goals as goal
 
 -- the question for the key, where the nodes of the map are these
@@ -90,3 +91,18 @@ returns-in_err-find_target-clause-grows g c = grows_trans _ _ _ c.in_ok-node.ens
 
 pub returns-clause-grows : goal.returns-clause-grows
 returns-clause-grows g c = grows_trans _ _ _ c.in_ok-node.ensures.grows c.in_ok-find_target.ensures.grows
+
+pub returns-in_default-clause-only : goal.returns-in_default-clause-only
+returns-in_default-clause-only g c = λ page element agrees at met same. finds_none (asks_same page _ _ refl)
+
+pub returns-clause-only : goal.returns-clause-only
+returns-clause-only g c = λ page element agrees at met same.
+    (let answer = c.in_ok-node.field-0 in
+    let written = sym same ∙ ap option_copied c.in-Some.is in
+    let key_is = c.in_ok-text.ensures ∙ c.split_key.ensures.key in
+    let before = agrees_before page.world _ _ c.in_ok-find_target.ensures.grows agrees in
+    let holds = told_answer page.world _ _ _ c.in_ok-node.ensures.told before in
+    finds_then _ _ _ c.in_ok-find_target.field-0
+    (asks_key met at c.in-Some.keyref.now _ written key_is answer _ _ c.in_ok-node.ensures.told)
+    (c.in_ok-find_target.ensures.only page c.args.context.now.page agrees (at_later at c.in_ok-node.ensures.stand)
+    (λ name. key_leads met at c.in-Some.keyref.now _ written key_is answer name holds)))

@@ -1,4 +1,4 @@
-use Rattle.std.proofs.Common.{Option, [], ◌∷◌, sym, ap, ◌∙◌}
+use Rattle.std.proofs.Common.{Option, [], ◌∷◌, sym, ap, refl, ◌∙◌}
 use Rattle.std.specs.Borrow.{Bor}
 use Rattle.std.specs.Option.{option_copied, unwrap_or}
 use Rattle.std.proofs.Common.{List, ℕ}
@@ -9,6 +9,7 @@ use Rattle.conref_targets.specs.ResolveInput.{setting_of}
 use Rattle.conref_targets.proofs.AskingLaws.{about_among, first_page}
 use Rattle.conref_targets.proofs.FileLaws.{value_among}
 use Rattle.conref_targets.proofs.FindLaws.{joined_to, none_search, same_topic, search_as, unjoined, unread}
+use Rattle.conref_targets.proofs.PageAskingLaws.{asks_same, conref_of, finds_none, own_of}
 use Rattle.conref_targets.proofs.find.find_by_value.Goals as goal
 
 pub returns-in_default-clause-known : goal.returns-in_default-clause-known
@@ -82,3 +83,26 @@ returns-clause-asks g c = λ nodes same.
     (sym (c.in_ok-name-2.ensures.value (joined c.args.origin.now c.in-Some-2.reference.file) c.join_name.ensures)
     ∙ c.in-Some-3.is))
     (c.find_in-2.ensures.asks nodes same)
+
+pub returns-in_default-clause-only : goal.returns-in_default-clause-only
+returns-in_default-clause-only g c = λ page element agrees at met home same. finds_none (asks_same page _ _ refl)
+
+pub returns-in_default-2-clause-only : goal.returns-in_default-2-clause-only
+returns-in_default-2-clause-only g c = λ page element agrees at met home same. finds_none (asks_same page _ _ refl)
+
+pub returns-in_default-3-clause-only : goal.returns-in_default-3-clause-only
+returns-in_default-3-clause-only g c = λ page element agrees at met home same. finds_none (asks_same page _ _ refl)
+
+pub returns-then-is_same_topic-clause-only : goal.returns-then-is_same_topic-clause-only
+returns-then-is_same_topic-clause-only g c = λ page element agrees at met home same.
+    c.find_in.ensures.only page c.args.context.now.page agrees at (own_of at c.in_ok-name.ensures.cases)
+
+pub returns-clause-only : goal.returns-clause-only
+returns-clause-only g c = λ page element agrees at met home same.
+    (let reference = c.in-Some-2.reference in
+    c.find_in-2.ensures.only page c.args.context.now.page agrees at
+    (conref_of met c.in-Some.conref.now reference c.in-Some-3.name (sym same ∙ ap option_copied c.in-Some.is)
+    (sym c.in_ok-reference.ensures ∙ c.in-Some-2.is) (sym c.if-is_same_topic.ensures)
+    (ap (λ (d : List ℕ). if_read (joined d reference.file)) home
+    ∙ sym (c.in_ok-name-2.ensures.value (joined c.args.origin.now reference.file) c.join_name.ensures)
+    ∙ c.in-Some-3.is)))

@@ -1,12 +1,14 @@
 use Rattle.std.proofs.Common.{[], sym, ap, refl, ◌∙◌}
 use Rattle.std.specs.Option.{option_copied}
 use Rattle.doc_elements.specs.Walk.{element_of}
+use Rattle.conref_spec.specs.Content as content
 use Rattle.readers.specs.Setting.{Stand}
 use Rattle.readers.proofs.GrowthLaws.{agrees_before, grows_trans}
 use Rattle.conref_targets.specs.ResolveInput.{setting_of}
 use Rattle.conref_targets.specs.Sought.{sought_shown}
 use Rattle.conref_targets.proofs.AskingLaws.{about_after, about_among, none_among}
 use Rattle.conref_targets.proofs.FindLaws.{sought_first, sought_none, sought_second, value_there}
+use Rattle.conref_targets.proofs.PageAskingLaws.{asks_then, at_later, finds_none, finds_then}
 use Rattle.conref_targets.proofs.find.find_referenced.Goals as goal
 
 pub returns-then-is_some-clause-known : goal.returns-then-is_some-clause-known
@@ -114,3 +116,28 @@ returns-clause-grows g c = grows_trans _ _ _ c.find_by_key.ensures.grows c.find_
 
 pub returns-clause-stand : goal.returns-clause-stand
 returns-clause-stand g c = c.find_by_value.ensures.stand ∙ c.find_by_key.ensures.stand
+
+pub returns-then-is_some-clause-only : goal.returns-then-is_some-clause-only
+returns-then-is_some-clause-only g c = λ page agrees at met same.
+    c.in_ok-keyed.ensures.only page (element_of c.args.origin.now c.args.element.now) agrees at met
+    (ap (λ (s : content.Sought). s.conkeyref) same)
+
+pub returns-then-is_some-2-clause-only : goal.returns-then-is_some-2-clause-only
+returns-then-is_some-2-clause-only g c = λ page agrees at met same.
+    (let element = element_of c.args.origin.now c.args.element.now in
+    let keyed = c.in_ok-keyed.ensures.only page element
+    (agrees_before page.world _ _ c.in_ok-found.ensures.grows agrees) at met
+    (ap (λ (s : content.Sought). s.conkeyref) same) in
+    finds_then _ _ _ c.in_ok-found.found keyed.asks
+    (c.in_ok-found.ensures.only page element agrees (at_later at c.in_ok-keyed.ensures.stand) met refl
+    (ap (λ (s : content.Sought). s.conref) same)))
+
+pub returns-clause-only : goal.returns-clause-only
+returns-clause-only g c = λ page agrees at met same.
+    (let element = element_of c.args.origin.now c.args.element.now in
+    let keyed = c.in_ok-keyed.ensures.only page element
+    (agrees_before page.world _ _ c.in_ok-found.ensures.grows agrees) at met
+    (ap (λ (s : content.Sought). s.conkeyref) same) in
+    finds_none (asks_then page _ _ _ keyed.asks
+    (c.in_ok-found.ensures.only page element agrees (at_later at c.in_ok-keyed.ensures.stand) met refl
+    (ap (λ (s : content.Sought). s.conref) same)).asks))

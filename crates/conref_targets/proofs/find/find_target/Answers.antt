@@ -7,6 +7,7 @@ use Rattle.conref_targets.specs.Asking.{AreGiven}
 use Rattle.conref_targets.specs.ResolveInput.{setting_of}
 use Rattle.conref_targets.proofs.AskingLaws.{about_given, about_same}
 use Rattle.conref_targets.proofs.FindLaws.{search_as}
+use Rattle.conref_targets.proofs.PageAskingLaws.{asks_same, finds_none}
 use Rattle.conref_targets.proofs.find.find_target.Goals as goal
 
 pub returns-in-Local-clause-known : goal.returns-in-Local-clause-known
@@ -32,3 +33,10 @@ returns-in_err-element-in-Local-clause-asks g c = λ nodes same given. about_sam
 
 pub returns-clause-asks : goal.returns-clause-asks
 returns-clause-asks g c = λ nodes same given. about_same nodes _ _ _ refl
+
+pub returns-in-Local-clause-only : goal.returns-in-Local-clause-only
+returns-in-Local-clause-only g c = λ page id agrees at leads.
+    c.find_in.ensures.only page id agrees at (leads c.in-Local.name (ap local_name c.in-Local.is))
+
+pub returns-clause-only : goal.returns-clause-only
+returns-clause-only g c = λ page id agrees at leads. finds_none (asks_same page _ _ refl)

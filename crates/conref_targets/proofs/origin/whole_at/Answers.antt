@@ -26,5 +26,8 @@ returns-in-Some-clause-here c = node_here c.args.doc.now.nodes c.args.place c.in
 pub returns-in-Some-clause-names : goal.returns-in-Some-clause-names
 returns-in-Some-clause-names c = c.whole_of.ensures.names c.args.place c.in-Some.ensures
 
+pub returns-in-Some-clause-met : goal.returns-in-Some-clause-met
+returns-in-Some-clause-met c = λ page all. c.whole_of.ensures.met page c.args.place c.in-Some.ensures all
+
 pub returns-in-Some-clause-hrefs : goal.returns-in-Some-clause-hrefs
 returns-in-Some-clause-hrefs c = λ told all. c.whole_of.ensures.hrefs told c.args.place c.in-Some.ensures all

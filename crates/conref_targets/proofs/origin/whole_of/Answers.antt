@@ -1,6 +1,8 @@
 use Rattle.std.proofs.Common.{sym}
 use Rattle.conref_targets.proofs.OriginLaws.{origin_there, whole_reused, whole_there}
-use Rattle.conref_targets.proofs.HrefDocLaws.{inside_named, node_named, origin_named}
+use Rattle.conref_targets.specs.Hrefs.{HasNamed}
+use Rattle.conref_targets.specs.PageAsking.{IsMet}
+use Rattle.conref_targets.proofs.EachLaws.{inside_each, node_each, origin_each}
 use Rattle.conref_targets.proofs.origin.whole_of.Goals as goal
 
 pub returns-in-None-clause-whole : goal.returns-in-None-clause-whole
@@ -18,7 +20,14 @@ returns-in-Some-clause-names c = λ place is.
 
 pub returns-in-Some-clause-hrefs : goal.returns-in-Some-clause-hrefs
 returns-in-Some-clause-hrefs c = λ told place is all. (
-  origin_named told c.args.inside c.args.node.now c.in-Some.origin.now c.args.doc.now (sym is.within) c.in-Some.ensures
-      (node_named told c.args.doc.now place c.args.node.now c.args.inside is all),
-  inside_named told c.args.doc.now place c.args.node.now c.args.inside is all,
+  origin_each (HasNamed told) c.args.inside c.args.node.now c.in-Some.origin.now c.args.doc.now (sym is.within)
+      c.in-Some.ensures (node_each (HasNamed told) c.args.doc.now place c.args.node.now c.args.inside is all),
+  inside_each (HasNamed told) c.args.doc.now place c.args.node.now c.args.inside is all,
+)
+
+pub returns-in-Some-clause-met : goal.returns-in-Some-clause-met
+returns-in-Some-clause-met c = λ page place is all. (
+  origin_each (IsMet page) c.args.inside c.args.node.now c.in-Some.origin.now c.args.doc.now (sym is.within)
+      c.in-Some.ensures (node_each (IsMet page) c.args.doc.now place c.args.node.now c.args.inside is all),
+  inside_each (IsMet page) c.args.doc.now place c.args.node.now c.args.inside is all,
 )

@@ -4,11 +4,12 @@ use Rattle.std.specs.Vec.Iter.{into_iter_items}
 use Rattle.std.proofs.lemmas.List.Elements.{All-tail}
 use Rattle.dita_doc.specs.Bytes.{Bytes}
 use Rattle.dita_doc.specs.declared.request.Request as given
+use Rattle.dita_doc.proofs.Lists.{no_more}
 use Rattle.script_text.specs.Facts.{IsOwnStep}
 use Rattle.script_text.specs.Read.{step_seen, steps_seen}
 use Rattle.script_text.proofs.ScriptFacts.{script_fits}
 use Rattle.version_store.specs.Kept.{Kept}
-use Rattle.desk_top.proofs.RunLaws.{HasAnswered, none_answered, one_answered, room_left, answer_begun, none_left, all_told, all_in_form, no_more}
+use Rattle.desk_top.proofs.RunLaws.{HasAnswered, none_answered, one_answered, room_left, answer_begun, none_left, all_told, all_in_form}
 use Rattle.desk_top.proofs.TakesLaws.{puts_front}
 use Rattle.desk_top.proofs.run.answer_all.Goals as goal
 

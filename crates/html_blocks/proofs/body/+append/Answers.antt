@@ -7,9 +7,9 @@ use Rattle.dita_doc.proofs.PlaceLaws.{end_first}
 use Rattle.dita_doc.proofs.TreeLaws.{origin_fits}
 use Rattle.html_blocks.specs.Walk.{content_of, origins_of, overlay_of}
 use Rattle.html_tables.specs.Walk.{element_named}
-use Rattle.html_tables.proofs.WalkLaws.{size_named}
 use Rattle.html_spec.specs.Blocks.{shown, shown_from}
 use Rattle.readers.specs.Named.{name_at, under_names}
+use Rattle.readers.proofs.GivenLaws.{size_named}
 use Rattle.html_blocks.proofs.ContextLaws.{kept_within}
 use Rattle.html_blocks.proofs.NodeLaws.{first_named, text_named}
 use Rattle.html_blocks.proofs.WayLaws.{more_text, shown_end, shown_first, shown_text, way_ends, way_more}

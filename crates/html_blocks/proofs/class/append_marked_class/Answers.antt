@@ -1,8 +1,9 @@
 use Rattle.std.proofs.Common.{◌++◌, ◌∙◌, ap, codes, sym}
 use Rattle.doc_elements.specs.Walk.{element_of}
-use Rattle.html_blocks.specs.Marks.{behind, class_text, class_with, texts_of}
+use Rattle.html_blocks.specs.Marks.{behind, class_text, texts_of}
 use Rattle.html_blocks.specs.Opened.{class_by, note_begun}
 use Rattle.html_forms.specs.Shown.{form_shown_of}
+use Rattle.html_spec.specs.Blocks.{class_with}
 use Rattle.html_blocks.proofs.TagLaws.{marked_note, text_as}
 use Rattle.html_blocks.proofs.class.append_marked_class.Goals as goal
 

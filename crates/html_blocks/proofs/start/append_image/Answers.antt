@@ -1,9 +1,8 @@
 use Rattle.std.proofs.Common.{[], Some, ap, codes, false}
 use Rattle.std.specs.Option.{option_copied}
-use Rattle.html_blocks.specs.Marks.{class_with}
 use Rattle.html_blocks.specs.Opened.{file_text, image_by}
 use Rattle.html_blocks.specs.Walk.{element_of, inside_of, origins_of}
-use Rattle.html_spec.specs.Blocks.{marks_at}
+use Rattle.html_spec.specs.Blocks.{class_with, marks_at}
 use Rattle.readers.specs.Named.{name_at}
 use Rattle.html_blocks.proofs.TagLaws.{start_parts, text_last}
 use Rattle.html_blocks.proofs.start.append_image.Goals as goal

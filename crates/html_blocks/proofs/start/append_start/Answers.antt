@@ -1,10 +1,9 @@
 use Rattle.std.proofs.Common.{◌∙◌, None, Some, ap, if◌then◌else◌}
 use Rattle.std.specs.Option.{option_copied}
-use Rattle.html_blocks.specs.Marks.{class_with}
 use Rattle.html_blocks.specs.Opened.{class_by, is_topic, more_by, start_by}
 use Rattle.html_blocks.specs.Walk.{element_of, origins_of}
 use Rattle.html_forms.specs.Shown.{form_shown_of}
-use Rattle.html_spec.specs.Blocks.{marks_at}
+use Rattle.html_spec.specs.Blocks.{class_with, marks_at}
 use Rattle.readers.specs.Named.{name_at}
 use Rattle.html_blocks.proofs.TagLaws.{start_parts, text_last}
 use Rattle.html_blocks.proofs.start.append_start.Goals as goal

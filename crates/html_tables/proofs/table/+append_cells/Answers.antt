@@ -4,7 +4,8 @@ use Rattle.dita_doc.specs.Tree.{size_of}
 use Rattle.html_tables.specs.Walk.{content_named, element_named}
 use Rattle.html_spec.specs.Blocks.{cells_from, context_in, row_for}
 use Rattle.readers.specs.Named.{name_at, under_names}
-use Rattle.html_tables.proofs.WalkLaws.{cells_first, cells_text, kept_context, more_again, size_named, way_ends, way_more, way_same}
+use Rattle.readers.proofs.GivenLaws.{size_named}
+use Rattle.html_tables.proofs.WalkLaws.{cells_first, cells_text, kept_context, more_again, way_ends, way_more, way_same}
 use Rattle.html_tables.proofs.table.+append_cells.Goals as goal
 
 pub returns-in-End : goal.returns-in-End

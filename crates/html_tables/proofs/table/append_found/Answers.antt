@@ -4,8 +4,9 @@ use Rattle.dita_doc.specs.Tree.{size_of, tree_of}
 use Rattle.dita_doc.proofs.PlaceLaws.{end_first, root_fits}
 use Rattle.html_tables.specs.Walk.{HasColumns, cells_of, content_named, element_named, shown_cell}
 use Rattle.readers.specs.Named.{name_at, under_names}
+use Rattle.readers.proofs.GivenLaws.{size_named}
 use Rattle.html_tables.proofs.DownLaws.{down_begins, down_behind, down_ends, down_found, down_inside, down_nothing, down_text}
-use Rattle.html_tables.proofs.WalkLaws.{none_more, size_named}
+use Rattle.html_tables.proofs.WalkLaws.{none_more}
 use Rattle.html_tables.proofs.table.append_found.Goals as goal
 
 pub loop-rest-init : goal.loop-rest-init

@@ -1,8 +1,8 @@
 use Rattle.std.proofs.Common.{rules, ◌≡◌, ◌∙◌, ◌<◌, ap, sym, subst, length, IfSome, None}
 use Rattle.std.specs.Option.{option_or}
+use Rattle.dita_doc.proofs.Lists.{option_or_none}
 use Rattle.key_scopes.specs.Above.{around_in}
 use Rattle.key_scopes.specs.Rising.{by_names, outermost_from}
-use Rattle.dita_doc.proofs.Lists.{option_or_none}
 use Rattle.key_scopes.proofs.OptionLaws.{or_assoc}
 use Rattle.key_scopes.proofs.RisingLaws.{around_within, one_up}
 use Rattle.key_scopes.proofs.search.outermost_qualified.Goals as goal
@@ -11,7 +11,8 @@ use Rattle.key_scopes.proofs.search.outermost_qualified.Goals.{in-Some-qualified
 pub loop-here-init : goal.loop-here-init
 loop-here-init c = λ world nodes is within. record {
   within = within;
-  value = sym (option_or_none (outermost_from (by_names world nodes c.args.key.now) c.args.table.now.scopes c.args.from));
+  value = sym (option_or_none (outermost_from
+      (by_names world nodes c.args.key.now) c.args.table.now.scopes c.args.from));
 }
 
 pub loop-here-preserved : goal.loop-here-preserved

@@ -9,7 +9,8 @@ loop-place-preserved c =
     let nodes = c.args.doc.now.nodes in
     let node = c.index-nodes-place.result in
     let some : c.loop-place.place < length nodes = subst (λ l. c.loop-place.place < length l) c.as_slice-nodes.ensures c.loop-place-test.true in
-    let here = get_read nodes c.loop-place.place node some (c.index-nodes-place.is ∙ ap (λ l. get_or l c.loop-place.place node) c.as_slice-nodes.ensures) in
+    let here = get_read nodes c.loop-place.place node some
+    (c.index-nodes-place.is ∙ ap (λ l. get_or l c.loop-place.place node) c.as_slice-nodes.ensures) in
     record {
       siblings = λ name. behind_chars name nodes c.loop-place.place node some here (c.loop-place.invariant.siblings name)
           (c.loop-place.invariant.same name) (c.loop-place.invariant.texts name) c.in-Chars.is;
@@ -24,6 +25,7 @@ returns-in-Element c = λ name.
     let nodes = c.args.doc.now.nodes in
     let node = c.index-nodes-place.result in
     let some : c.loop-place.place < length nodes = subst (λ l. c.loop-place.place < length l) c.as_slice-nodes.ensures c.loop-place-test.true in
-    let here = get_read nodes c.loop-place.place node some (c.index-nodes-place.is ∙ ap (λ l. get_or l c.loop-place.place node) c.as_slice-nodes.ensures) in
+    let here = get_read nodes c.loop-place.place node some
+    (c.index-nodes-place.is ∙ ap (λ l. get_or l c.loop-place.place node) c.as_slice-nodes.ensures) in
     root_here name nodes c.loop-place.place node some here (c.loop-place.invariant.siblings name)
     (c.loop-place.invariant.same name) (c.loop-place.invariant.texts name) c.in-Element.is

@@ -9,6 +9,8 @@ use Rattle.readers.proofs.DocumentLaws.{asks_after}
 use Rattle.readers.proofs.FoundedLaws.{stays_after}
 use Rattle.readers.proofs.GrowthLaws.{agrees_before, grows_trans}
 use Rattle.readers.specs.Setting.{Stand}
+use Rattle.readers.proofs.OnlyLaws.{only_after}
+use Rattle.toc_page.proofs.AskedLaws.{pages_asked, titles_asked}
 use Rattle.toc_page.proofs.item.append_front.Goals as goal
 
 pub returns-in_err-href-clause-stand : goal.returns-in_err-href-clause-stand
@@ -69,3 +71,7 @@ returns-clause-known g c = λ world agrees is pages there title.
     ∙ (λ i. (out ++ start) ++ linked (href i) (escaped (label i)))
     ∙ append_assoc out start (linked (href_by plan c.args.at (plan_target plan c.args.at))
     (escaped (label_of world plan c.args.at c.args.node.now)))
+
+pub returns-clause-only : goal.returns-clause-only
+returns-clause-only g c = λ there. only_after _ _ _ _ (titles_asked c.args.toc.plan.now _ _ c.in_ok-label.ensures.only)
+    (pages_asked c.args.toc.plan.now _ _ (c.in_ok-href.ensures.only there))

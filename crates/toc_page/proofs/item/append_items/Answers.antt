@@ -4,6 +4,7 @@ use Rattle.readers.proofs.FoundedLaws.{stays_after}
 use Rattle.readers.proofs.GrowthLaws.{agrees_before, grows_trans}
 use Rattle.readers.specs.Setting.{Stand}
 use Rattle.toc_page.proofs.ItemLaws.{walk_all, walk_node}
+use Rattle.readers.proofs.OnlyLaws.{only_after}
 use Rattle.toc_page.proofs.item.append_items.Goals as goal
 
 pub loop-at-preserved : goal.loop-at-preserved
@@ -23,6 +24,7 @@ loop-at-preserved g c = record {
       c.in_ok-append_node.ensures.founded;
   asks = asks_after _ _ _ _ _ c.loop-at.invariant.grows c.loop-at.invariant.asks
       c.in_ok-append_node.ensures.asks;
+  only = only_after _ _ _ _ c.loop-at.invariant.only c.in_ok-append_node.ensures.only;
   grows = grows_trans _ _ _ c.loop-at.invariant.grows c.in_ok-append_node.ensures.grows;
 }
 
@@ -69,3 +71,6 @@ returns-clause-known g c = λ world agrees is pages tree.
     let long = c.len-count.ensures in
     walk_all world c.args.toc.plan.now c.loop-at.at c.loop-at.items c.args.out.now c.loop-at.out c.close.new.out tree
     (omega (arith, c.loop-at-test.false, long)) (c.loop-at.invariant.known world agrees is pages) c.in_ok-close.ensures
+
+pub returns-clause-only : goal.returns-clause-only
+returns-clause-only g c = c.loop-at.invariant.only

@@ -3,9 +3,10 @@ use Rattle.std.specs.Prelude.{false}
 use Rattle.plan_nodes.specs.Preorder.{shape}
 use Rattle.readers.specs.Documents.{AsksOnly, nothing}
 use Rattle.readers.specs.Founded.{Grows, StaysFounded}
+use Rattle.readers.specs.Only.{TellsOnly}
 use Rattle.readers.specs.Told.{Agrees}
 use Rattle.reader_spec.specs.World.{World}
-use Rattle.toc_page.specs.Made.{contents_names}
+use Rattle.toc_page.specs.Made.{contents_names, is_of_contents}
 use Rattle.toc_page.specs.Opened.{Page, stack_of}
 use Rattle.toc_page.specs.Toc.{IsToc}
 use Rattle.toc_page.proofs.ItemLaws.{walk}
@@ -20,5 +21,6 @@ invariant-loop-at g l = record {
   stand : g.A.Reader.stand l.asker ≡ g.A.Reader.stand l.fn.asker;
   founded : StaysFounded (contents_names l.toc.plan.now) (g.A.Reader.told l.fn.asker) (g.A.Reader.told l.asker);
   asks : AsksOnly nothing [] (g.A.Reader.told l.fn.asker) (g.A.Reader.told l.asker);
+  only : TellsOnly (is_of_contents l.toc.plan.now) (g.A.Reader.told l.fn.asker) (g.A.Reader.told l.asker);
   grows : Grows (g.A.Reader.told l.fn.asker) (g.A.Reader.told l.asker);
 }

@@ -132,3 +132,6 @@ returns-clause-known g c = λ world agrees is pages.
     c.may_be_item.ensures c.if-not-may_be_item.false title c.is_told.ensures c.if-not-is_told.false)
     c.in_ok-begin_item.ensures.text c.in_ok-begin_item.ensures.stack
     (c.in_ok-append_front.ensures.known world agrees is pages there title)
+
+pub returns-clause-only : goal.returns-clause-only
+returns-clause-only g c = c.in_ok-append_front.ensures.only (sym c.in-Some.ensures)

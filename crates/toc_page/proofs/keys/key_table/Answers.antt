@@ -8,3 +8,6 @@ returns-then-not-needs_keys-clause-known g c = λ world agrees tree same.
 pub returns-clause-known : goal.returns-clause-known
 returns-clause-known g c = λ world agrees tree same.
     record { each = λ at is. (c.in_ok-made.ensures.known world agrees tree).table }
+
+pub returns-clause-only : goal.returns-clause-only
+returns-clause-only g c = c.in_ok-made.ensures.only

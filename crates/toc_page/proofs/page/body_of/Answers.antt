@@ -9,6 +9,8 @@ use Rattle.readers.proofs.GrowthLaws.{agrees_before, grows_trans}
 use Rattle.readers.specs.Setting.{Stand}
 use Rattle.key_scopes.proofs.TreeLaws.{tree_parents}
 use Rattle.toc_page.proofs.NameLaws.{homes_stay}
+use Rattle.readers.proofs.OnlyLaws.{only_after}
+use Rattle.toc_page.proofs.AskedLaws.{documents_asked}
 use Rattle.toc_page.proofs.page.body_of.Goals as goal
 
 pub returns-in_err-keys-clause-founded : goal.returns-in_err-keys-clause-founded
@@ -87,3 +89,7 @@ returns-clause-known g c = λ world agrees tree pages same title.
     ∙ ap (λ l. l ++ codes "</nav>") (written
     ∙ ap (λ l. l ++ list_text (items world plan)) (c.in_ok-body.ensures
     ∙ ap (λ text. codes "<nav class=\"toc\"><h1>" ++ escaped text ++ codes "</h1>") title))
+
+pub returns-clause-only : goal.returns-clause-only
+returns-clause-only g c = only_after _ _ _ _ (documents_asked c.args.plan.now _ _ c.in_ok-keys.ensures.only)
+    c.in_ok-append_items.ensures.only

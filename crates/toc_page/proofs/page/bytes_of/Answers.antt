@@ -7,6 +7,8 @@ use Rattle.readers.proofs.GrowthLaws.{agrees_before, grows_trans}
 use Rattle.readers.specs.Setting.{Stand}
 use Rattle.toc_page.proofs.NameLaws.{homes_stay}
 use Rattle.toc_page.proofs.TextLaws.{title_known}
+use Rattle.readers.proofs.OnlyLaws.{only_after}
+use Rattle.toc_page.proofs.AskedLaws.{nodes_asked}
 use Rattle.toc_page.proofs.page.bytes_of.Goals as goal
 
 pub returns-in_err-homes-clause-founded : goal.returns-in_err-homes-clause-founded
@@ -63,3 +65,8 @@ returns-clause-known g c = λ world agrees tree pages.
     c.in_ok-page_text.ensures
     ∙ ap (λ text. page_html.page_text c.in_ok-title.title text []) (c.as_bytes.ensures.value ∙ body)
     ∙ ap (λ text. page_html.page_text text (contents_body world plan) []) title
+
+pub returns-clause-only : goal.returns-clause-only
+returns-clause-only g c = only_after _ _ _ _
+    (nodes_asked c.args.plan.now _ _ c.as_slice.result.now c.as_slice.ensures c.in_ok-homes.ensures.only)
+    c.in_ok-body.ensures.only

@@ -6,6 +6,8 @@ use Rattle.readers.specs.Setting.{Stand}
 use Rattle.toc_page.specs.Made.{faults_in}
 use Rattle.toc_page.proofs.FaultLaws.{all_faults}
 use Rattle.toc_page.proofs.NameLaws.{documents_stay}
+use Rattle.readers.proofs.OnlyLaws.{only_after}
+use Rattle.toc_page.proofs.AskedLaws.{pushes_asked}
 use Rattle.toc_page.proofs.page.contents_made.Goals as goal
 
 pub returns-in_err-push_faults-clause-founded : goal.returns-in_err-push_faults-clause-founded
@@ -31,3 +33,7 @@ pub returns-clause-founded : goal.returns-clause-founded
 returns-clause-founded g c =
     stays_after _ _ _ _ c.in_ok-bytes_of.ensures.grows c.in_ok-bytes_of.ensures.founded
     (documents_stay c.args.plan.now c.as_slice.result.now _ _ c.as_slice.ensures c.push_faults.ensures.founded)
+
+pub returns-clause-only : goal.returns-clause-only
+returns-clause-only g c = only_after _ _ _ _ c.in_ok-bytes_of.ensures.only
+    (pushes_asked c.args.plan.now _ _ c.as_slice.result.now c.as_slice.ensures c.in_ok-push_faults.ensures.only)

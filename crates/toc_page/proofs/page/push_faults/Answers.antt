@@ -6,6 +6,7 @@ use Rattle.readers.proofs.GrowthLaws.{agrees_before, grows_one, grows_trans, tol
 use Rattle.readers.specs.Setting.{Stand}
 use Rattle.toc_page.specs.Made.{faults_in}
 use Rattle.toc_page.proofs.FaultLaws.{faults_more}
+use Rattle.toc_page.proofs.AskedLaws.{push_asked}
 use Rattle.toc_page.proofs.page.push_faults.Goals as goal
 
 pub loop-document-preserved : goal.loop-document-preserved
@@ -28,6 +29,10 @@ loop-document-preserved g c = record {
       (stays_told _ _ _ _ refl c.in_ok-pushes.ensures.told));
   asks = asks_after _ _ _ _ _ c.loop-document.invariant.grows c.loop-document.invariant.asks
       (asks_told _ _ _ _ _ refl c.in_ok-pushes.ensures.told);
+  only = push_asked c.args.documents.now _ c.document-item.result _ _ _ _
+      (document_among c.args.documents.now c.loop-document.document-index c.document-item.result
+      c.loop-document-test.true c.document-item.is)
+      c.loop-document.invariant.only c.in_ok-pushes.ensures.told;
   grows = grows_trans _ _ _ c.loop-document.invariant.grows (grows_one _ _ _ c.in_ok-pushes.ensures.told);
 }
 
@@ -59,3 +64,6 @@ returns-clause-asks g c = c.loop-document.invariant.asks
 
 pub returns-clause-grows : goal.returns-clause-grows
 returns-clause-grows g c = c.loop-document.invariant.grows
+
+pub returns-clause-only : goal.returns-clause-only
+returns-clause-only g c = c.loop-document.invariant.only

@@ -5,6 +5,7 @@ use Rattle.conref_targets.specs.Asking.{AreAmong, reused_of_doc, reused_of_whole
 use Rattle.conref_pull.proofs.LinkLaws.{link_whole}
 use Rattle.readers.specs.Named.{named_tree}
 use Rattle.conref_targets.specs.Hrefs.{HaveNamed}
+use Rattle.conref_targets.specs.PageAsking.{AreMet}
 use Rattle.conref_pull.proofs.LinkLaws.{link_named}
 use Rattle.conref_pull.proofs.chain.TakenTarget.whole.Goals as goal
 
@@ -20,3 +21,7 @@ pub returns-clause-hrefs : goal.returns-clause-hrefs
 returns-clause-hrefs c = λ told given. c.whole_at.ensures.hrefs told
     (subst (λ (doc : Doc). HaveNamed told (named_tree doc)) (sym c.deref.ensures)
     (link_named told c.args.self.now given))
+
+pub returns-clause-met : goal.returns-clause-met
+returns-clause-met c = λ page met. c.whole_at.ensures.met page
+    (subst (λ (doc : Doc). AreMet page (named_tree doc)) (sym c.deref.ensures) met)

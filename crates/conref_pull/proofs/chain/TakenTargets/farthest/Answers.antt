@@ -3,6 +3,7 @@ use Rattle.conref_pull.specs.Linked.{AreLinks}
 use Rattle.conref_pull.specs.declared.chain.TakenTarget.{TakenTarget}
 use Rattle.conref_pull.proofs.LinkAskLaws.{first_given, whole_given}
 use Rattle.conref_pull.proofs.LinkLaws.{no_links}
+use Rattle.conref_pull.proofs.MetLaws.{first_met}
 use Rattle.conref_pull.proofs.chain.TakenTargets.farthest.Goals as goal
 
 pub returns-in-None-clause-target : goal.returns-in-None-clause-target
@@ -23,4 +24,6 @@ returns-in-Some c = record {
   hrefs = λ told given.
       c.whole.ensures.hrefs told (first_given told c.args.self.now.links.items c.in-Some.farthest.now _
       (sym c.deref.ensures.value ∙ c.in-Some.ensures.cases.0) given);
+  met = λ page met. c.whole.ensures.met page
+      (first_met page c.args.self.now.links.items c.in-Some.farthest.now _ (sym c.deref.ensures.value ∙ c.in-Some.ensures.cases.0) met);
 }

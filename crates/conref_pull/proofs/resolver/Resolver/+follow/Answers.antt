@@ -11,6 +11,7 @@ use Rattle.conref_targets.specs.Origin.{whole_of}
 use Rattle.conref_targets.specs.ResolveInput.{setting_of}
 use Rattle.conref_targets.proofs.AskingLaws.{about_then, given_reused, given_some, whole_element}
 use Rattle.conref_pull.specs.Linked.{IsStep}
+use Rattle.conref_pull.specs.Met.{TakesOnly}
 use Rattle.conref_pull.specs.State.{path_within}
 use Rattle.conref_pull.specs.Step.{step_of}
 use Rattle.conref_pull.specs.declared.chain.TakenTarget.{TakenTarget}
@@ -18,6 +19,7 @@ use Rattle.conref_pull.specs.declared.resolver.Resolver.{Resolver}
 use Rattle.conref_pull.proofs.LinkAskLaws.{links_later, links_more}
 use Rattle.conref_pull.proofs.FollowLaws.{follow_ended, follow_lost, follow_on, followed_there, page_same_setting, step_room}
 use Rattle.conref_pull.proofs.TakeLaws.{depth_same}
+use Rattle.conref_pull.proofs.MetLaws.{at_on, follows_more}
 use Rattle.conref_pull.proofs.resolver.Resolver.+follow.Goals as goal
 
 pub returns-in_default-clause-given : goal.returns-in_default-clause-given
@@ -132,3 +134,21 @@ returns-in_err-push-clause-grows g t c = grows_trans _ _ _ c.take.ensures.grows 
 
 pub returns-clause-grows : goal.returns-clause-grows
 returns-clause-grows g t c = grows_trans _ _ _ c.take.ensures.grows c.follow.ensures.grows
+
+pub returns-in_default-clause-only : goal.returns-in_default-clause-only
+returns-in_default-clause-only g t c = λ page agrees at met links.
+    record { asks = (c.in_ok-link.ensures.only page agrees at met).asks; met = links }
+
+pub returns-in_default-whole-clause-only : goal.returns-in_default-whole-clause-only
+returns-in_default-whole-clause-only g t c = λ page agrees at met links.
+    record { asks = (c.in_ok-link.ensures.only page agrees at met).asks; met = links }
+
+pub returns-clause-only : goal.returns-clause-only
+returns-clause-only g t c = λ page agrees at met links.
+    (let old = g.A.Reader.told c.args.asker.now in
+    let told = g.A.Reader.told c.take.new.asker in
+    let takes = subst (λ (link : Option TakenTarget). TakesOnly page old told link) c.in-Some.is
+    (c.in_ok-link.ensures.only page (agrees_before page.world _ _ c.in_ok-end.ensures.grows agrees) at met) in
+    follows_more page _ _ _ c.follow.new.taken.items c.push.new.self.items c.in-Some.link c.in_ok-push.ensures.items takes.asks takes.met
+    (c.in_ok-end.ensures.only page agrees (at_on c.in_ok-link.ensures.page c.in_ok-link.ensures.stand at)
+    (c.in-Some-whole.ensures.met page takes.met).0 links))

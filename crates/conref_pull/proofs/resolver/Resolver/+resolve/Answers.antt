@@ -4,10 +4,12 @@ use Rattle.dita_doc.specs.Siblings.{doc_of_siblings}
 use Rattle.dita_doc.specs.declared.doc.Doc.{Doc}
 use Rattle.doc_elements.specs.Walk.{element_of}
 use Rattle.conref_targets.specs.Origin.{named_content}
+use Rattle.conref_targets.specs.PageAsking.{IsMet}
 use Rattle.conref_pull.specs.Step.{declared_inside, merged_onto}
 use Rattle.conref_pull.specs.Walking.{around_of, inside_of, seen_by}
 use Rattle.dita_doc.specs.Tree.{size_of}
 use Rattle.conref_pull.proofs.ElementWalkLaws.{asked_kept, asked_not, asked_took, judged_gone, judged_plain}
+use Rattle.conref_pull.proofs.MetLaws.{asks_unless, asks_same, asks_stopped, asks_then, at_on, ends_same, link_met, met_as, origin_met, place_asks, sibling_asks, text_each, unless_out}
 use Rattle.conref_pull.proofs.OpenedLaws.{kept_not, kept_put, taken_goes, taken_not, taken_put}
 use Rattle.conref_pull.proofs.WalkNodeLaws.{behind_among, place_nothing, place_puts, place_walks, put_there, sibling_text, siblings_end, siblings_ready, text_put}
 use Rattle.conref_pull.proofs.WalkAskLaws.{about_same, agrees_before, among_same, among_then, asks_behind, asks_call, asks_counted, asks_followed, asks_last, asks_next, asks_on, asks_part, asks_target, given_later, given_some, grows_same, grows_trans, inside_among, link_later, links_later, node_reused, none_among, origin_there, page_around, page_faults, page_judged, page_on, page_one, page_same, page_then, reused_given}
@@ -31,6 +33,7 @@ siblings-loop-node-init g t c = record {
   asks = λ nodes same. about_same nodes _ _ _ refl;
   stand = refl;
   grows = grows_same _;
+  only = λ page agrees at met. (asks_same page _ _ refl, met);
   hrefs = λ given put. (given, put);
   walked = λ world here agrees ready. siblings_ready _ ready;
 }
@@ -41,6 +44,7 @@ range-loop-init g t c = record {
   asks = λ nodes same given. about_same nodes _ _ _ refl;
   stand = refl;
   grows = grows_same _;
+  only = λ page agrees at met. asks_same page _ _ refl;
   hrefs = λ given put. put;
   walked = λ world here one agrees ready is. range_ready c.args.at.is_range (around_of c.args.at) ready is;
 }
@@ -51,6 +55,7 @@ ranges-loop-link-init g t c = record {
   asks = λ nodes same given. about_same nodes _ _ _ refl;
   stand = refl;
   grows = grows_same _;
+  only = λ page agrees at met. asks_same page _ _ refl;
   hrefs = λ given put. put;
   walked = λ world here path taken agrees ready far limit same count linked.
       ranges_ready (around_of c.args.at) taken ready c.deref-link-items.ensures.value linked count same far limit;
@@ -113,6 +118,10 @@ range-loop-preserved g t c = record {
       (reused_given c.deref-in-loop.ensures (given_later _ _ _ c.loop.invariant.grows given))) nodes same;
   stand = c.in_ok-node_at.ensures.stand ∙ c.loop.invariant.stand;
   grows = grows_trans _ _ _ c.loop.invariant.grows c.in_ok-node_at.ensures.grows;
+  only = λ page agrees at met. asks_then page _ _ _
+      (c.loop.invariant.only page (agrees_before page.world _ _ c.in_ok-node_at.ensures.grows agrees) at met)
+      (c.in_ok-node_at.ensures.only page agrees (at_on c.loop.invariant.page c.loop.invariant.stand at)
+      (met_as page c.deref-in-loop.ensures met));
   hrefs = λ given put. c.in_ok-node_at.ensures.hrefs
       (named_later c.loop.invariant.grows c.args.link.now c.deref-in-loop.ensures given)
       (c.loop.invariant.hrefs given put);
@@ -138,6 +147,10 @@ ranges-loop-link-preserved g t c = record {
       c.link-item.is given)) nodes same;
   stand = c.in_ok-range.ensures.stand ∙ c.loop-link.invariant.stand;
   grows = grows_trans _ _ _ c.loop-link.invariant.grows c.in_ok-range.ensures.grows;
+  only = λ page agrees at met. asks_then page _ _ _
+      (c.loop-link.invariant.only page (agrees_before page.world _ _ c.in_ok-range.ensures.grows agrees) at met)
+      (c.in_ok-range.ensures.only page agrees (at_on c.loop-link.invariant.page c.loop-link.invariant.stand at)
+      (link_met page c.loop-link.link-index c.deref-link-items.ensures.value c.loop-link-test.true c.link-item.is met));
   hrefs = λ given put. c.in_ok-range.ensures.hrefs (link_later c.loop-link.link-index c.loop-link.invariant.grows
       c.deref-link-items.ensures.value c.loop-link-test.true c.link-item.is given) (c.loop-link.invariant.hrefs given
       put);
@@ -174,6 +187,12 @@ siblings-loop-node-preserved g t c =
           c.loop-node.invariant.stand c.loop-node.invariant.grows c.loop-node.invariant.asks c.element.ensures.asks;
       stand = c.in_ok-element-in-Element.ensures.stand ∙ c.loop-node.invariant.stand;
       grows = grows_trans _ _ _ c.loop-node.invariant.grows c.in_ok-element-in-Element.ensures.grows;
+      only = λ page agrees at met.
+          (let before = c.loop-node.invariant.only page
+          (agrees_before page.world _ _ c.in_ok-element-in-Element.ensures.grows agrees) at met in
+          sibling_asks page split before.1 (λ first held. asks_then page _ _ _ before.0
+          (c.in_ok-element-in-Element.ensures.only page agrees
+          (at_on c.loop-node.invariant.page c.loop-node.invariant.stand at) first held)));
       hrefs = λ given put. sibling_put c.loop-node.invariant.grows split (c.loop-node.invariant.hrefs given put)
           c.in_ok-element-in-Element.ensures.hrefs;
       walked = λ world here agrees ready.
@@ -288,6 +307,145 @@ unchanged-returns-clause-hrefs g t c = λ named held put.
     named) (same_put _ c.args.self.now _ (maker_counted _ _ c.in_ok-count_one.ensures) put)
     (c.in_ok-siblings.ensures.hrefs held) c.close.ensures.closed)
 
+-- The questions for the page
+
+pub siblings-returns-in-End-clause-only : goal.siblings-returns-in-End-clause-only
+siblings-returns-in-End-clause-only g t c = λ page agrees at met. (c.loop-node.invariant.only page agrees at met).0
+
+pub siblings-returns-in_err-put_chars-in-Chars-clause-only : goal.siblings-returns-in_err-put_chars-in-Chars-clause-only
+siblings-returns-in_err-put_chars-in-Chars-clause-only g t c = λ page agrees at met.
+    unless_out _ _ (c.loop-node.invariant.only page agrees at met).0
+
+pub siblings-returns-in_err-element-in-Element-clause-only : goal.siblings-returns-in_err-element-in-Element-clause-only
+siblings-returns-in_err-element-in-Element-clause-only g t c = λ page agrees at met.
+    (let before = c.loop-node.invariant.only page (agrees_before page.world _ _ c.element.ensures.grows agrees) at met in
+    (sibling_asks page (splits c.loop-node.left c.in-Element.node.now c.in-Element.inside c.in-Element.rest
+    c.in-Element.ensures.content c.in-Element.ensures.document) before.1
+    (λ first held. asks_stopped page _ _ _ c.from_residual-in_err-element-in-Element.result c.in_err-element-in-Element.field-0.0
+    c.from_residual-in_err-element-in-Element.ensures.1 before.0
+    (c.in_err-element-in-Element.ensures.only page agrees
+    (at_on c.loop-node.invariant.page c.loop-node.invariant.stand at) first held))).0)
+
+pub element-returns-clause-only : goal.element-returns-clause-only
+element-returns-clause-only g t c = c.element_with.ensures.only
+
+pub element_with-returns-in_default-clause-only : goal.element_with-returns-in_default-clause-only
+element_with-returns-in_default-clause-only g t c = λ page agrees at met held. asks_same page _ _ refl
+
+pub element_with-returns-then-branch-clause-only : goal.element_with-returns-then-branch-clause-only
+element_with-returns-then-branch-clause-only g t c = λ page agrees at met held. asks_same page _ _ refl
+
+pub element_with-returns-then-is_none-clause-only : goal.element_with-returns-then-is_none-clause-only
+element_with-returns-then-is_none-clause-only g t c = λ page agrees at met held.
+    c.unchanged.ensures.only page agrees
+    (at_on (page_faults c.args.self.now _ _ c.in_ok-is_excluded.ensures.state) refl at) held
+
+pub element_with-returns-then-chain-at-clause-only : goal.element_with-returns-then-chain-at-clause-only
+element_with-returns-then-chain-at-clause-only g t c = λ page agrees at met held.
+    (let judged = at_on (page_faults c.args.self.now _ _ c.in_ok-is_excluded.ensures.state) refl at in
+    asks_unless page _ _ _ c.unchanged-then-chain-at.result
+    (c.in_ok-chain.ensures.only page (agrees_before page.world _ _ c.unchanged-then-chain-at.ensures.grows agrees)
+    judged (origin_met page c.args.inside c.args.node.now c.in-Some.origin.now c.doc.ensures c.in-Some.ensures met)).asks
+    (c.unchanged-then-chain-at.ensures.only page agrees
+    (at_on c.in_ok-chain.ensures.page c.in_ok-chain.ensures.stand judged) held))
+
+pub element_with-returns-in_err-merged-clause-only : goal.element_with-returns-in_err-merged-clause-only
+element_with-returns-in_err-merged-clause-only g t c = λ page agrees at met held.
+    (let judged = at_on (page_faults c.args.self.now _ _ c.in_ok-is_excluded.ensures.state) refl at in
+    let chain = c.in_ok-chain.ensures.only page (agrees_before page.world _ _ c.merged.ensures.grows agrees) judged
+    (origin_met page c.args.inside c.args.node.now c.in-Some.origin.now c.doc.ensures c.in-Some.ensures met) in
+    asks_stopped page _ _ _ c.from_residual-in_err-merged.result c.in_err-merged.field-0.0 c.from_residual-in_err-merged.ensures.1
+    chain.asks (c.in_err-merged.ensures.only page agrees
+    (at_on c.in_ok-chain.ensures.page c.in_ok-chain.ensures.stand judged) chain.met))
+
+pub element_with-returns-clause-only : goal.element_with-returns-clause-only
+element_with-returns-clause-only g t c = λ page agrees at met held.
+    (let judged = at_on (page_faults c.args.self.now _ _ c.in_ok-is_excluded.ensures.state) refl at in
+    let later = agrees_before page.world _ _ c.ranges-2.ensures.grows agrees in
+    let chain = c.in_ok-chain.ensures.only page (agrees_before page.world _ _ c.in_ok-merged.ensures.grows later) judged
+    (origin_met page c.args.inside c.args.node.now c.in-Some.origin.now c.doc.ensures c.in-Some.ensures met) in
+    let followed = at_on c.in_ok-chain.ensures.page c.in_ok-chain.ensures.stand judged in
+    asks_unless page _ _ _ c.ranges-2.result
+    (asks_then page _ _ _ chain.asks (c.in_ok-merged.ensures.only page later followed chain.met))
+    (c.ranges-2.ensures.only page agrees
+    (at_on c.in_ok-merged.ensures.page c.in_ok-merged.ensures.stand followed) chain.met))
+
+pub unchanged-returns-in_err-count_one-clause-only : goal.unchanged-returns-in_err-count_one-clause-only
+unchanged-returns-in_err-count_one-clause-only g t c = λ page agrees at held. ends_same page _ _
+
+pub unchanged-returns-in_err-siblings-clause-only : goal.unchanged-returns-in_err-siblings-clause-only
+unchanged-returns-in_err-siblings-clause-only g t c = λ page agrees at held.
+    asks_stopped page _ _ _ c.from_residual-in_err-siblings.result c.in_err-siblings.field-0.0
+    c.from_residual-in_err-siblings.ensures.1 (asks_same page _ _ refl) (c.in_err-siblings.ensures.only page agrees
+    (at_on (page_one c.args.self.now c.count_one.new.self c.in_ok-count_one.ensures) refl at) held)
+
+pub unchanged-returns-clause-only : goal.unchanged-returns-clause-only
+unchanged-returns-clause-only g t c = λ page agrees at held.
+    c.in_ok-siblings.ensures.only page agrees
+    (at_on (page_one c.args.self.now c.count_one.new.self c.in_ok-count_one.ensures) refl at) held
+
+pub merged-returns-in_err-count_one-clause-only : goal.merged-returns-in_err-count_one-clause-only
+merged-returns-in_err-count_one-clause-only g t c = λ page agrees at met. ends_same page _ _
+
+pub merged-returns-then-branch-clause-only : goal.merged-returns-then-branch-clause-only
+merged-returns-then-branch-clause-only g t c = λ page agrees at met. asks_same page _ _ refl
+
+pub merged-returns-in_default-clause-only : goal.merged-returns-in_default-clause-only
+merged-returns-in_default-clause-only g t c = λ page agrees at met. asks_same page _ _ refl
+
+pub merged-returns-in_err-siblings-clause-only : goal.merged-returns-in_err-siblings-clause-only
+merged-returns-in_err-siblings-clause-only g t c = λ page agrees at met.
+    asks_stopped page _ _ _ c.from_residual-in_err-siblings.result c.in_err-siblings.field-0.0
+    c.from_residual-in_err-siblings.ensures.1 (asks_same page _ _ refl) (c.in_err-siblings.ensures.only page agrees
+    (at_on (page_judged _ c.args.self.now _ _ c.in_ok-count_one.ensures c.in_ok-is_excluded.ensures.state) refl at)
+    (c.in-Some.ensures.met page met).1)
+
+pub merged-returns-clause-only : goal.merged-returns-clause-only
+merged-returns-clause-only g t c = λ page agrees at met.
+    c.in_ok-siblings.ensures.only page agrees
+    (at_on (page_judged _ c.args.self.now _ _ c.in_ok-count_one.ensures c.in_ok-is_excluded.ensures.state) refl at)
+    (c.in-Some.ensures.met page met).1
+
+pub ranges-returns-then-count-at-clause-only : goal.ranges-returns-then-count-at-clause-only
+ranges-returns-then-count-at-clause-only g t c = c.loop-link.invariant.only
+
+pub ranges-returns-in_err-range-clause-only : goal.ranges-returns-in_err-range-clause-only
+ranges-returns-in_err-range-clause-only g t c = λ page agrees at met.
+    asks_stopped page _ _ _ c.from_residual.result c.in_err-range.field-0.0 c.from_residual.ensures.1
+    (c.loop-link.invariant.only page (agrees_before page.world _ _ c.range.ensures.grows agrees) at met)
+    (c.in_err-range.ensures.only page agrees (at_on c.loop-link.invariant.page c.loop-link.invariant.stand at)
+    (link_met page c.loop-link.link-index c.deref-link-items.ensures.value c.loop-link-test.true c.link-item.is met))
+
+pub ranges-returns-clause-only : goal.ranges-returns-clause-only
+ranges-returns-clause-only g t c = c.loop-link.invariant.only
+
+pub range-returns-then-place-link-clause-only : goal.range-returns-then-place-link-clause-only
+range-returns-then-place-link-clause-only g t c = c.loop.invariant.only
+
+pub range-returns-in_default-clause-only : goal.range-returns-in_default-clause-only
+range-returns-in_default-clause-only g t c = c.loop.invariant.only
+
+pub range-returns-in_err-node_at-clause-only : goal.range-returns-in_err-node_at-clause-only
+range-returns-in_err-node_at-clause-only g t c = λ page agrees at met.
+    asks_stopped page _ _ _ c.from_residual.result c.in_err-node_at.field-0.0 c.from_residual.ensures.1
+    (c.loop.invariant.only page (agrees_before page.world _ _ c.node_at.ensures.grows agrees) at met)
+    (c.in_err-node_at.ensures.only page agrees (at_on c.loop.invariant.page c.loop.invariant.stand at)
+    (met_as page c.deref-in-loop.ensures met))
+
+pub range-returns-clause-only : goal.range-returns-clause-only
+range-returns-clause-only g t c = c.loop.invariant.only
+
+pub node_at-returns-in-Some-clause-only : goal.node_at-returns-in-Some-clause-only
+node_at-returns-in-Some-clause-only g t c = λ page agrees at met.
+    place_asks page c.in-Some.ensures met (c.element.ensures.only page agrees at)
+
+pub node_at-returns-in-Some-node_of-clause-only : goal.node_at-returns-in-Some-node_of-clause-only
+node_at-returns-in-Some-node_of-clause-only g t c = λ page agrees at met.
+    ends_same page c.put_chars.result _
+
+pub node_at-returns-in-None-node_of-clause-only : goal.node_at-returns-in-None-node_of-clause-only
+node_at-returns-in-None-node_of-clause-only g t c = λ page agrees at met. asks_same page _ _ refl
+
 -- What was put
 
 pub node_at-returns-in-Some-clause-known : goal.node_at-returns-in-Some-clause-known
@@ -323,6 +481,13 @@ siblings-loop-node-preserved-in-Chars g t c =
       asks = c.loop-node.invariant.asks;
       stand = c.loop-node.invariant.stand;
       grows = c.loop-node.invariant.grows;
+      only = λ page agrees at met.
+          (let before = c.loop-node.invariant.only page agrees at met in (
+            before.0,
+            text_each (IsMet page) c.loop-node.left c.in-Chars.rest c.in-Chars.node.now.text
+                c.in-Chars.node.now.origin c.in-Chars.node.now.line c.in-Chars.ensures.content c.in-Chars.ensures.document
+                before.1,
+          ));
       hrefs = λ given held. text_put c.loop-node.left c.in-Chars.rest c.in-Chars.node.now c.in-Chars.ensures.content
           c.in-Chars.ensures.document _ _ put (c.loop-node.invariant.hrefs given held);
       walked = λ world here agrees ready. sibling_text c.loop-node.left c.in-Chars.rest c.in-Chars.node.now

@@ -11,7 +11,9 @@ use Rattle.readers.specs.Told.{Agrees}
 use Rattle.conref_targets.specs.Asking.{AreAmong, Asks}
 use Rattle.conref_targets.specs.Hrefs.{HaveNamed}
 use Rattle.conref_targets.specs.Origin.{named_content}
+use Rattle.conref_targets.specs.PageAsking.{AreMet, AsksPage, IsAt, PageAt}
 use Rattle.conref_pull.specs.Linked.{AreGivenTo, IsGivenTo, AreLinks, IsLink}
+use Rattle.conref_pull.specs.Met.{LinkMet, LinksMet}
 use Rattle.conref_pull.specs.PutHrefs.{PutNamed}
 use Rattle.conref_pull.specs.State.{IsSamePage, path_within}
 use Rattle.conref_pull.specs.Step.{Taken}
@@ -55,6 +57,10 @@ invariant-siblings-loop-node g l = record {
       (g.A.Reader.told l.fn.asker) (g.A.Reader.told l.asker);
   stand : g.A.Reader.stand l.asker ≡ g.A.Reader.stand l.fn.asker;
   grows : Grows (g.A.Reader.told l.fn.asker) (g.A.Reader.told l.asker);
+  only : (page : PageAt) → Agrees page.world (g.A.Reader.told l.asker)
+      → IsAt page (g.A.Reader.stand l.fn.asker) l.fn.self.context.now.page
+      → AreMet page (named_content l.fn.siblings)
+      → AsksPage page (g.A.Reader.told l.fn.asker) (g.A.Reader.told l.asker) × AreMet page (named_content l.left);
   hrefs : HaveNamed (g.A.Reader.told l.fn.asker) (named_content l.fn.siblings)
       → PutNamed (g.A.Reader.told l.fn.asker) l.fn.self
       → HaveNamed (g.A.Reader.told l.fn.asker) (named_content l.left) × PutNamed (g.A.Reader.told l.asker) l.self;
@@ -75,6 +81,9 @@ invariant-ranges-loop-link g l = record {
       → Asks nodes (l.fn.self.context.now.page.doc ∷ []) (g.A.Reader.told l.fn.asker) (g.A.Reader.told l.asker);
   stand : g.A.Reader.stand l.asker ≡ g.A.Reader.stand l.fn.asker;
   grows : Grows (g.A.Reader.told l.fn.asker) (g.A.Reader.told l.asker);
+  only : (page : PageAt) → Agrees page.world (g.A.Reader.told l.asker)
+      → IsAt page (g.A.Reader.stand l.fn.asker) l.fn.self.context.now.page → LinksMet page l.fn.chain.links.items
+      → AsksPage page (g.A.Reader.told l.fn.asker) (g.A.Reader.told l.asker);
   hrefs : AreGivenTo (g.A.Reader.told l.fn.asker) l.fn.chain.links.items
       → PutNamed (g.A.Reader.told l.fn.asker) l.fn.self → PutNamed (g.A.Reader.told l.asker) l.self;
   walked : (world : World) (here : Here) (path : List Place) (taken : List Taken) → Agrees world (g.A.Reader.told l.asker)
@@ -93,6 +102,9 @@ invariant-range-loop g l = record {
       → Asks nodes (l.fn.self.context.now.page.doc ∷ []) (g.A.Reader.told l.fn.asker) (g.A.Reader.told l.asker);
   stand : g.A.Reader.stand l.asker ≡ g.A.Reader.stand l.fn.asker;
   grows : Grows (g.A.Reader.told l.fn.asker) (g.A.Reader.told l.asker);
+  only : (page : PageAt) → Agrees page.world (g.A.Reader.told l.asker)
+      → IsAt page (g.A.Reader.stand l.fn.asker) l.fn.self.context.now.page → LinkMet page l.fn.link
+      → AsksPage page (g.A.Reader.told l.fn.asker) (g.A.Reader.told l.asker);
   hrefs : IsGivenTo (g.A.Reader.told l.fn.asker) l.fn.link → PutNamed (g.A.Reader.told l.fn.asker) l.fn.self
       → PutNamed (g.A.Reader.told l.asker) l.self;
   walked : (world : World) (here : Here) (one : Taken) → Agrees world (g.A.Reader.told l.asker)

@@ -11,3 +11,6 @@ returns-clause-known g c = λ world agrees are.
     c.args.topic.now (element_of c.args.origin.now c.args.element.now) (sought_shown c.args.sought) c.args.self.now
     c.find_referenced.new.faults c.find_referenced.new.places
     (c.find_referenced.ensures.known world c.args.self.now.rules agrees are)
+
+pub returns-clause-only : goal.returns-clause-only
+returns-clause-only g c = c.find_referenced.ensures.only

@@ -3,6 +3,7 @@ use Rattle.std.specs.Option.{option_copied}
 use Rattle.doc_elements.specs.Walk.{element_of}
 use Rattle.conref_spec.specs.Content as content
 use Rattle.conref_targets.specs.Asking.{IsGivenIn}
+use Rattle.conref_targets.specs.PageAsking.{FindsOnly}
 use Rattle.conref_targets.specs.ResolveInput.{setting_of}
 use Rattle.conref_targets.specs.Sought.{sought_found, sought_shown}
 use Rattle.conref_targets.specs.declared.find.Found.{Found}
@@ -13,6 +14,7 @@ use Rattle.conref_pull.specs.Seeking.{IsSought}
 use Rattle.conref_pull.specs.State.{path_within}
 use Rattle.conref_pull.proofs.LinkAskLaws.{given_link}
 use Rattle.conref_pull.proofs.TakeLaws.{no_reference, some_reference, step_missing, step_on, step_without}
+use Rattle.conref_pull.proofs.MetLaws.{asks_same, takes_link}
 use Rattle.conref_pull.proofs.resolver.Resolver.take.Goals as goal
 
 pub returns-in_err-found-clause-asks : goal.returns-in_err-found-clause-asks
@@ -79,3 +81,23 @@ returns-clause-known g c = λ world at agrees are deep room.
     c.args.self.now c.find.new.self c.find.new.places found) c.in-Some-2.is
     (c.in_ok-found.ensures.known world agrees are)) deep room
     (λ meant. c.accept.ensures.known setting.pushed meant at))
+
+pub returns-in_default-clause-only : goal.returns-in_default-clause-only
+returns-in_default-clause-only g c = λ page agrees at met. record { asks = asks_same page _ _ refl; met = tt }
+
+pub returns-in_default-2-clause-only : goal.returns-in_default-2-clause-only
+returns-in_default-2-clause-only g c = λ page agrees at met.
+    (let element = element_of c.args.origin.now c.args.element.now in
+    let finds = c.in_ok-found.ensures.only page agrees at met (sought_is c.in-Some.sought element
+    (ap sought_found (sym c.in-Some.is) ∙ c.by.ensures c.args.origin.now)) in
+    record { asks = finds.asks; met = tt })
+
+pub returns-clause-only : goal.returns-clause-only
+returns-clause-only g c = λ page agrees at met.
+    (let element = element_of c.args.origin.now c.args.element.now in
+    let old = g.A.Reader.told c.args.asker.now in
+    let new = g.A.Reader.told c.find.new.asker in
+    takes_link page old new c.in-Some-2.found c.accept.result c.accept.ensures.doc
+    (subst (λ (found : Option Found). FindsOnly page old new found) c.in-Some-2.is
+    (c.in_ok-found.ensures.only page agrees at met (sought_is c.in-Some.sought element
+    (ap sought_found (sym c.in-Some.is) ∙ c.by.ensures c.args.origin.now)))))

@@ -1,12 +1,15 @@
 use Rattle.std.proofs.Common.{◌++◌, List, ℕ, OnOk, option_to_list, subst}
+use Rattle.std.proofs.lemmas.Result.{on_ok_weaker}
 use Rattle.readers.specs.Documents.{AsksOnly, nothing}
 use Rattle.readers.specs.Founded.{StaysFounded}
+use Rattle.readers.specs.Only.{TellsOnly, is_document_of}
 use Rattle.readers.proofs.DocumentLaws.{asks_after, asks_among, covers_same}
 use Rattle.readers.proofs.FoundedLaws.{stays_after, stays_among}
 use Rattle.readers.proofs.GrowthLaws.{agrees_before}
 use Rattle.conref_targets.specs.Rules.{HasAll}
 use Rattle.readers.proofs.AmongLaws.{among_back, among_front}
 use Rattle.conref_targets.proofs.RuleLaws.{on_ok_have}
+use Rattle.readers.proofs.OnlyLaws.{documents_among, only_after, only_weaker}
 use Rattle.conref_targets.proofs.rules.RuleLists.read.Goals as goal
 
 pub returns-clause-known : goal.returns-clause-known
@@ -43,3 +46,16 @@ returns-clause-asks g c =
     c.in_ok-read_val.ensures.asks)
     (asks_among nothing nothing filters (val ++ filters) _ _ (covers_same nothing)
     (λ m here. among_back val filters m here) c.read_filters.ensures.asks))
+
+pub returns-clause-only : goal.returns-clause-only
+returns-clause-only g c =
+    let val = option_to_list c.args.context.now.val in
+    let filters = c.as_slice.result.now in
+    subst (λ (names : List (List ℕ)). OnOk c.read_filters.result (TellsOnly (is_document_of (val ++ names))
+    (g.R.Reader.told c.args.reader.now) (g.R.Reader.told c.read_filters.new.reader))) c.as_slice.ensures
+    (on_ok_weaker c.read_filters.result
+    (λ next. only_after _ _ _ _
+    (only_weaker (is_document_of val) (is_document_of (val ++ filters)) _ _ (documents_among val (val ++ filters) (λ m here. among_front val filters m here))
+    c.in_ok-read_val.ensures.only)
+    (only_weaker (is_document_of filters) (is_document_of (val ++ filters)) _ _ (documents_among filters (val ++ filters) (λ m here. among_back val filters m here)) next))
+    c.read_filters.ensures.only)

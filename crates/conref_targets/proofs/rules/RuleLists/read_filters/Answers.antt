@@ -5,6 +5,7 @@ use Rattle.readers.proofs.FoundedLaws.{document_among, stays_after, stays_one}
 use Rattle.readers.proofs.GrowthLaws.{agrees_before, grows_trans}
 use Rattle.conref_targets.specs.Rules.{HasAll}
 use Rattle.conref_targets.proofs.RuleLaws.{keeps_trans, read_next}
+use Rattle.readers.proofs.OnlyLaws.{only_after, only_one}
 use Rattle.conref_targets.proofs.rules.RuleLists.read_filters.Goals as goal
 
 pub loop-filter-preserved : goal.loop-filter-preserved
@@ -25,6 +26,9 @@ loop-filter-preserved g c = record {
       (asks_one _ c.filter-item.result _ _ _
       (document_among c.args.filters.now c.loop-filter.filter-index c.filter-item.result c.loop-filter-test.true
       c.filter-item.is) c.in_ok-read_one.ensures.asks);
+  only = only_after _ _ _ _ c.loop-filter.invariant.only (only_one c.filter-item.result c.args.filters.now _ _
+      (document_among c.args.filters.now c.loop-filter.filter-index c.filter-item.result c.loop-filter-test.true
+      c.filter-item.is) c.in_ok-read_one.ensures.only);
   grows = grows_trans _ _ _ c.loop-filter.invariant.grows c.in_ok-read_one.ensures.grows;
 }
 
@@ -64,3 +68,6 @@ returns-clause-asks g c = c.loop-filter.invariant.asks
 
 pub returns-clause-grows : goal.returns-clause-grows
 returns-clause-grows g c = c.loop-filter.invariant.grows
+
+pub returns-clause-only : goal.returns-clause-only
+returns-clause-only g c = c.loop-filter.invariant.only

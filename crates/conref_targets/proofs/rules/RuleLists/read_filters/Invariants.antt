@@ -1,6 +1,7 @@
 use Rattle.std.proofs.Common.{◌≡◌, take}
 use Rattle.readers.specs.Documents.{AsksOnly, nothing}
 use Rattle.readers.specs.Founded.{Grows, StaysFounded}
+use Rattle.readers.specs.Only.{TellsOnly, is_document_of}
 use Rattle.readers.specs.Told.{Agrees}
 use Rattle.reader_spec.specs.World.{World}
 use Rattle.conref_targets.specs.Rules.{AreRules, HasAll, Keeps}
@@ -14,5 +15,6 @@ invariant-loop-filter g l = record {
   stand : g.R.Reader.stand l.reader ≡ g.R.Reader.stand l.fn.reader;
   founded : StaysFounded l.filters (g.R.Reader.told l.fn.reader) (g.R.Reader.told l.reader);
   asks : AsksOnly nothing l.filters (g.R.Reader.told l.fn.reader) (g.R.Reader.told l.reader);
+  only : TellsOnly (is_document_of l.filters) (g.R.Reader.told l.fn.reader) (g.R.Reader.told l.reader);
   grows : Grows (g.R.Reader.told l.fn.reader) (g.R.Reader.told l.reader);
 }

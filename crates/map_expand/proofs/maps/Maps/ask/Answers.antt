@@ -20,4 +20,5 @@ returns-in-Some-clause-told g c =
     let name = c.args.name.now in
     let nodes = (arc_value c.in-Some.doc).nodes in
     let told = c.in_ok-doc.ensures.told ∙ ap (λ f. document name (tree_found f) ∷ g.R.Reader.told c.args.reader.now) c.in-Some.is in
-    IfOk-weaker c.put_if_map.result _ _ (λ found put. put_is_told name nodes _ _ _ _ found told put) c.put_if_map.ensures.map
+    IfOk-weaker c.put_if_map.result _ _ (λ found put. put_is_told name nodes _ _ _ _ found told put)
+    c.put_if_map.ensures.map

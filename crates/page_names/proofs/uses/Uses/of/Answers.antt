@@ -4,6 +4,7 @@ use Rattle.readers.proofs.DocumentLaws.{asks_after, asks_none}
 use Rattle.readers.proofs.GrowthLaws.{agrees_before, grows_same, grows_trans}
 use Rattle.readers.specs.Setting.{Stand}
 use Rattle.plan_nodes.proofs.GivenLaws.{told_later}
+use Rattle.plan_nodes.proofs.WorldLaws.{values_over}
 use Rattle.page_names.specs.Uses.{AreReady, AreUses}
 use Rattle.page_names.proofs.GivenUseLaws.{given_home, known_founded}
 use Rattle.page_names.proofs.UseLaws.{told_there}
@@ -48,10 +49,19 @@ loop-at-preserved g c = record {
 }
 
 pub returns-clause-known : goal.returns-clause-known
-returns-clause-known g c = λ world agrees ready.
+returns-clause-known g c = λ ready world agrees.
     let all : c.loop-at.at ≡ length c.args.nodes.now = omega arith in
-    subst (λ count. AreUses world c.args.nodes.now count c.loop-at.uses) all
-    (c.loop-at.invariant.uses world agrees ready)
+    let nodes = c.args.nodes.now in
+    let own = (g.K.Reader.stand c.args.asker.now).world in
+    let before = agrees_before world _ _ c.loop-at.invariant.later agrees in
+    let same = sym c.in_ok-homes.ensures.value ∙ c.in_ok-homes.ensures.known world before in
+    subst (λ count. AreUses world nodes count c.loop-at.uses) all
+    (c.loop-at.invariant.uses world agrees (record {
+      keys = ready.keys;
+      before = ready.before;
+      values = values_over own world nodes same ready.values;
+      scopes = ready.scopes;
+    }))
 
 pub returns-in_err-add_node-clause-founded : goal.returns-in_err-add_node-clause-founded
 returns-in_err-add_node-clause-founded g c = λ same.

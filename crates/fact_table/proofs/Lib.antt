@@ -1,0 +1,12 @@
+pub mod KeyLaws
+pub mod NewLaws
+pub mod ListLaws
+pub mod WalkLaws
+pub mod MemoLaws
+pub mod ClaimLaws
+pub mod FindLaws
+pub mod ShelfLaws
+pub mod TableLaws
+pub mod DrawLaws
+pub mod PublishLaws
+pub mod AnswerLaws

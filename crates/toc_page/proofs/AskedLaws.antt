@@ -1,0 +1,170 @@
+-- The questions of the contents page, told by its parts.
+use Rattle.std.specs.Prelude.{◌≡◌, ◌+◌, ℕ, zero, suc, Bool, List, [], ◌∷◌, Option, Some, None, IsTrue, IfOk, OnOk, Result, bytes_eq, slice_get, unwrap_or}
+use Rattle.std.specs.List.{filter_map, list_any}
+use Rattle.std.specs.Option.{option_to_list}
+use Rattle.std.proofs.Common.{arith, refl, sym, ap, subst, ◌∙◌}
+use Rattle.std.proofs.lemmas.Bool.{and_from, and_parts, eq-eqb, false≢true, or_left, or_right}
+use Rattle.std.proofs.lemmas.Result.{on_ok_weaker}
+use Rattle.std.proofs.lemmas.Slice.Eq.{bytes_eq-Decides}
+use Rattle.dita_doc.specs.declared.content.PushList.{PushList}
+use Rattle.dita_doc.specs.declared.plan.Affix.{Affix}
+use Rattle.dita_doc.specs.declared.plan.PageId.{PageId}
+use Rattle.dita_doc.specs.declared.plan.PagePlan.{PagePlan}
+use Rattle.dita_doc.specs.declared.plan.Plan.{Plan}
+use Rattle.dita_doc.specs.declared.plan.PlanNode.{PlanNode}
+use Rattle.dita_doc.specs.declared.plan.Reference.{Reference}
+use Rattle.dita_doc.specs.declared.plan.Target.{Target}
+use Rattle.dita_doc.specs.declared.plan.Target.TheVariants as targets
+use Rattle.link_spec.specs.Links.{context_of, plan_target}
+use Rattle.map_spec.specs.Pages.{are_same_affixes, are_same_texts, is_same_page, local_name}
+use Rattle.map_spec.specs.Scopes.{places_from}
+use Rattle.readers.specs.Founded.{homes, is_among}
+use Rattle.readers.specs.Only.{TellsOnly, is_document_of, is_page_in, is_pushes_of}
+use Rattle.readers.specs.Told.{Told, document, kind, title, first, key, pushes, page_of, pending, pending_document}
+use Rattle.readers.proofs.AmongLaws.{among_targets}
+use Rattle.readers.proofs.FoundedLaws.{among_first, among_one}
+use Rattle.readers.proofs.OnlyLaws.{all_weaker, only_after, only_answered, only_told, only_weaker}
+use Rattle.toc_page.specs.Made.{is_of_contents, is_page_at, is_page_by, is_page_of_nodes, is_title_among, is_title_of_targets}
+
+-- Some documents among others
+
+abbrev AreAmong : (some names : List (List ℕ)) → Type 0
+AreAmong some names = (m : List ℕ) → IsTrue (is_among some m) → IsTrue (is_among names m)
+
+titles_among : (some names : List (List ℕ)) → AreAmong some names → (t : Told) → IsTrue (is_title_among some t)
+    → IsTrue (is_title_among names t)
+titles_among some names among (document name tree) here = absurd (false≢true here)
+titles_among some names among (kind name answer) here = absurd (false≢true here)
+titles_among some names among (title name topic text) here = let parts = and_parts (is_among some name) _ here in
+    and_from (is_among names name) _ (among name parts.0) parts.1
+titles_among some names among (first name id) here = absurd (false≢true here)
+titles_among some names among (key nodes scope text answer) here = absurd (false≢true here)
+titles_among some names among (pushes documents name answer) here = absurd (false≢true here)
+titles_among some names among (page_of pages name context answer) here = absurd (false≢true here)
+titles_among some names among (pending about) here = all_weaker (is_among some) (is_among names) among about here
+titles_among some names among (pending_document name) here = absurd (false≢true here)
+
+-- the document of a target is among those to which nodes lead
+name_there : (plan : Plan) (at : ℕ) (target : Target) (name : Option (List ℕ))
+    → Some target ≡ slice_get plan.targets at → local_name target ≡ name
+    → AreAmong (option_to_list name) (filter_map local_name plan.targets)
+name_there plan at target None there is m here = absurd (false≢true here)
+name_there plan at target (Some name) there is m here =
+    subst (λ n. IsTrue (is_among (filter_map local_name plan.targets) n)) (among_one name m here)
+    (among_targets plan.targets at name
+    (ap (λ found. local_name (unwrap_or found targets.Nothing)) (sym there) ∙ is))
+
+module _ {A E : Type 0} (r : Result A E) (plan : Plan) (at : ℕ) (target : Target) (old new : List Told)
+    (there : Some target ≡ slice_get plan.targets at) where
+  pub titles_there : OnOk r (TellsOnly (is_title_among (option_to_list (local_name target))) old new)
+      → OnOk r (TellsOnly (is_title_of_targets plan) old new)
+  titles_there = on_ok_weaker r (only_weaker _ _ old new
+      (titles_among _ _ (name_there plan at target (local_name target) there refl)))
+
+-- One question
+
+-- a page is the same page as itself
+
+bytes_same : (bytes : List ℕ) → IsTrue (bytes_eq bytes bytes)
+bytes_same bytes = (bytes_eq-Decides bytes bytes).1 refl
+
+texts_same : (texts : List (List ℕ)) → IsTrue (are_same_texts texts texts)
+texts_same [] = refl
+texts_same (text ∷ texts) = and_from _ _ (bytes_same text) (texts_same texts)
+
+affixes_same : (affixes : List Affix) → IsTrue (are_same_affixes affixes affixes)
+affixes_same [] = refl
+affixes_same (affix ∷ affixes) =
+    and_from _ _ (and_from _ _ (bytes_same affix.prefix) (bytes_same affix.suffix)) (affixes_same affixes)
+
+page_same : (id : PageId) → IsTrue (is_same_page id id)
+page_same id = and_from _ _ (bytes_same id.doc)
+    (and_from _ _ (and_from _ _ (eq-eqb id.scope id.scope refl) (texts_same id.filters)) (affixes_same id.affixes))
+
+pub page_asked : (pages : List PagePlan) (name : List ℕ) (own context : PageId) (place : Option ℕ) (old new : List Told)
+    → context ≡ own → new ≡ page_of pages name context place ∷ old → TellsOnly (is_page_in name own) old new
+page_asked pages name own context place old new same =
+    only_told (is_page_in name own) (page_of pages name context place) old new
+    (and_from (bytes_eq name name) _ (bytes_same name)
+    (subst (λ id. IsTrue (is_same_page own id)) (sym same) (page_same own)))
+
+pub page_local : {A E : Type 0} (r : Result A E) (node : PlanNode) (target : Target) (name : List ℕ)
+    (reference : Reference) (old new : List Told) → target ≡ targets.Local name reference
+    → OnOk r (TellsOnly (is_page_in name (context_of node name)) old new)
+    → OnOk r (TellsOnly (is_page_by (Some node) (local_name target)) old new)
+page_local r node target name reference old new is =
+    subst (λ t. OnOk r (TellsOnly (is_page_by (Some node) (local_name t)) old new)) (sym is)
+
+-- a test of a place that holds at one of them
+any_at : (test : ℕ → Bool) (nodes : List PlanNode) (from at place : ℕ) (node : PlanNode)
+    → slice_get nodes at ≡ Some node → from + at ≡ place → IsTrue (test place)
+    → IsTrue (list_any test (places_from from nodes))
+any_at test [] from zero place node there sum here = cc
+any_at test [] from (suc at) place node there sum here = cc
+any_at test (head ∷ nodes) from zero place node there sum here =
+    let same : place ≡ from = omega (arith, sum) in
+    or_left (test from) _ (subst (λ n. IsTrue (test n)) same here)
+any_at test (head ∷ nodes) from (suc at) place node there sum here =
+    let next : (from + 1) + at ≡ place = omega (arith, sum) in
+    or_right (test from) _ (any_at test nodes (from + 1) at place node there next here)
+
+pub page_there : {A E : Type 0} (r : Result A E) (plan : Plan) (at : ℕ) (node : PlanNode) (target : Target)
+    (old new : List Told) → slice_get plan.nodes at ≡ Some node → Some target ≡ slice_get plan.targets at
+    → OnOk r (TellsOnly (is_page_by (Some node) (local_name target)) old new)
+    → OnOk r (TellsOnly (is_page_of_nodes plan) old new)
+page_there r plan at node target old new there leads = on_ok_weaker r (only_weaker _ (is_page_of_nodes plan) old new
+    (λ t here. any_at (is_page_at plan t) plan.nodes 0 at at node there (omega arith) (at_place t here)))
+  where
+    at_place : (t : Told) → IsTrue (is_page_by (Some node) (local_name target) t) → IsTrue (is_page_at plan t at)
+    at_place t here = subst (λ found. IsTrue (is_page_by found (local_name (plan_target plan at)) t)) (sym there)
+        (subst (λ found. IsTrue (is_page_by (Some node) (local_name (unwrap_or found targets.Nothing)) t)) leads here)
+
+-- the title of the first topic is asked for by the empty text
+pub title_empty : {E : Type 0} (r : Result (List ℕ) E) (name topic : List ℕ) (old new : List Told) → topic ≡ []
+    → IfOk r (λ text. new ≡ title name topic text ∷ old) → IfOk r (λ text. new ≡ title name [] text ∷ old)
+title_empty r name topic old new none =
+    subst (λ (t : List ℕ). IfOk r (λ text. new ≡ title name t text ∷ old)) none
+
+title_is_among : (name text : List ℕ) → IsTrue (is_title_among (name ∷ []) (title name [] text))
+title_is_among name text = and_from (is_among (name ∷ []) name) _ (among_first name []) (bytes_same [])
+
+pub title_local : {E : Type 0} (r : Result (List ℕ) E) (target : Target) (name : List ℕ) (reference : Reference)
+    (old new : List Told) → target ≡ targets.Local name reference
+    → IfOk r (λ text. new ≡ title name [] text ∷ old)
+    → OnOk r (TellsOnly (is_title_among (option_to_list (local_name target))) old new)
+title_local r target name reference old new is told =
+    subst (λ t. OnOk r (TellsOnly (is_title_among (option_to_list (local_name t))) old new)) (sym is)
+    (only_answered r (is_title_among (name ∷ [])) (title name []) old new (title_is_among name) told)
+
+-- The parts of the page
+
+module _ (plan : Plan) (old new : List Told) where
+  pub documents_asked : TellsOnly (is_document_of (homes plan.nodes)) old new → TellsOnly (is_of_contents plan) old new
+  documents_asked = only_weaker _ _ old new (λ t here. or_left (is_document_of (homes plan.nodes) t) _ here)
+
+  pub titles_asked : TellsOnly (is_title_of_targets plan) old new → TellsOnly (is_of_contents plan) old new
+  titles_asked = only_weaker _ _ old new (λ t here. or_right (is_document_of (homes plan.nodes) t) _
+      (or_left (is_title_of_targets plan t) _ here))
+
+  pub pages_asked : TellsOnly (is_page_of_nodes plan) old new → TellsOnly (is_of_contents plan) old new
+  pages_asked = only_weaker _ _ old new (λ t here. or_right (is_document_of (homes plan.nodes) t) _
+      (or_right (is_title_of_targets plan t) _ (or_left (is_page_of_nodes plan t) _ here)))
+
+  pub pushes_asked : (documents : List (List ℕ)) → documents ≡ plan.documents
+      → TellsOnly (is_pushes_of documents) old new → TellsOnly (is_of_contents plan) old new
+  pushes_asked documents same only = only_weaker (is_pushes_of plan.documents) _ old new
+      (λ t here. or_right (is_document_of (homes plan.nodes) t) _
+      (or_right (is_title_of_targets plan t) _ (or_right (is_page_of_nodes plan t) _ here)))
+      (subst (λ names. TellsOnly (is_pushes_of names) old new) same only)
+
+  pub nodes_asked : (nodes : List PlanNode) → nodes ≡ plan.nodes → TellsOnly (is_document_of (homes nodes)) old new
+      → TellsOnly (is_of_contents plan) old new
+  nodes_asked nodes same only =
+      documents_asked (subst (λ (all : List PlanNode). TellsOnly (is_document_of (homes all)) old new) same only)
+
+-- the pushes into one document more
+pub push_asked : (names documents : List (List ℕ)) (name : List ℕ) (answer : PushList) (start old new : List Told)
+    → IsTrue (is_among names name) → TellsOnly (is_pushes_of names) start old → new ≡ pushes documents name answer ∷ old
+    → TellsOnly (is_pushes_of names) start new
+push_asked names documents name answer start old new among before told =
+    only_after _ start old new before (only_told _ (pushes documents name answer) old new among told)

@@ -1,0 +1,149 @@
+use Rattle.std.proofs.Common.{[], ◌∙◌, ap, map, subst, sym}
+use Rattle.dita_doc.specs.declared.content.LinkKind.TheVariants as links
+use Rattle.link_groups.proofs.NodeLaws.{homes_stay}
+use Rattle.map_spec.specs.Cascade.{whole_at}
+use Rattle.link_spec.specs.Links.{links_of_kind}
+use Rattle.readers.proofs.FoundedLaws.{stays_after}
+use Rattle.readers.proofs.GrowthLaws.{agrees_before}
+use Rattle.readers.specs.Setting.{Stand}
+use Rattle.reltable_links.specs.RowTable.{CanLink}
+use Rattle.std.specs.Prelude.{◌≡◌, List}
+use Rattle.dita_doc.specs.declared.plan.PagePlan.{PagePlan}
+use Rattle.dita_doc.specs.declared.plan.Plan.{Plan}
+use Rattle.dita_doc.specs.declared.plan.PlanNode.{PlanNode}
+use Rattle.plan_nodes.proofs.WorldLaws.{values_over}
+use Rattle.reader_spec.specs.World.{World}
+use Rattle.readers.specs.Documents.{nothing}
+use Rattle.readers.specs.Founded.{homes}
+use Rattle.readers.proofs.DocumentLaws.{asks_after, asks_none, homes_asked}
+use Rattle.readers.proofs.GrowthLaws.{grows_trans}
+use Rattle.whole_calls.proofs.page_links.rows_linked.Goals as goal
+
+-- a plan that can link in one world can in each in which its nodes have the same elements
+can_over : (a b : World) (plan : Plan) (known : List PagePlan)
+    → map (whole_at a) plan.nodes ≡ map (whole_at b) plan.nodes → CanLink a plan known → CanLink b plan known
+can_over a b plan known same can =
+    record { tree = can.tree; values = values_over a b plan.nodes same can.values; pages = can.pages }
+
+pub returns-in_err-homes-clause-founded : goal.returns-in_err-homes-clause-founded
+returns-in_err-homes-clause-founded g c =
+    homes_stay c.args.plan.now c.as_slice.result.now _ _ c.as_slice.ensures c.of.ensures.founded
+
+pub returns-in_err-rows-clause-founded : goal.returns-in_err-rows-clause-founded
+returns-in_err-rows-clause-founded g c =
+    stays_after _ _ _ _ c.of.ensures.grows
+    (homes_stay c.args.plan.now c.as_slice.result.now _ _ c.as_slice.ensures c.of.ensures.founded)
+    c.of-2.ensures.founded
+
+pub returns-in_err-append-clause-founded : goal.returns-in_err-append-clause-founded
+returns-in_err-append-clause-founded g c =
+    stays_after _ _ _ _ c.of.ensures.grows
+    (homes_stay c.args.plan.now c.as_slice.result.now _ _ c.as_slice.ensures c.of.ensures.founded)
+    c.of-2.ensures.founded
+
+pub returns-in_err-written-clause-founded : goal.returns-in_err-written-clause-founded
+returns-in_err-written-clause-founded g c =
+    stays_after _ _ _ _ c.of.ensures.grows
+    (homes_stay c.args.plan.now c.as_slice.result.now _ _ c.as_slice.ensures c.of.ensures.founded)
+    (stays_after _ _ _ _ c.of-2.ensures.grows c.of-2.ensures.founded c.written.ensures.founded)
+
+pub returns-in_err-faults_by_row-clause-founded : goal.returns-in_err-faults_by_row-clause-founded
+returns-in_err-faults_by_row-clause-founded g c =
+    stays_after _ _ _ _ c.of.ensures.grows
+    (homes_stay c.args.plan.now c.as_slice.result.now _ _ c.as_slice.ensures c.of.ensures.founded)
+    (stays_after _ _ _ _ c.of-2.ensures.grows c.of-2.ensures.founded c.written.ensures.founded)
+
+pub returns-clause-founded : goal.returns-clause-founded
+returns-clause-founded g c =
+    stays_after _ _ _ _ c.of.ensures.grows
+    (homes_stay c.args.plan.now c.as_slice.result.now _ _ c.as_slice.ensures c.of.ensures.founded)
+    (stays_after _ _ _ _ c.of-2.ensures.grows c.of-2.ensures.founded c.written.ensures.founded)
+
+pub returns-clause-known : goal.returns-clause-known
+returns-clause-known g c = λ there world agrees.
+    let plan = c.args.plan.now in
+    let own = (g.A.Reader.stand c.args.asker.now).world in
+    let found = agrees_before world _ _ c.written.ensures.grows agrees in
+    let homes = c.in_ok-homes.ensures.known world (agrees_before world _ _ c.of-2.ensures.grows found)
+    ∙ ap (map (whole_at world)) c.as_slice.ensures in
+    let same = sym (c.in_ok-homes.ensures.value ∙ ap (map (whole_at own)) c.as_slice.ensures) ∙ homes in
+    let can = can_over own world plan (g.A.Reader.stand c.args.asker.now).setting.pages same there in
+    let made = c.in_ok-rows.ensures.known world found
+    (subst (λ (stand : Stand). CanLink world plan stand.setting.pages) (sym c.of.ensures.stand) can) homes
+    (c.new-link_nodes.ensures world plan) in
+    let holds = c.in_ok-append.ensures world plan [] made.are c.new-links.ensures in
+    record {
+      links = c.in_ok-written.ensures.known world c.args.page
+          (links_of_kind world plan c.args.page links.Related) agrees holds;
+      faults = c.in_ok-faults_by_row.ensures world made.are;
+    }
+
+pub returns-in_err-homes-clause-stand : goal.returns-in_err-homes-clause-stand
+returns-in_err-homes-clause-stand g c = c.of.ensures.stand
+
+pub returns-in_err-homes-clause-asks : goal.returns-in_err-homes-clause-asks
+returns-in_err-homes-clause-asks g c = homes_asked _ _ _ _ c.as_slice.ensures c.of.ensures.asks
+
+pub returns-in_err-homes-clause-grows : goal.returns-in_err-homes-clause-grows
+returns-in_err-homes-clause-grows g c = c.of.ensures.grows
+
+pub returns-in_err-rows-clause-stand : goal.returns-in_err-rows-clause-stand
+returns-in_err-rows-clause-stand g c = c.of-2.ensures.stand ∙ c.of.ensures.stand
+
+pub returns-in_err-rows-clause-asks : goal.returns-in_err-rows-clause-asks
+returns-in_err-rows-clause-asks g c =
+    asks_after nothing _ _ _ _ c.of.ensures.grows (homes_asked _ _ _ _ c.as_slice.ensures c.of.ensures.asks)
+    (asks_none nothing _ _ _ c.of-2.ensures.asks)
+
+pub returns-in_err-rows-clause-grows : goal.returns-in_err-rows-clause-grows
+returns-in_err-rows-clause-grows g c = grows_trans _ _ _ c.of.ensures.grows c.of-2.ensures.grows
+
+pub returns-in_err-append-clause-stand : goal.returns-in_err-append-clause-stand
+returns-in_err-append-clause-stand g c = c.of-2.ensures.stand ∙ c.of.ensures.stand
+
+pub returns-in_err-append-clause-asks : goal.returns-in_err-append-clause-asks
+returns-in_err-append-clause-asks g c =
+    asks_after nothing _ _ _ _ c.of.ensures.grows (homes_asked _ _ _ _ c.as_slice.ensures c.of.ensures.asks)
+    (asks_none nothing _ _ _ c.of-2.ensures.asks)
+
+pub returns-in_err-append-clause-grows : goal.returns-in_err-append-clause-grows
+returns-in_err-append-clause-grows g c = grows_trans _ _ _ c.of.ensures.grows c.of-2.ensures.grows
+
+pub returns-in_err-written-clause-stand : goal.returns-in_err-written-clause-stand
+returns-in_err-written-clause-stand g c = c.written.ensures.stand ∙ c.of-2.ensures.stand ∙ c.of.ensures.stand
+
+pub returns-in_err-written-clause-asks : goal.returns-in_err-written-clause-asks
+returns-in_err-written-clause-asks g c =
+    asks_after nothing _ _ _ _ c.of.ensures.grows (homes_asked _ _ _ _ c.as_slice.ensures c.of.ensures.asks)
+    (asks_after nothing _ _ _ _ c.of-2.ensures.grows (asks_none nothing _ _ _ c.of-2.ensures.asks)
+    (asks_none nothing _ _ _ c.written.ensures.asks))
+
+pub returns-in_err-written-clause-grows : goal.returns-in_err-written-clause-grows
+returns-in_err-written-clause-grows g c =
+    grows_trans _ _ _ c.of.ensures.grows (grows_trans _ _ _ c.of-2.ensures.grows c.written.ensures.grows)
+
+pub returns-in_err-faults_by_row-clause-stand : goal.returns-in_err-faults_by_row-clause-stand
+returns-in_err-faults_by_row-clause-stand g c = c.written.ensures.stand ∙ c.of-2.ensures.stand ∙ c.of.ensures.stand
+
+pub returns-in_err-faults_by_row-clause-asks : goal.returns-in_err-faults_by_row-clause-asks
+returns-in_err-faults_by_row-clause-asks g c =
+    asks_after nothing _ _ _ _ c.of.ensures.grows (homes_asked _ _ _ _ c.as_slice.ensures c.of.ensures.asks)
+    (asks_after nothing _ _ _ _ c.of-2.ensures.grows (asks_none nothing _ _ _ c.of-2.ensures.asks)
+    (asks_none nothing _ _ _ c.written.ensures.asks))
+
+pub returns-in_err-faults_by_row-clause-grows : goal.returns-in_err-faults_by_row-clause-grows
+returns-in_err-faults_by_row-clause-grows g c =
+    grows_trans _ _ _ c.of.ensures.grows (grows_trans _ _ _ c.of-2.ensures.grows c.written.ensures.grows)
+
+pub returns-clause-stand : goal.returns-clause-stand
+returns-clause-stand g c = c.written.ensures.stand ∙ c.of-2.ensures.stand ∙ c.of.ensures.stand
+
+pub returns-clause-asks : goal.returns-clause-asks
+returns-clause-asks g c =
+    asks_after nothing _ _ _ _ c.of.ensures.grows (homes_asked _ _ _ _ c.as_slice.ensures c.of.ensures.asks)
+    (asks_after nothing _ _ _ _ c.of-2.ensures.grows (asks_none nothing _ _ _ c.of-2.ensures.asks)
+    (asks_none nothing _ _ _ c.written.ensures.asks))
+
+pub returns-clause-grows : goal.returns-clause-grows
+returns-clause-grows g c =
+    grows_trans _ _ _ c.of.ensures.grows (grows_trans _ _ _ c.of-2.ensures.grows c.written.ensures.grows)

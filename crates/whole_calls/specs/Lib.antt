@@ -1,0 +1,2 @@
+pub mod PageLinks
+pub mod Single
