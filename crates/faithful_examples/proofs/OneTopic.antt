@@ -83,11 +83,11 @@ its_parts = refl
 
 -- The transcript of the build
 
-abbrev pub row : ℕ → PartShown → List (List ℕ) → RowShown
-row serial part text = record { serial = serial; part = part; map = in_m; val = None; lines = text }
+abbrev pub shown_row : ℕ → PartShown → List (List ℕ) → RowShown
+shown_row serial part text = record { serial = serial; part = part; map = in_m; val = None; lines = text }
 
 abbrev pub rows : List RowShown
-rows = row 2 (IsPage 0) topic ∷ row 3 IsContents contents_page ∷ []
+rows = shown_row 2 (IsPage 0) topic ∷ shown_row 3 IsContents contents_page ∷ []
 
 abbrev pub shown : List PageShown
 shown = record { name = codes "t.html"; mark = InRow 2 } ∷ record { name = codes "index.html"; mark = InRow 3 } ∷ []
