@@ -8,10 +8,13 @@ use Rattle.dita_doc.specs.declared.fault.FaultCode.TheVariants as codes_of_fault
 use Rattle.map_spec.specs.Branches as branches
 use Rattle.map_spec.specs.Branches.{ditaval_in, filter_named, filter_of, filter_read, no_filter}
 use Rattle.map_spec.specs.Elements.{attribute, fault_at}
-use Rattle.map_spec.specs.Target.{Named, named_of}
+use Rattle.map_spec.specs.Target.{Document, Named, named_of}
 use Rattle.map_spec.specs.Written.{Element}
 use Rattle.ditaval_rules.specs.declared.rules.RulesRead.{RulesRead}
 use Rattle.reader_spec.specs.World.{World}
+use Rattle.readers.specs.Documents.{AsksOnly, nothing}
+use Rattle.readers.specs.Founded.{StaysFounded}
+use Rattle.readers.specs.Told.{Told}
 use Rattle.branch_copies.specs.BranchRead.{IsFilterOf, documents_named, targets_of}
 use Rattle.plan_nodes.specs.HomeDocs.{Known}
 use Rattle.branch_copies.specs.Ditavals.{AreKnown, IsDitavalOf, IsKnown, Longer, faults_at}
@@ -88,3 +91,15 @@ pub targets_so : (element : Element) (href : List ℕ) (named : Named)
     → Some href ≡ attribute (codes "href") element → named ≡ named_of element href
     → targets_of element ≡ documents_named named
 targets_so element href named written is = rw (← written, is) refl
+
+-- a call about the document that the href names is one about the documents of the element
+module _ (element : Element) (href val : List ℕ) (old new : List Told) where
+  pub stays_named : Some href ≡ attribute (codes "href") element → Document val ≡ named_of element href
+      → StaysFounded (val ∷ []) old new → StaysFounded (targets_of element) old new
+  stays_named written is =
+      subst (λ names. StaysFounded names old new) (sym (targets_so element href (Document val) written is))
+
+  pub asks_named : Some href ≡ attribute (codes "href") element → Document val ≡ named_of element href
+      → AsksOnly nothing (val ∷ []) old new → AsksOnly nothing (targets_of element) old new
+  asks_named written is =
+      subst (λ names. AsksOnly nothing names old new) (sym (targets_so element href (Document val) written is))

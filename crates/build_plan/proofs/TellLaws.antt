@@ -1,13 +1,15 @@
 -- What stays founded over the steps of a plan, and which documents they ask for.
-use Rattle.std.specs.Prelude.{ℕ, List, [], ◌∷◌, Option, IsTrue, bytes_eq}
-use Rattle.std.specs.Option.{option_to_list}
+use Rattle.std.specs.Prelude.{◌≡◌, ℕ, List, [], ◌∷◌, Option, Some, IsTrue, bytes_eq}
+use Rattle.std.specs.Borrow.{Bor}
+use Rattle.std.specs.Option.{option_copied, option_to_list}
+use Rattle.std.proofs.Common.{subst, sym}
 use Rattle.std.proofs.Math.Logic.{⊎_elim}
 use Rattle.std.proofs.lemmas.Bool.{false≢true, or_cases, or_left, or_right}
 use Rattle.readers.specs.Documents.{AsksOnly, Covers, Follows, nothing}
 use Rattle.readers.specs.Founded.{AreAllowed, IsFounded, StaysFounded, is_among}
 use Rattle.readers.specs.Told.{Told}
 use Rattle.readers.proofs.DocumentLaws.{asks_among, covers_nothing, covers_same}
-use Rattle.readers.proofs.FoundedLaws.{stays_among}
+use Rattle.readers.proofs.FoundedLaws.{stays_among, stays_by, stays_grows, stays_when}
 use Rattle.branch_copies.specs.Ditavalrefs.{ditaval_targets}
 use Rattle.map_expand.specs.AskedFor.{AreAsked}
 use Rattle.map_expand.specs.Telling.{map_targets}
@@ -38,7 +40,8 @@ pub stays_given : (names some : List (List ℕ)) (old new : List Told)
     → ((roots : List (List ℕ)) → IsFounded roots old → AreAllowed roots old some) → StaysFounded some old new
     → StaysFounded names old new
 stays_given names some old new given stays =
-    record { by = λ roots allowed founded. stays.by roots (given roots founded) founded }
+    stays_when names old new (stays_grows some old new stays)
+    (λ roots allowed founded. stays_by some old new stays roots (given roots founded) founded)
 
 -- What follows for a plan: maps, and DITAVALs
 
@@ -78,3 +81,14 @@ pub asks_val : (map : List ℕ) (val : Option (List ℕ)) (old new : List Told)
     → AsksOnly nothing (option_to_list val) old new → AsksOnly plan_targets (build_names map val) old new
 asks_val map val old new = asks_among plan_targets nothing (option_to_list val) (build_names map val) old new
     (covers_nothing plan_targets) (val_among map val)
+
+-- a call about the DITAVAL that is named
+pub stays_named : (val : Option (Bor (List ℕ))) (name : Bor (List ℕ)) (old new : List Told) → val ≡ Some name
+    → StaysFounded (name.now ∷ []) old new → StaysFounded (option_to_list (option_copied val)) old new
+stays_named val name old new is =
+    subst (λ (v : Option (Bor (List ℕ))). StaysFounded (option_to_list (option_copied v)) old new) (sym is)
+
+pub asks_named : (val : Option (Bor (List ℕ))) (name : Bor (List ℕ)) (old new : List Told) → val ≡ Some name
+    → AsksOnly nothing (name.now ∷ []) old new → AsksOnly nothing (option_to_list (option_copied val)) old new
+asks_named val name old new is =
+    subst (λ (v : Option (Bor (List ℕ))). AsksOnly nothing (option_to_list (option_copied v)) old new) (sym is)

@@ -122,6 +122,15 @@ asks_docs name pushes a b c grows first next = asks_after nothing (docs_of name 
     (asks_among nothing nothing (froms pushes) (docs_of name pushes) b c (covers_same nothing)
     (among_behind name (froms pushes)) next)
 
+-- those of pushes that are the same
+pub same_stays : (name : List ℕ) (some pushes : List Push) (old new : List Told) → some ≡ pushes
+    → StaysFounded (docs_of name some) old new → StaysFounded (docs_of name pushes) old new
+same_stays name some pushes old new same = subst (λ all. StaysFounded (docs_of name all) old new) same
+
+pub same_asks : (name : List ℕ) (some pushes : List Push) (old new : List Told) → some ≡ pushes
+    → AsksOnly nothing (docs_of name some) old new → AsksOnly nothing (docs_of name pushes) old new
+same_asks name some pushes old new same = subst (λ all. AsksOnly nothing (docs_of name all) old new) same
+
 pub only_docs : (name : List ℕ) (pushes : List Push) (a b c : List Told) → TellsOnly (is_document_of (name ∷ [])) a b
     → TellsOnly (is_document_of (froms pushes)) b c → TellsOnly (is_document_of (docs_of name pushes)) a c
 only_docs name pushes a b c first next = only_after (is_document_of (docs_of name pushes)) a b c

@@ -13,8 +13,8 @@ use Rattle.readers.specs.Founded.{Grows, StaysFounded, homes, is_allowed, is_amo
 use Rattle.readers.specs.Named.{named_tree, reused_by, reused_in}
 use Rattle.readers.specs.Told.{Told, document, kind, title, first, key, pushes, page_of, pending, pending_document}
 use Rattle.readers.proofs.AmongLaws.{among_back, among_either, among_front}
-use Rattle.readers.proofs.DocumentLaws.{asks_after, asks_among, asks_none, asks_same, covers_nothing, covers_same, follows_may}
-use Rattle.readers.proofs.FoundedLaws.{given_allowed, stays_after, stays_among, stays_same}
+use Rattle.readers.proofs.DocumentLaws.{asks_after, asks_among, asks_by, asks_grows, asks_none, asks_same, asks_when, covers_nothing, covers_same, follows_may}
+use Rattle.readers.proofs.FoundedLaws.{given_allowed, stays_after, stays_among, stays_by, stays_grows, stays_same, stays_when}
 use Rattle.readers.proofs.GivenLaws.{reused_allowed, reused_may}
 use Rattle.readers.proofs.GrowthLaws.{growing}
 use Rattle.conref_targets.specs.Asking.{AreAmong, AreGiven, Asks, of_content, reused_of_doc, reused_of_whole}
@@ -151,23 +151,19 @@ module _ (nodes : List PlanNode) where
   pub about_given : (names more : List (List ℕ)) (old new : List Told) → AreGiven old more
       → Asks nodes (names ++ more) old new → Asks nodes names old new
   about_given names more old new given call = record {
-    founded = record {
-      by = λ roots allowed founded. call.founded.by roots
-          (record {
-            each = λ m here. among_either (homes nodes) (names ++ more) m (IsTrue (is_allowed roots old m))
-                (λ h. allowed.each m (among_front (homes nodes) names m h))
-                (λ h. among_either names more m (IsTrue (is_allowed roots old m))
-                (λ one. allowed.each m (among_back (homes nodes) names m one))
-                (λ one. (given.allowed roots).each m one) h) here;
-          }) founded;
-    };
-    asks = record {
-      by = λ rule roots covers may asked. call.asks.by rule roots covers
-          (record {
-            each = λ m here. among_either names more m (IsTrue (may_ask rule roots old m)) (λ h. may.each m h)
-                (λ h. (given.may rule roots covers).each m h) here;
-          }) asked;
-    };
+    founded = stays_when _ old new (stays_grows _ old new call.founded) (λ roots allowed founded.
+        stays_by _ old new call.founded roots (record {
+          each = λ m here. among_either (homes nodes) (names ++ more) m (IsTrue (is_allowed roots old m))
+              (λ h. allowed.each m (among_front (homes nodes) names m h))
+              (λ h. among_either names more m (IsTrue (is_allowed roots old m))
+              (λ one. allowed.each m (among_back (homes nodes) names m one))
+              (λ one. (given.allowed roots).each m one) h) here;
+        }) founded);
+    asks = asks_when of_content _ old new (asks_grows of_content _ old new call.asks) (λ rule roots covers may asked.
+        asks_by of_content _ old new call.asks rule roots covers (record {
+          each = λ m here. among_either names more m (IsTrue (may_ask rule roots old m)) (λ h. may.each m h)
+              (λ h. (given.may rule roots covers).each m h) here;
+        }) asked);
   }
 
   -- a question for the document that stands with pushes under one of these names

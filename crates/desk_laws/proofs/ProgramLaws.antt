@@ -3,40 +3,43 @@ use Rattle.std.specs.Prelude.{◌≡◌, Option, Some, None}
 use Rattle.std.proofs.Common.{refl}
 use Rattle.command_line.specs.declared.modes.Mode.{Mode}
 use Rattle.command_line.specs.declared.modes.Mode.TheVariants as modes
+use Rattle.dita_doc.specs.Bytes.{Bytes}
+use Rattle.dita_outside.specs.Pages.{Pages}
 use Rattle.run_spec.specs.declared.status.Status.{Status}
 use Rattle.run_spec.specs.declared.status.Status.TheVariants as statuses
 use Rattle.desk_top.specs.Ends.{EndsMode, EndsProgram}
-use Rattle.desk_top.specs.Outside.{Outside}
+use Rattle.desk_top.specs.Outside.{Change}
 use Rattle.desk_laws.specs.SureRun.{IsSureProgram, NoneFailed, ReadsScript}
 
-module _ (beside untouched : Type 0) (old new : Outside) (none : NoneFailed old new) where
-  reads_script : (mode : Mode) → EndsMode mode beside old new statuses.Script → ReadsScript mode
+module _ (beside untouched : Type 0) (source sink : Change Bytes) (outlet : Change Pages)
+    (none : NoneFailed source sink outlet) where
+  reads_script : (mode : Mode) → EndsMode mode beside source sink outlet statuses.Script → ReadsScript mode
   reads_script modes.Clean ends = tt
   reads_script modes.Terms ends = tt
   reads_script (modes.Gen asked) ends = absurd ends.0
 
-  no_read_fault : (mode : Mode) → EndsMode mode beside old new statuses.ReadFault → ⊥
-  no_read_fault modes.Clean ends = none.source ends.0
-  no_read_fault modes.Terms ends = none.source ends.0
+  no_read_fault : (mode : Mode) → EndsMode mode beside source sink outlet statuses.ReadFault → ⊥
+  no_read_fault modes.Clean ends = none.of_source ends.0
+  no_read_fault modes.Terms ends = none.of_source ends.0
   no_read_fault (modes.Gen asked) ends = ends.0
 
-  no_outlet_fault : (mode : Mode) → EndsMode mode beside old new statuses.OutletFault → ⊥
-  no_outlet_fault modes.Clean ends = none.outlet ends.0
-  no_outlet_fault modes.Terms ends = none.outlet ends.0
+  no_outlet_fault : (mode : Mode) → EndsMode mode beside source sink outlet statuses.OutletFault → ⊥
+  no_outlet_fault modes.Clean ends = none.of_outlet ends.rose
+  no_outlet_fault modes.Terms ends = none.of_outlet ends.rose
   no_outlet_fault (modes.Gen asked) ends = ends.0
 
-  no_write_fault : (mode : Mode) → EndsMode mode beside old new statuses.WriteFault → ⊥
-  no_write_fault modes.Clean ends = none.sink ends.0
-  no_write_fault modes.Terms ends = none.sink ends.0
-  no_write_fault (modes.Gen asked) ends = none.sink ends.0.1
+  no_write_fault : (mode : Mode) → EndsMode mode beside source sink outlet statuses.WriteFault → ⊥
+  no_write_fault modes.Clean ends = none.of_sink ends.rose
+  no_write_fault modes.Terms ends = none.of_sink ends.rose
+  no_write_fault (modes.Gen asked) ends = none.of_sink ends.0.1
 
-  no_port : (mode : Mode) → EndsMode mode beside old new statuses.Port → ⊥
+  no_port : (mode : Mode) → EndsMode mode beside source sink outlet statuses.Port → ⊥
   no_port modes.Clean ends = ends
   no_port modes.Terms ends = ends
   no_port (modes.Gen asked) ends = ends.0
 
   pub sure_program : (mode : Option Mode) (status : Status)
-      → EndsProgram mode (λ named. EndsMode named beside old new) untouched status → IsSureProgram mode status
+      → EndsProgram mode (λ named. EndsMode named beside source sink outlet) untouched status → IsSureProgram mode status
   sure_program None statuses.Done ends = absurd ends
   sure_program (Some mode) statuses.Done ends = refl
   sure_program None statuses.Script ends = absurd ends

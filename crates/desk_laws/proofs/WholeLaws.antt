@@ -13,10 +13,10 @@ use Rattle.run_spec.specs.declared.status.Status.TheVariants as statuses
 use Rattle.script_text.specs.Script.{Step, script_line, steps_from, script_limit, script_of}
 use Rattle.script_text.specs.declared.fault.ScriptFault.{ScriptFault}
 use Rattle.script_text.proofs.ScriptLaws.{script_short}
-use Rattle.desk_top.specs.Ends.{AnswersWhole, EndsWith, FinishesBy, RunsBy}
-use Rattle.desk_top.specs.Outside.{Outside}
+use Rattle.desk_top.specs.Ends.{AnswersWhole, EndsRun}
+use Rattle.desk_top.specs.Outside.{Change}
 use Rattle.run_spec.specs.Reads.{Reads}
-use Rattle.desk_laws.specs.SureRun.{NoneFailed}
+use Rattle.desk_laws.specs.SureRun.{IsSure, NoneFailed}
 use Rattle.desk_laws.specs.WholeRun.{EndsAsAll, IsAnswered, IsDone}
 use Rattle.desk_laws.proofs.HistoryLaws.{told_once, one_history}
 
@@ -62,29 +62,24 @@ front_read : (held input : Bytes) (new : Option Bytes) → Reads read_limit (Som
 front_read held input None read = absurd read.gave
 front_read held input (Some left) read = front_by read_limit held input left _ read.gave read.within read.whole refl
 
-pub same_run : (with_terms : Bool) (old new : Outside) (held input : Bytes) → old.left ≡ Some held
-    → Reads read_limit old.left new.left input → run_over with_terms input ≡ run_over with_terms held
-same_run with_terms old new held input tells read =
-    let front = front_read held input new.left (subst (λ left. Reads read_limit left new.left input) tells read) in
+pub same_run : (with_terms : Bool) (source : Change Bytes) (held input : Bytes) → source.before ≡ Some held
+    → Reads read_limit source.before source.after input → run_over with_terms input ≡ run_over with_terms held
+same_run with_terms source held input tells read =
+    let front =
+    front_read held input source.after (subst (λ left. Reads read_limit left source.after input) tells read) in
     ap (run_over with_terms) front ∙ cut_run with_terms held
 
 -- a run that answered a source ended as all of its bytes say
-pub ends_as_all : (with_terms : Bool) (old new : Outside) (held input : Bytes) (status own : Status) (pages : Pages) (output : Bytes)
-    → old.left ≡ Some held → Reads read_limit old.left new.left input → RunsBy with_terms input own pages output
-    → own ≡ status → TakesPages old.pages new.pages pages → Appends old.taken new.taken output
-    → EndsAsAll with_terms held old new status
-ends_as_all with_terms old new held input status own pages output tells read runs is put written =
-    let whole = sym (same_run with_terms old new held input tells read) ∙ runs in
+pub answered_whole : (with_terms : Bool) (source sink : Change Bytes) (outlet : Change Pages) (held : Bytes)
+    (status : Status) → source.before ≡ Some held → AnswersWhole with_terms status source sink outlet
+    → EndsAsAll with_terms held sink outlet status
+answered_whole with_terms source sink outlet held status tells run =
+    let same = same_run with_terms source held run.input tells run.read in
     record {
-      ends = sym is ∙ sym (ap (λ run. run.status) whole);
-      pages = subst (TakesPages old.pages new.pages) (sym (ap (λ run. run.pages) whole)) put;
-      output = subst (Appends old.taken new.taken) (sym (ap (λ run. run.output) whole)) written;
+      ends = sym run.is ∙ ap (λ own. own.status) same;
+      pages = subst (TakesPages outlet.before outlet.after) (ap (λ own. own.pages) same) run.pages;
+      output = subst (Appends sink.before sink.after) (ap (λ own. own.output) same) run.output;
     }
-
-pub answered_whole : (with_terms : Bool) (old new : Outside) (held : Bytes) (status : Status) → old.left ≡ Some held
-    → AnswersWhole (FinishesBy with_terms) old new status → EndsAsAll with_terms held old new status
-answered_whole with_terms old new held status tells (run, is, put, written, none) =
-    ends_as_all with_terms old new held run.input status run.status run.pages run.output tells run.read run.is.0 is put written
 
 -- A run that is done
 
@@ -107,42 +102,59 @@ read_whole limit held input (Some left) read short =
     let none : left ≡ [] = read.whole (omega arith) in
     record { ended = ap Some none; all = sym (rw none at whole ∙ append-nil input) }
 
-pub done_whole : (with_terms : Bool) (old new : Outside) (held : Bytes) → old.left ≡ Some held
-    → AnswersWhole (FinishesBy with_terms) old new statuses.Done → IsDone with_terms held old new
+pub done_whole : (with_terms : Bool) (source sink : Change Bytes) (outlet : Change Pages) (held : Bytes)
+    → source.before ≡ Some held → AnswersWhole with_terms statuses.Done source sink outlet
+    → IsDone with_terms held source sink outlet
 unfolding run_over
-done_whole with_terms old new held tells (run, is, put, written, none) =
-    let all = answered_whole with_terms old new held statuses.Done tells (run, is, put, written, none) in
+done_whole with_terms source sink outlet held tells run =
+    let all = answered_whole with_terms source sink outlet held statuses.Done tells run in
     let found = done_steps with_terms (script_of held) all.ends in
     let answers = ap (run_of with_terms) found.1 in
-    let read = read_whole script_limit held run.input new.left
-    (subst (λ left. Reads read_limit left new.left run.input) tells run.read) (script_short held found.0 found.1) in
-    let form = subst HasForm (ap script_of read.all ∙ found.1) run.is.1 in
+    let read = read_whole script_limit held run.input source.after
+    (subst (λ left. Reads read_limit left source.after run.input) tells run.read) (script_short held found.0 found.1) in
+    let form = subst HasForm (ap script_of read.all ∙ found.1) run.form in
     record {
       ended = read.ended;
       steps = found.0;
       script = found.1;
-      pages = subst (TakesPages old.pages new.pages) (ap (λ run. run.pages) answers) all.pages;
-      output = subst (Appends old.taken new.taken) (ap (λ run. run.output) answers) all.output;
+      pages = subst (TakesPages outlet.before outlet.after) (ap (λ own. own.pages) answers) all.pages;
+      output = subst (Appends sink.before sink.after) (ap (λ own. own.output) answers) all.output;
       told = told_once found.0 form;
       history = one_history found.0;
     }
 
 -- By the status
 
-pub answered_all : (with_terms : Bool) (old new : Outside) (status : Status) (held : Bytes) → IsAnswered status → old.left ≡ Some held
-    → EndsWith with_terms old new status → EndsAsAll with_terms held old new status
-answered_all with_terms old new status held (inl is) tells ends =
-    rw is (answered_whole with_terms old new held statuses.Done tells (rw is at ends))
-answered_all with_terms old new status held (inr is) tells ends =
-    rw is (answered_whole with_terms old new held statuses.Script tells (rw is at ends))
+pub answered_all : (with_terms : Bool) (source sink : Change Bytes) (outlet : Change Pages) (status : Status)
+    (held : Bytes) → IsAnswered status → source.before ≡ Some held → EndsRun with_terms source sink outlet status
+    → EndsAsAll with_terms held sink outlet status
+answered_all with_terms source sink outlet status held (inl is) tells ends =
+    rw is (answered_whole with_terms source sink outlet held statuses.Done tells (rw is at ends))
+answered_all with_terms source sink outlet status held (inr is) tells ends =
+    rw is (answered_whole with_terms source sink outlet held statuses.Script tells (rw is at ends))
 
-pub sure_whole : (with_terms : Bool) (old new : Outside) (status : Status) (held : Bytes) → NoneFailed old new → old.left ≡ Some held
-    → EndsWith with_terms old new status → (status ≡ statuses.NoMemory) ⊎ EndsAsAll with_terms held old new status
-sure_whole with_terms old new statuses.Done held none tells ends = inr (answered_whole with_terms old new held statuses.Done tells ends)
-sure_whole with_terms old new statuses.Script held none tells ends = inr (answered_whole with_terms old new held statuses.Script tells ends)
-sure_whole with_terms old new statuses.NoMemory held none tells ends = inl refl
-sure_whole with_terms old new statuses.ReadFault held none tells ends = absurd (none.source ends.0)
-sure_whole with_terms old new statuses.OutletFault held none tells ends = absurd (none.outlet ends.0)
-sure_whole with_terms old new statuses.WriteFault held none tells ends = absurd (none.sink ends.0)
-sure_whole with_terms old new statuses.Words held none tells ends = absurd ends
-sure_whole with_terms old new statuses.Port held none tells ends = absurd ends
+pub sure_status : (with_terms : Bool) (source sink : Change Bytes) (outlet : Change Pages) (status : Status)
+    → NoneFailed source sink outlet → EndsRun with_terms source sink outlet status → IsSure status
+sure_status with_terms source sink outlet statuses.Done none ends = tt
+sure_status with_terms source sink outlet statuses.Script none ends = tt
+sure_status with_terms source sink outlet statuses.NoMemory none ends = tt
+sure_status with_terms source sink outlet statuses.ReadFault none ends = none.of_source ends.0
+sure_status with_terms source sink outlet statuses.OutletFault none ends = none.of_outlet ends.rose
+sure_status with_terms source sink outlet statuses.WriteFault none ends = none.of_sink ends.rose
+sure_status with_terms source sink outlet statuses.Words none ends = ends
+sure_status with_terms source sink outlet statuses.Port none ends = ends
+
+pub sure_whole : (with_terms : Bool) (source sink : Change Bytes) (outlet : Change Pages) (status : Status)
+    (held : Bytes) → NoneFailed source sink outlet → source.before ≡ Some held
+    → EndsRun with_terms source sink outlet status
+    → (status ≡ statuses.NoMemory) ⊎ EndsAsAll with_terms held sink outlet status
+sure_whole with_terms source sink outlet statuses.Done held none tells ends =
+    inr (answered_whole with_terms source sink outlet held statuses.Done tells ends)
+sure_whole with_terms source sink outlet statuses.Script held none tells ends =
+    inr (answered_whole with_terms source sink outlet held statuses.Script tells ends)
+sure_whole with_terms source sink outlet statuses.NoMemory held none tells ends = inl refl
+sure_whole with_terms source sink outlet statuses.ReadFault held none tells ends = absurd (none.of_source ends.0)
+sure_whole with_terms source sink outlet statuses.OutletFault held none tells ends = absurd (none.of_outlet ends.rose)
+sure_whole with_terms source sink outlet statuses.WriteFault held none tells ends = absurd (none.of_sink ends.rose)
+sure_whole with_terms source sink outlet statuses.Words held none tells ends = absurd ends
+sure_whole with_terms source sink outlet statuses.Port held none tells ends = absurd ends

@@ -2,16 +2,18 @@
 use Rattle.std.specs.Prelude.{Option, IsNone, IsSome, IsSomeAnd}
 use Rattle.command_line.specs.declared.modes.Mode.{Mode}
 use Rattle.command_line.specs.declared.modes.Mode.TheVariants as modes
+use Rattle.dita_doc.specs.Bytes.{Bytes}
 use Rattle.dita_outside.specs.Cause.{Rose}
-use Rattle.desk_top.specs.Outside.{Outside}
+use Rattle.dita_outside.specs.Pages.{Pages}
+use Rattle.desk_top.specs.Outside.{Change}
 use Rattle.run_spec.specs.declared.status.Status.{Status}
 use Rattle.run_spec.specs.declared.status.Status.TheVariants as statuses
 
 -- no count rose, and none stands at the last value of a counter
-pub record NoneFailed (old new : Outside) : Type 0 where
-  pub source : Rose old.read_faults new.read_faults → ⊥
-  pub sink : Rose old.write_faults new.write_faults → ⊥
-  pub outlet : Rose old.page_faults new.page_faults → ⊥
+pub record NoneFailed (source sink : Change Bytes) (outlet : Change Pages) : Type 0 where
+  pub of_source : Rose source.faults_before source.faults_after → ⊥
+  pub of_sink : Rose sink.faults_before sink.faults_after → ⊥
+  pub of_outlet : Rose outlet.faults_before outlet.faults_after → ⊥
 
 -- the statuses of a run over such objects
 abbrev pub IsSure : Status → Type 0

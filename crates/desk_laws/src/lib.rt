@@ -13,6 +13,8 @@ ghost use Rattle.desk_laws.specs.SureRun as sure_run_spec;
 ghost use Rattle.desk_laws.specs.WholeRun as whole_run_spec;
 ghost use Rattle.desk_top.specs.Ends as ends_spec;
 ghost use Rattle.desk_top.specs.Outside as outside_spec;
+ghost use Rattle.desk_top.specs.Outside.{Change};
+ghost use Rattle.dita_outside.specs.Pages.{Pages};
 ghost use Rattle.run_spec.specs.CleanRun as clean_run_spec;
 ghost use Rattle.run_spec.specs.declared.status.Status.{Status};
 ghost use Rattle.run_spec.specs.declared.status.Status.TheVariants as statuses;
@@ -22,36 +24,37 @@ use dita_outside::{Outlet, Sink, Source};
 /// Over objects that do not fail, a run is done, rejects its script, or is out of memory. If it is
 /// not out of memory and its source tells its bytes, it ended as all of these say.
 pub fn sure_run()
-    ensures status { (with_terms : Bool) (old new : outside_spec.Outside) (status : Status) →
-        sure_run_spec.NoneFailed old new → ends_spec.EndsWith with_terms old new status →
-        sure_run_spec.IsSure status }
-    ensures whole { (with_terms : Bool) (old new : outside_spec.Outside) (status : Status)
-        (held : Bytes) → sure_run_spec.NoneFailed old new → old.left ≡ Some held →
-        ends_spec.EndsWith with_terms old new status →
-        (status ≡ statuses.NoMemory) ⊎ whole_run_spec.EndsAsAll with_terms held old new status }
+    ensures status { (with_terms : Bool) (source sink : Change Bytes) (outlet : Change Pages)
+        (status : Status) → sure_run_spec.NoneFailed source sink outlet →
+        ends_spec.EndsRun with_terms source sink outlet status → sure_run_spec.IsSure status }
+    ensures whole { (with_terms : Bool) (source sink : Change Bytes) (outlet : Change Pages)
+        (status : Status) (held : Bytes) → sure_run_spec.NoneFailed source sink outlet →
+        source.before ≡ Some held → ends_spec.EndsRun with_terms source sink outlet status →
+        (status ≡ statuses.NoMemory) ⊎ whole_run_spec.EndsAsAll with_terms held sink outlet status }
 {}
 
 /// Over objects that do not fail, the program answers `Words` only if its words name no mode, is
 /// done only if they name one, and rejects a script only in a mode that reads one. Else it is out of
 /// memory.
 pub fn sure_program<S: Source, K: Sink, O: Outlet>()
-    ensures { let outside = outside_spec.outside_at
-        S.left S.faults K.taken K.faults O.pages O.faults in
+    ensures { let of_source = outside_spec.change S.left S.faults in
+        let of_sink = outside_spec.change K.taken K.faults in
+        let of_outlet = outside_spec.change O.pages O.faults in
         (mode : Option Mode) (source source' : S) (sink sink' : K) (outlet outlet' : O)
-        (status : Status) → sure_run_spec.NoneFailed (outside source sink outlet)
-        (outside source' sink' outlet') → ends_spec.EndsProgram mode (λ named. ends_spec.EndsMode named
-        ((source' ≡ source) × (outlet' ≡ outlet)) (outside source sink outlet)
-        (outside source' sink' outlet'))
+        (status : Status) → sure_run_spec.NoneFailed (of_source source source')
+        (of_sink sink sink') (of_outlet outlet outlet') → ends_spec.EndsProgram mode
+        (λ named. ends_spec.EndsMode named ((source' ≡ source) × (outlet' ≡ outlet))
+        (of_source source source') (of_sink sink sink') (of_outlet outlet outlet'))
         ((source' ≡ source) × (sink' ≡ sink) × (outlet' ≡ outlet)) status →
         sure_run_spec.IsSureProgram mode status }
 {}
 
 /// A run that answered what it read ended as all bytes of its source say, if the source tells them.
 pub fn answered_run()
-    ensures { (with_terms : Bool) (old new : outside_spec.Outside) (status : Status)
-        (held : Bytes) → whole_run_spec.IsAnswered status → old.left ≡ Some held →
-        ends_spec.EndsWith with_terms old new status →
-        whole_run_spec.EndsAsAll with_terms held old new status }
+    ensures { (with_terms : Bool) (source sink : Change Bytes) (outlet : Change Pages)
+        (status : Status) (held : Bytes) → whole_run_spec.IsAnswered status →
+        source.before ≡ Some held → ends_spec.EndsRun with_terms source sink outlet status →
+        whole_run_spec.EndsAsAll with_terms held sink outlet status }
 {}
 
 /// No run depends on what stands behind the first byte that is too many for a script.
@@ -65,9 +68,10 @@ pub fn long_sources()
 /// took a transcript, and whoever reads it reads one history: the requests in the script's order,
 /// each answered as the desk answers it at its place.
 pub fn done_run()
-    ensures { (with_terms : Bool) (old new : outside_spec.Outside) (held : Bytes) →
-        old.left ≡ Some held → ends_spec.EndsWith with_terms old new statuses.Done →
-        whole_run_spec.IsDone with_terms held old new }
+    ensures { (with_terms : Bool) (source sink : Change Bytes) (outlet : Change Pages)
+        (held : Bytes) → source.before ≡ Some held →
+        ends_spec.EndsRun with_terms source sink outlet statuses.Done →
+        whole_run_spec.IsDone with_terms held source sink outlet }
 {}
 
 /// The answers to some steps are one history: the requests in the script's order, each answered as

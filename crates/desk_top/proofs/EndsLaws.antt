@@ -9,71 +9,71 @@ use Rattle.run_spec.specs.declared.status.Status.{Status}
 use Rattle.run_spec.specs.declared.status.Status.TheVariants as statuses
 use Rattle.script_text.specs.Script.{Step, script_of}
 use Rattle.script_text.specs.declared.fault.ScriptFault.{ScriptFault}
-use Rattle.desk_top.specs.Ends.{RunRelation, RunOf, RunsBy, FinishesBy, EndsWith, NoneRose, WritesLast}
-use Rattle.desk_top.specs.Outside.{Outside}
+use Rattle.desk_top.specs.Ends.{EndsRun, FailsToWrite, NoneRose, StopsShort, WritesLast}
+use Rattle.desk_top.specs.Outside.{Change}
 use Rattle.run_spec.specs.Reads.{Reads}
 use Rattle.desk_top.proofs.TakesLaws.{takes_none}
 
--- the run over what was read, of which something is said
-abbrev run_read : (with_terms : Bool) (runs : RunRelation) (old new : Outside) (input : Bytes)
-    → Reads read_limit old.left new.left input
-    → runs input (run_over with_terms input).status (run_over with_terms input).pages (run_over with_terms input).output
-    → RunOf runs old new
-run_read with_terms runs old new input read is = record {
+-- all was put and written: the run ends as it says
+ends_whole : (with_terms : Bool) (source sink : Change Bytes) (outlet : Change Pages) (input : Bytes)
+    → Reads read_limit source.before source.after input → HasForm (script_of input)
+    → TakesPages outlet.before outlet.after (run_over with_terms input).pages
+    → Appends sink.before sink.after (run_over with_terms input).output → NoneRose source sink outlet
+    → (found : Result (List Step) ScriptFault) → script_of input ≡ found
+    → EndsRun with_terms source sink outlet (run_of with_terms found).status
+unfolding run_over
+ends_whole with_terms source sink outlet input read form put written none (Err fault) e = record {
   input = input;
   read = read;
-  status = (run_over with_terms input).status;
-  pages = (run_over with_terms input).pages;
-  output = (run_over with_terms input).output;
-  is = is;
+  is = ap (λ f. (run_of with_terms f).status) e;
+  form = form;
+  pages = put;
+  output = written;
+  sound = none;
+}
+ends_whole with_terms source sink outlet input read form put written none (Ok steps) e = record {
+  input = input;
+  read = read;
+  is = ap (λ f. (run_of with_terms f).status) e;
+  form = form;
+  pages = put;
+  output = written;
+  sound = none;
 }
 
-abbrev pub begun_over : (with_terms : Bool) (old new : Outside) (input : Bytes)
-    → Reads read_limit old.left new.left input → RunOf (RunsBy with_terms) old new
-begun_over with_terms old new input read = run_read with_terms (RunsBy with_terms) old new input read refl
-
--- all was put and written: the run ends as it says
-ends_whole : (with_terms : Bool) (old new : Outside) (input : Bytes) → Reads read_limit old.left new.left input
-    → HasForm (script_of input) → TakesPages old.pages new.pages (run_over with_terms input).pages
-    → Appends old.taken new.taken (run_over with_terms input).output → NoneRose old new
-    → (found : Result (List Step) ScriptFault)
-    → script_of input ≡ found → EndsWith with_terms old new (run_of with_terms found).status
-unfolding run_over
-ends_whole with_terms old new input read form put written none (Err fault) e = (
-  run_read with_terms (FinishesBy with_terms) old new input read (refl, form),
-  ap (λ f. (run_of with_terms f).status) e,
-  put,
-  written,
-  none,
-)
-ends_whole with_terms old new input read form put written none (Ok steps) e = (
-  run_read with_terms (FinishesBy with_terms) old new input read (refl, form),
-  ap (λ f. (run_of with_terms f).status) e,
-  put,
-  written,
-  none,
-)
-
 -- all was put, and the output was written or not
-pub ends_written : (with_terms : Bool) (old new : Outside) (input output : Bytes) (status result : Status)
-    → Reads read_limit old.left new.left input → (run_over with_terms input).status ≡ status
-    → (run_over with_terms input).output ≡ output → HasForm (script_of input)
-    → TakesPages old.pages new.pages (run_over with_terms input).pages
-    → new.read_faults ≡ old.read_faults → new.page_faults ≡ old.page_faults
-    → WritesLast old.taken new.taken old.write_faults new.write_faults output status result
-    → EndsWith with_terms old new result
+pub ends_written : (with_terms : Bool) (source sink : Change Bytes) (outlet : Change Pages) (input output : Bytes)
+    (status result : Status) → Reads read_limit source.before source.after input
+    → (run_over with_terms input).status ≡ status → (run_over with_terms input).output ≡ output
+    → HasForm (script_of input) → TakesPages outlet.before outlet.after (run_over with_terms input).pages
+    → source.faults_after ≡ source.faults_before → outlet.faults_after ≡ outlet.faults_before
+    → WritesLast sink.before sink.after sink.faults_before sink.faults_after output status result
+    → EndsRun with_terms source sink outlet result
 unfolding run_over
-ends_written with_terms old new input output status result read is told form put source outlet (inl w) =
-    let none : NoneRose old new = record { source = source; sink = w.2; outlet = outlet } in
-    rw (w.1, ← is) (ends_whole with_terms old new input read form put (rw (← told) at w.0) none (script_of input) refl)
-ends_written with_terms old new input output status result read is told form put source outlet (inr (front, inl w)) =
-    rw w.1 (w.0, (begun_over with_terms old new input read, put, rw (← told) at front))
-ends_written with_terms old new input output status result read is told form put source outlet (inr (front, inr e)) =
-    rw e (inr (
-      begun_over with_terms old new input read,
-      ((run_over with_terms input).pages, [], sym (append-nil (run_over with_terms input).pages), put),
-      rw (← told) at front,
-    ))
+ends_written with_terms source sink outlet input output status result read is told form put read_same put_same (inl w) =
+    let none : NoneRose source sink outlet =
+    record { of_source = read_same; of_sink = w.2; of_outlet = put_same } in
+    rw (w.1, ← is)
+    (ends_whole with_terms source sink outlet input read form put (rw (← told) at w.0) none (script_of input) refl)
+ends_written with_terms source sink outlet input output status result read is told form put read_same put_same
+    (inr (front, inl w)) =
+    let ends : FailsToWrite with_terms source sink outlet = record {
+      rose = w.0;
+      input = input;
+      read = read;
+      pages = put;
+      output = rw (← told) at front;
+    } in
+    rw w.1 ends
+ends_written with_terms source sink outlet input output status result read is told form put read_same put_same
+    (inr (front, inr e)) =
+    let ends : StopsShort with_terms source sink outlet = record {
+      input = input;
+      read = read;
+      pages = ((run_over with_terms input).pages, [], sym (append-nil (run_over with_terms input).pages), put);
+      output = rw (← told) at front;
+    } in
+    rw e (inr ends)
 
 -- What a run over these bytes is
 

@@ -1,4 +1,5 @@
--- How a run ends, by its status, over what the source, the sink and the outlet tell.
+-- How a run ends, by its status, over what the source, the sink and the outlet tell before and after it. Each status has its
+-- own statement. `run_over` gives the status, the pages and the output for the bytes that were read.
 use Rattle.std.specs.Prelude.{◌≡◌, ◌⊎◌, ℕ, Bool, true, false, [], Option, IsNone, IsSomeAnd}
 use Rattle.std.specs.Io.KnownBytes.{Keeps, Appends}
 use Rattle.command_line.specs.declared.modes.Mode.{Mode}
@@ -13,82 +14,87 @@ use Rattle.run_spec.specs.EndsTrial.{EndsGen}
 use Rattle.run_spec.specs.Reads.{Reads}
 use Rattle.run_spec.specs.Written.{AppendsFront}
 use Rattle.script_text.specs.Script.{script_of}
-use Rattle.desk_top.specs.Outside.{Outside, sunk_of}
+use Rattle.desk_top.specs.Outside.{Change, sunk_after, sunk_before}
 
--- nothing reached the outlet and the sink
-abbrev pub TakesNothing : Outside → Outside → Type 0
-TakesNothing old new = TakesPages old.pages new.pages [] × Keeps old.taken new.taken
-
--- which status, pages and output a run over some bytes may have
-abbrev pub RunRelation : Type 1
-RunRelation = Bytes → Status → Pages → Bytes → Type 0
-
--- a run over what was read: the source to its end, or one byte more than a script has
-pub record RunOf (runs : RunRelation) (old new : Outside) : Type 0 where
-  pub input : Bytes
-  pub read : Reads read_limit old.left new.left input
-  pub status : Status
-  pub pages : Pages
-  pub output : Bytes
-  pub is : runs input status pages output
+-- nothing reached the sink and the outlet
+abbrev pub TakesNothing : Change Bytes → Change Pages → Type 0
+TakesNothing sink outlet = TakesPages outlet.before outlet.after [] × Keeps sink.before sink.after
 
 -- no count of faults rose
-pub record NoneRose (old new : Outside) : Type 0 where
-  pub source : new.read_faults ≡ old.read_faults
-  pub sink : new.write_faults ≡ old.write_faults
-  pub outlet : new.page_faults ≡ old.page_faults
+pub record NoneRose (source sink : Change Bytes) (outlet : Change Pages) : Type 0 where
+  pub of_source : source.faults_after ≡ source.faults_before
+  pub of_sink : sink.faults_after ≡ sink.faults_before
+  pub of_outlet : outlet.faults_after ≡ outlet.faults_before
 
--- the run has this status, the outlet took its pages in order, and the sink its output and nothing else; no
--- count rose
-abbrev pub AnswersWhole : RunRelation → Outside → Outside → Status → Type 0
-AnswersWhole runs old new status = (run : RunOf runs old new) × (run.status ≡ status)
-    × TakesPages old.pages new.pages run.pages
-    × Appends old.taken new.taken run.output
-    × NoneRose old new
+-- Done or Script: the source was read to its end, or to one byte more than a script has; the run over what was read has
+-- this status; the outlet took its pages in order, and the sink its output and nothing else. The transcript of a script is
+-- in the form of transcripts. No count rose.
+pub record AnswersWhole (with_terms : Bool) (status : Status) (source sink : Change Bytes) (outlet : Change Pages)
+    : Type 0 where
+  pub input : Bytes
+  pub read : Reads read_limit source.before source.after input
+  pub is : (run_over with_terms input).status ≡ status
+  pub form : HasForm (script_of input)
+  pub pages : TakesPages outlet.before outlet.after (run_over with_terms input).pages
+  pub output : Appends sink.before sink.after (run_over with_terms input).output
+  pub sound : NoneRose source sink outlet
 
--- If the source failed, nothing was taken. If the outlet failed, it took the first of the pages, and the sink nothing.
--- If the sink failed, the outlet took all pages, and the sink the beginning of the output. Out of memory, nothing was
--- taken, or the first of the pages and the beginning of the output.
--- `finishes` says what holds of a run that was finished, and `runs` what holds of one that was broken off.
-abbrev pub EndsBy : (finishes runs : RunRelation) → Outside → Outside → Status → Type 0
-EndsBy finishes runs old new statuses.Done = AnswersWhole finishes old new statuses.Done
-EndsBy finishes runs old new statuses.Script = AnswersWhole finishes old new statuses.Script
-EndsBy finishes runs old new statuses.ReadFault = Rose old.read_faults new.read_faults × TakesNothing old new
-EndsBy finishes runs old new statuses.OutletFault = Rose old.page_faults new.page_faults × ((run : RunOf runs old new)
-    × TakesPagesFront old.pages new.pages run.pages × Keeps old.taken new.taken)
-EndsBy finishes runs old new statuses.WriteFault = Rose old.write_faults new.write_faults × ((run : RunOf runs old new)
-    × TakesPages old.pages new.pages run.pages × AppendsFront old.taken new.taken run.output)
-EndsBy finishes runs old new statuses.NoMemory = TakesNothing old new ⊎ ((run : RunOf runs old new)
-    × TakesPagesFront old.pages new.pages run.pages × AppendsFront old.taken new.taken run.output)
-EndsBy finishes runs old new statuses.Words = ⊥
-EndsBy finishes runs old new statuses.Port = ⊥
+-- ReadFault: the source failed, and nothing was taken.
+abbrev pub FailsToRead : (source sink : Change Bytes) → Change Pages → Type 0
+FailsToRead source sink outlet = Rose source.faults_before source.faults_after × TakesNothing sink outlet
 
--- a run on one thread, with pages of terms or without: the bytes alone say how it ends
-abbrev pub RunsBy : Bool → RunRelation
-RunsBy with_terms input status pages output =
-    run_over with_terms input ≡ record { status = status; pages = pages; output = output }
+-- OutletFault: the outlet failed, and took the first of the pages; the sink took nothing.
+pub record FailsToPut (with_terms : Bool) (source sink : Change Bytes) (outlet : Change Pages) : Type 0 where
+  pub rose : Rose outlet.faults_before outlet.faults_after
+  pub input : Bytes
+  pub read : Reads read_limit source.before source.after input
+  pub pages : TakesPagesFront outlet.before outlet.after (run_over with_terms input).pages
+  pub output : Keeps sink.before sink.after
 
--- and if it is finished, its transcript is in the form of transcripts
-abbrev pub FinishesBy : Bool → RunRelation
-FinishesBy with_terms input status pages output = RunsBy with_terms input status pages output × HasForm (script_of input)
+-- WriteFault: the sink failed, and took the beginning of the output; the outlet took all pages.
+pub record FailsToWrite (with_terms : Bool) (source sink : Change Bytes) (outlet : Change Pages) : Type 0 where
+  pub rose : Rose sink.faults_before sink.faults_after
+  pub input : Bytes
+  pub read : Reads read_limit source.before source.after input
+  pub pages : TakesPages outlet.before outlet.after (run_over with_terms input).pages
+  pub output : AppendsFront sink.before sink.after (run_over with_terms input).output
 
-abbrev pub EndsWith : Bool → Outside → Outside → Status → Type 0
-EndsWith with_terms old new status = EndsBy (FinishesBy with_terms) (RunsBy with_terms) old new status
+-- NoMemory, behind the reading: the outlet took the first of the pages, and the sink the beginning of the output.
+pub record StopsShort (with_terms : Bool) (source sink : Change Bytes) (outlet : Change Pages) : Type 0 where
+  pub input : Bytes
+  pub read : Reads read_limit source.before source.after input
+  pub pages : TakesPagesFront outlet.before outlet.after (run_over with_terms input).pages
+  pub output : AppendsFront sink.before sink.after (run_over with_terms input).output
+
+-- a run on one thread, with pages of terms or without
+abbrev pub EndsRun : (with_terms : Bool) → (source sink : Change Bytes) → (outlet : Change Pages) → Status → Type 0
+EndsRun with_terms source sink outlet statuses.Done = AnswersWhole with_terms statuses.Done source sink outlet
+EndsRun with_terms source sink outlet statuses.Script = AnswersWhole with_terms statuses.Script source sink outlet
+EndsRun with_terms source sink outlet statuses.ReadFault = FailsToRead source sink outlet
+EndsRun with_terms source sink outlet statuses.OutletFault = FailsToPut with_terms source sink outlet
+EndsRun with_terms source sink outlet statuses.WriteFault = FailsToWrite with_terms source sink outlet
+EndsRun with_terms source sink outlet statuses.NoMemory =
+    TakesNothing sink outlet ⊎ StopsShort with_terms source sink outlet
+EndsRun with_terms source sink outlet statuses.Words = ⊥
+EndsRun with_terms source sink outlet statuses.Port = ⊥
 
 -- the run of the mode `clean`
-abbrev pub EndsClean : Outside → Outside → Status → Type 0
-EndsClean old new status = EndsWith false old new status
+abbrev pub EndsClean : (source sink : Change Bytes) → (outlet : Change Pages) → Status → Type 0
+EndsClean source sink outlet status = EndsRun false source sink outlet status
 
 -- the run of the mode `terms`
-abbrev pub EndsTerms : Outside → Outside → Status → Type 0
-EndsTerms old new status = EndsWith true old new status
+abbrev pub EndsTerms : (source sink : Change Bytes) → (outlet : Change Pages) → Status → Type 0
+EndsTerms source sink outlet status = EndsRun true source sink outlet status
 
--- the run of a mode; `gen` takes the sink alone, and `beside` says that the source and the outlet are as they were
-abbrev pub EndsMode : Mode → (beside : Type 0) → Outside → Outside → Status → Type 0
-EndsMode modes.Clean beside old new status = EndsClean old new status
-EndsMode modes.Terms beside old new status = EndsTerms old new status
-EndsMode (modes.Gen asked) beside old new status =
-    EndsGen asked.number asked.topics (sunk_of old) (sunk_of new) status × beside
+-- the run of the mode `gen`, which takes the sink alone
+abbrev pub EndsProject : (number topics : ℕ) → (sink : Change Bytes) → Status → Type 0
+EndsProject number topics sink status = EndsGen number topics (sunk_before sink) (sunk_after sink) status
+
+-- the run of a mode; for `gen`, `beside` says that the source and the outlet are as they were
+abbrev pub EndsMode : Mode → (beside : Type 0) → (source sink : Change Bytes) → (outlet : Change Pages) → Status → Type 0
+EndsMode modes.Clean beside source sink outlet status = EndsClean source sink outlet status
+EndsMode modes.Terms beside source sink outlet status = EndsTerms source sink outlet status
+EndsMode (modes.Gen asked) beside source sink outlet status = EndsProject asked.number asked.topics sink status × beside
 
 -- an output was written: whole, by a sink that has not failed, and then the status is that of the run; or its beginning,
 -- because the sink failed or memory ran out

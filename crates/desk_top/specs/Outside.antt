@@ -1,34 +1,27 @@
--- What the source, the sink and the outlet of a run tell.
+-- What an object of a run tells before the run and after it.
 use Rattle.std.specs.Prelude.{ℕ, Option}
-use Rattle.dita_doc.specs.Bytes.{Bytes}
-use Rattle.dita_outside.specs.Pages.{Pages}
 use Rattle.run_spec.specs.Written.{Sunk}
+use Rattle.dita_doc.specs.Bytes.{Bytes}
 
--- what the three objects tell at one moment
-pub record Outside : Type 0 where
-  pub left : Option Bytes
-  pub read_faults : ℕ
-  pub taken : Option Bytes
-  pub write_faults : ℕ
-  pub pages : Option Pages
-  pub page_faults : ℕ
+-- its bytes or its pages, if it tells them, and the count of its faults
+pub record Change (X : Type 0) : Type 0 where
+  pub before : Option X
+  pub after : Option X
+  pub faults_before : ℕ
+  pub faults_after : ℕ
 
--- the same of three objects, by what each of them tells: its bytes or its pages, and its faults
-abbrev pub outside_at : {S K O : Type 0} → (S → Option Bytes) → (S → ℕ) → (K → Option Bytes) → (K → ℕ)
-    → (O → Option Pages) → (O → ℕ) → S → K → O → Outside
-outside_at left read_faults taken write_faults pages page_faults source sink outlet = record {
-  left = left source;
-  read_faults = read_faults source;
-  taken = taken sink;
-  write_faults = write_faults sink;
-  pages = pages outlet;
-  page_faults = page_faults outlet;
+-- the same of an object, by what it tells and by its faults
+abbrev pub change : {S X : Type 0} → (S → Option X) → (S → ℕ) → (before after : S) → Change X
+change tells faults before after = record {
+  before = tells before;
+  after = tells after;
+  faults_before = faults before;
+  faults_after = faults after;
 }
 
 -- what the sink tells, of that
-abbrev pub sunk_of : Outside → Sunk
-sunk_of outside = record { taken = outside.taken; faults = outside.write_faults }
+abbrev pub sunk_before : Change Bytes → Sunk
+sunk_before sink = record { taken = sink.before; faults = sink.faults_before }
 
--- the same of a sink alone
-abbrev pub sunk_at : {K : Type 0} → (K → Option Bytes) → (K → ℕ) → K → Sunk
-sunk_at taken faults sink = record { taken = taken sink; faults = faults sink }
+abbrev pub sunk_after : Change Bytes → Sunk
+sunk_after sink = record { taken = sink.after; faults = sink.faults_after }

@@ -1,7 +1,7 @@
 //! The mode `gen`: the script of a project, from no input to bytes.
 
 ghost use Rattle.std.specs.Prelude.{◌≤◌};
-ghost use Rattle.run_spec.specs.EndsTrial as ends_trial_spec;
+ghost use Rattle.desk_top.specs.Ends as ends_spec;
 ghost use Rattle.desk_top.specs.Outside as outside_spec;
 
 use crate::modes::written;
@@ -15,8 +15,8 @@ use std::alloc::Global;
 pub fn run_gen<K: Sink>(alloc: Global, number: u64, topics: u32, sink: &mut K) -> Status
     requires few { 2 ≤ topics }
     requires many { topics ≤ 4000 }
-    ensures { let sunk = outside_spec.sunk_at K.taken K.faults in
-        ends_trial_spec.EndsGen number topics (sunk sink.old) (sunk sink.new) result }
+    ensures { ends_spec.EndsProject number topics
+        (outside_spec.change K.taken K.faults sink.old sink.new) result }
 {
     match project(alloc, number, topics) {
         Ok(text) => written(sink, text.as_slice(), Status::Done),

@@ -2,8 +2,8 @@
 //! out.
 //!
 //! What is used above it: `desk_top` answers the status of the run that its words name, which is
-//! `run_clean`, `run_terms` or `run_gen`. By one relation the status says what the source, the sink and the
-//! outlet tell afterwards.
+//! `run_clean`, `run_terms` or `run_gen`. The status says what the source, the sink and the outlet
+//! tell afterwards.
 #![tactic(auto)]
 
 mod build;

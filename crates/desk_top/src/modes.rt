@@ -27,10 +27,10 @@ pub fn run_clean<S: Source, K: Sink, O: Outlet>(
     sink: &mut K,
     outlet: &mut O,
 ) -> Status
-    ensures { let outside = outside_spec.outside_at
-        S.left S.faults K.taken K.faults O.pages O.faults in
-        ends_spec.EndsClean (outside source.old sink.old outlet.old)
-        (outside source.new sink.new outlet.new) result }
+    ensures { ends_spec.EndsClean
+        (outside_spec.change S.left S.faults source.old source.new)
+        (outside_spec.change K.taken K.faults sink.old sink.new)
+        (outside_spec.change O.pages O.faults outlet.old outlet.new) result }
 {
     run(alloc, source, sink, outlet, false)
 }
@@ -42,10 +42,10 @@ pub fn run_terms<S: Source, K: Sink, O: Outlet>(
     sink: &mut K,
     outlet: &mut O,
 ) -> Status
-    ensures { let outside = outside_spec.outside_at
-        S.left S.faults K.taken K.faults O.pages O.faults in
-        ends_spec.EndsTerms (outside source.old sink.old outlet.old)
-        (outside source.new sink.new outlet.new) result }
+    ensures { ends_spec.EndsTerms
+        (outside_spec.change S.left S.faults source.old source.new)
+        (outside_spec.change K.taken K.faults sink.old sink.new)
+        (outside_spec.change O.pages O.faults outlet.old outlet.new) result }
 {
     run(alloc, source, sink, outlet, true)
 }
@@ -58,10 +58,10 @@ fn run<S: Source, K: Sink, O: Outlet>(
     outlet: &mut O,
     with_terms: bool,
 ) -> Status
-    ensures { let outside = outside_spec.outside_at
-        S.left S.faults K.taken K.faults O.pages O.faults in
-        ends_spec.EndsWith with_terms (outside source.old sink.old outlet.old)
-        (outside source.new sink.new outlet.new) result }
+    ensures { ends_spec.EndsRun with_terms
+        (outside_spec.change S.left S.faults source.old source.new)
+        (outside_spec.change K.taken K.faults sink.old sink.new)
+        (outside_spec.change O.pages O.faults outlet.old outlet.new) result }
 {
     let input = match read_all(alloc, source, READ_LIMIT) {
         Ok(input) => input,

@@ -24,11 +24,11 @@ pub fn desk_top<S: Source, K: Sink, O: Outlet>(
     sink: &mut K,
     outlet: &mut O,
 ) -> Status
-    ensures { let outside = outside_spec.outside_at
-        S.left S.faults K.taken K.faults O.pages O.faults in
-        ends_spec.EndsProgram (command_spec.mode_of (map string_bytes words.now))
+    ensures { ends_spec.EndsProgram (command_spec.mode_of (map string_bytes words.now))
         (λ mode. ends_spec.EndsMode mode ((source.new ≡ source.old) × (outlet.new ≡ outlet.old))
-        (outside source.old sink.old outlet.old) (outside source.new sink.new outlet.new))
+        (outside_spec.change S.left S.faults source.old source.new)
+        (outside_spec.change K.taken K.faults sink.old sink.new)
+        (outside_spec.change O.pages O.faults outlet.old outlet.new))
         ((source.new ≡ source.old) × (sink.new ≡ sink.old) × (outlet.new ≡ outlet.old)) result }
 {
     match mode(alloc, words) {
@@ -46,10 +46,11 @@ fn run_mode<S: Source, K: Sink, O: Outlet>(
     sink: &mut K,
     outlet: &mut O,
 ) -> Status
-    ensures { let outside = outside_spec.outside_at
-        S.left S.faults K.taken K.faults O.pages O.faults in
-        ends_spec.EndsMode mode.now ((source.new ≡ source.old) × (outlet.new ≡ outlet.old))
-        (outside source.old sink.old outlet.old) (outside source.new sink.new outlet.new) result }
+    ensures { ends_spec.EndsMode mode.now
+        ((source.new ≡ source.old) × (outlet.new ≡ outlet.old))
+        (outside_spec.change S.left S.faults source.old source.new)
+        (outside_spec.change K.taken K.faults sink.old sink.new)
+        (outside_spec.change O.pages O.faults outlet.old outlet.new) result }
 {
     match mode {
         Mode::Clean => run_clean(alloc, source, sink, outlet),

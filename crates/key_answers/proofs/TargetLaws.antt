@@ -24,7 +24,7 @@ use Rattle.reader_spec.specs.World.{World}
 use Rattle.readers.specs.Founded.{AreAllowed, Grows, StaysFounded}
 use Rattle.readers.specs.Told.{Told}
 use Rattle.readers.proofs.GrowthLaws.{are_allowed_before}
-use Rattle.readers.proofs.FoundedLaws.{none_allowed, one_allowed}
+use Rattle.readers.proofs.FoundedLaws.{none_allowed, one_allowed, stays_by, stays_grows, stays_when}
 use Rattle.key_answers.specs.Seen.{href_seen, last_target, target_carried, target_seen}
 
 -- An element of a document was written in it
@@ -144,10 +144,10 @@ module _ (roots : List (List ℕ)) (told : List Told) where
 pub title_founded : (told new : List Told) (homes : List (Option Whole)) (nodes : List PlanNode) (met : List ℕ)
     (target : Target) → target ≡ last_target homes nodes met → AreTold told homes
     → StaysFounded (option_to_list (local_name target)) told new → StaysFounded [] told new
-title_founded told new homes nodes met target is are stays = record {
-  by = λ roots none founded. stays.by roots (subst (λ t. AreAllowed roots told (option_to_list (local_name t))) (sym is)
-      (last_given roots told homes nodes met are)) founded;
-}
+title_founded told new homes nodes met target is are stays = stays_when [] told new (stays_grows _ told new stays)
+    (λ roots none founded. stays_by _ told new stays roots
+    (subst (λ t. AreAllowed roots told (option_to_list (local_name t))) (sym is)
+    (last_given roots told homes nodes met are)) founded)
 
 pub target_allowed : (roots : List (List ℕ)) (told new : List Told) (homes : List (Option Whole))
     (nodes : List PlanNode) (met : List ℕ) (target : Target) → target ≡ last_target homes nodes met

@@ -6,7 +6,7 @@ use Rattle.readers.specs.Documents.{AskedBy, AsksOnly, Covers, Follows, may_ask}
 use Rattle.readers.specs.Founded.{Grows, is_among}
 use Rattle.readers.specs.Props.{AskedBy-prop}
 use Rattle.readers.specs.Told.{Told, document, kind, title, first, key, pushes, page_of, pending, pending_document}
-use Rattle.readers.proofs.DocumentLaws.{may_ask_before, root_may}
+use Rattle.readers.proofs.DocumentLaws.{asks_by, asks_when, may_ask_before, root_may}
 use Rattle.readers.proofs.FoundedLaws.{among_append, none_among}
 use Rattle.key_layer.specs.Passing.{FollowsNoKey, PassesOn}
 
@@ -100,18 +100,17 @@ module _ (rule : Follows) (roots : List (List ℕ)) where
 pub asks_below : (follows : Follows) (names : List (List ℕ)) (start below above : List Told) → FollowsNoKey follows
     → Grows start below → PassesOn below above → AsksOnly follows names start above
     → AsksOnly follows names start below
-asks_below follows names start below above plain grows passed asks = record {
-  by = λ rule roots covers may asked.
-      let wide = reach rule roots start in
-      let inside : (m : List ℕ) → IsTrue (may_ask rule roots start m) → IsTrue (is_among wide m)
-      = λ m a. subst IsTrue (sym (reach_may rule roots start m)) a
-      in
-      let down : AskedBy (without_keys rule) wide below
-      = passed.asked (without_keys rule) wide (no_key rule)
-      (asks.by (without_keys rule) wide (covers_without rule follows plain covers)
-      (record { each = λ m among. root_may (without_keys rule) wide start m (inside m (may.each m among)) })
-      (asked_wider rule roots wide start inside asked))
-      in
-      ∥∥₁_elim grows.is (AskedBy-prop rule roots below) (λ p. subst (AskedBy rule roots) (sym p.1)
-      (asked_narrower rule roots start p.0 (subst (AskedBy (without_keys rule) wide) p.1 down) asked));
-}
+asks_below follows names start below above plain grows passed asks = asks_when follows names start below grows
+    (λ rule roots covers may asked.
+    let wide = reach rule roots start in
+    let inside : (m : List ℕ) → IsTrue (may_ask rule roots start m) → IsTrue (is_among wide m)
+    = λ m a. subst IsTrue (sym (reach_may rule roots start m)) a
+    in
+    let down : AskedBy (without_keys rule) wide below
+    = passed.asked (without_keys rule) wide (no_key rule)
+    (asks_by follows names start above asks (without_keys rule) wide (covers_without rule follows plain covers)
+    (record { each = λ m among. root_may (without_keys rule) wide start m (inside m (may.each m among)) })
+    (asked_wider rule roots wide start inside asked))
+    in
+    ∥∥₁_elim grows.is (AskedBy-prop rule roots below) (λ p. subst (AskedBy rule roots) (sym p.1)
+    (asked_narrower rule roots start p.0 (subst (AskedBy (without_keys rule) wide) p.1 down) asked)))

@@ -9,7 +9,7 @@ use Rattle.readers.specs.Setting.{Setting}
 use Rattle.readers.specs.Told.{Told, pending_document, pending}
 use Rattle.readers.specs.declared.questions.Note.{Note}
 use Rattle.readers.specs.declared.questions.Note.TheVariants.{PendingDocument}
-use Rattle.readers.proofs.DocumentLaws.{covers_nothing, may_ask_before, may_behind, none_may}
+use Rattle.readers.proofs.DocumentLaws.{asks_by, covers_nothing, may_ask_before, may_behind, none_may}
 use Rattle.readers.proofs.LayerLaws.{told_settled}
 use Rattle.key_layer.specs.Passing.{FollowsNoKey, PassesOn}
 
@@ -22,8 +22,8 @@ pub passes_tried : (names : List (List ℕ)) (below below' above above' : List T
 passes_tried names below below' above above' passed put grows asks = subst (PassesOn below') (sym put) (record {
   may = λ rule roots m plain may. may_ask_before rule roots below below' m grows
       (passed.may rule roots m plain (may_behind rule roots (pending names) above m (plain.tried names) may));
-  asked = λ rule roots plain a. asks.by rule roots (covers_nothing rule) (none_may rule roots below)
-      (passed.asked rule roots plain a.1);
+  asked = λ rule roots plain a. asks_by nothing [] below below' asks rule roots (covers_nothing rule)
+      (none_may rule roots below) (passed.asked rule roots plain a.1);
 })
 
 -- a document was sought, and then the reader below was asked for it
@@ -33,7 +33,7 @@ pub passes_sought : (name : List ℕ) (below below' above above' : List Told) �
 passes_sought name below below' above above' passed put grows asks = subst (PassesOn below') (sym put) (record {
   may = λ rule roots m plain may. may_ask_before rule roots below below' m grows
       (passed.may rule roots m plain (may_behind rule roots (pending_document name) above m (plain.sought name) may));
-  asked = λ rule roots plain a. asks.by rule roots (covers_nothing rule)
+  asked = λ rule roots plain a. asks_by nothing (name ∷ []) below below' asks rule roots (covers_nothing rule)
       (record { each = λ m among. passed.may rule roots m plain (a.0.each m among) })
       (passed.asked rule roots plain a.1);
 })

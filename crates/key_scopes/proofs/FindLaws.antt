@@ -1,5 +1,6 @@
--- What is found by the outermost own definition and the qualified keys around it is the definition of the key.
-use Rattle.std.specs.Prelude.{◌≡◌, ◌<◌, ◌≤◌, ◌==◌, ℕ, zero, suc, Bool, true, false, List, Option, Some, None, IfSome, length, nat_lt, if◌then◌else◌}
+-- What is found in a table that is made of nodes, by the outermost own definition and the qualified keys around it, is the
+-- definition of the key.
+use Rattle.std.specs.Prelude.{◌≡◌, ◌<◌, ◌≤◌, ◌==◌, ℕ, zero, suc, Bool, true, false, not, List, Option, Some, None, IfSome, length, nat_lt, if◌then◌else◌}
 use Rattle.std.specs.Option.{option_or}
 use Rattle.std.proofs.Common.{refl, sym, ap, ap₂, subst, ◌∙◌, arith}
 use Rattle.std.proofs.lemmas.Bool.{true≢false}
@@ -9,17 +10,22 @@ use Rattle.dita_doc.specs.declared.plan.PlanNode.{PlanNode}
 use Rattle.dita_doc.specs.declared.plan.Scope.{Scope}
 use Rattle.dita_doc.proofs.Lists.{option_or_none}
 use Rattle.key_scopes.specs.declared.definitions.Definition.{Definition}
-use Rattle.key_scopes.specs.Above.{AreInPreorder, IsAbove, around_in, encloses, parent_in, risen}
-use Rattle.key_scopes.specs.Made.{IsTableOf}
-use Rattle.key_scopes.specs.Outermost.{IsOutermost, IsOutermostAt}
-use Rattle.key_scopes.specs.Rising.{by_names, from_of, node_of, outermost_from, outermost_in, scope_within}
-use Rattle.key_scopes.specs.Table.{Table, firsts_of, own_in}
+use Rattle.key_scopes.specs.Above.{AreEndsFrom, AreInPreorder, IsAbove, around_in, encloses, parent_in, risen}
+use Rattle.key_scopes.specs.Defined.{AreStrict, count_upto, is_behind}
+use Rattle.key_scopes.specs.Found.{found_in, outermost_of, own_of}
+use Rattle.key_scopes.specs.Outermost.{AreTopped, IsOutermost, IsOutermostAt}
+use Rattle.key_scopes.specs.Rising.{by_names, from_of, node_of, scope_within}
+use Rattle.key_scopes.specs.Table.{Table, firsts_of}
+use Rattle.key_scopes.specs.Ways.{qualified_in}
 use Rattle.key_scopes.proofs.AboveLaws.{above_both, above_encloses, encloses_above}
-use Rattle.key_scopes.proofs.NestedLaws.{top_within}
-use Rattle.key_scopes.proofs.PastLaws.{has_dot, own_past, qualified_past, qualified_without}
-use Rattle.key_scopes.proofs.RiseLaws.{defined_of, none_own, own_of, risen_to, some_own, stays, up}
-use Rattle.key_scopes.proofs.RisingLaws.{around_other, around_root, parent_low, parent_or_root}
-use Rattle.map_spec.specs.Scopes.{definition_found, found_from, own, own_or_qualified, parent_of, scopes}
+use Rattle.key_scopes.proofs.CountLaws.{count_parts, count_within}
+use Rattle.key_scopes.proofs.NestedLaws.{nested_by, top_within}
+use Rattle.key_scopes.proofs.OutermostLaws.{outermost_halved, parted_behind}
+use Rattle.key_scopes.proofs.PastLaws.{own_past, qualified_past}
+use Rattle.key_scopes.proofs.RiseLaws.{defined_of, none_own, outermost_from, outermost_in, own_there, risen_to, some_own, stays, up}
+use Rattle.key_scopes.proofs.RisingLaws.{around_other, around_root, parent_low, parent_or_root, up_is}
+use Rattle.key_scopes.proofs.WayLaws.{qualified_is}
+use Rattle.map_spec.specs.Scopes.{definition_found, found_from, own, own_or_qualified, parent_of, qualified, scopes}
 use Rattle.reader_spec.specs.World.{World}
 
 -- what stands around a scope of the table
@@ -44,15 +50,33 @@ some_of : (a : Option ℕ) (n : ℕ) → (x : ℕ) × (option_or a (Some n) ≡ 
 some_of None n = (n, refl)
 some_of (Some a) n = (a, refl)
 
-module _ (world : World) (nodes : List PlanNode) (table : Table) (is : IsTableOf world nodes table) (key : List ℕ) where
+-- how a table is made of nodes: the scopes stand in preorder and end where those in them do; the definitions, each with the
+-- outermost one around it, are each scope's own ones, in their order
+pub record IsMadeOf (world : World) (nodes : List PlanNode) (table : Table) : Type 0 where
+  pub scopes : table.scopes ≡ scopes nodes
+  pub ordered : AreInPreorder (parent_in table.scopes) (length table.scopes)
+  pub ends : AreEndsFrom (parent_in table.scopes) (length table.scopes) 0 table.ends
+  pub strict : AreStrict (firsts_of table.definitions)
+  pub topped : AreTopped table.ends table.definitions
+  pub own : (scope : ℕ) (key : List ℕ) → own_of table scope key ≡ own world nodes scope key
+
+module _ (world : World) (nodes : List PlanNode) (table : Table) (is : IsMadeOf world nodes table) (key : List ℕ) where
   abbrev all : List Scope
   all = table.scopes
 
   abbrev own_at : ℕ → Option ℕ
-  own_at scope = own_in (firsts_of table.definitions) scope key
+  own_at scope = own_of table scope key
 
   abbrev by : ℕ → Option ℕ
-  by = by_names world nodes key
+  by = by_names all (own_of table) key
+
+  by_is : (scope : ℕ) → qualified (length key) world nodes scope key ≡ by scope
+  by_is scope =
+      let same : scopes nodes ≡ all = sym is.scopes in
+      let own_is : (at : ℕ) (text : List ℕ) → own world nodes at text ≡ own_of table at text =
+      λ at text. sym (is.own at text) in
+      qualified_is (length key) world nodes scope key
+      ∙ (λ i. qualified_in (length key) (same i) (λ at text. own_is at text i) scope key)
 
   abbrev both : ℕ → Option ℕ
   both scope = option_or (own_at scope) (by scope)
@@ -61,7 +85,7 @@ module _ (world : World) (nodes : List PlanNode) (table : Table) (is : IsTableOf
   low = parent_low all is.ordered
 
   both_is : (scope : ℕ) → own_or_qualified world nodes scope key ≡ both scope
-  both_is scope = ap (λ one. option_or one (by scope)) (sym (is.own scope key))
+  both_is scope = ap₂ option_or (sym (is.own scope key)) (by_is scope)
 
   -- the definition, said over the table
   found_is : (steps scope : ℕ) → found_from steps world nodes scope key ≡ outermost_in steps both all scope
@@ -126,7 +150,7 @@ module _ (world : World) (nodes : List PlanNode) (table : Table) (is : IsTableOf
         let top_in = top_within (parent_in all) (length all) table.ends is.ends top.scope scope outermost.around in
         let above = above_encloses (parent_in all) (length all) is.ordered table.ends is.ends top.scope scope within
         top_in outermost.around in
-        let here = own_of table.definitions top.scope key outermost.at top is.strict outermost.is outermost.of_key
+        let here = own_there table.definitions top.scope key outermost.at top is.strict outermost.is outermost.of_key
         refl in
         let there = some_own all low own_at by top.node top.scope here (none_outside top outermost above)
         (around_is all is.ordered top.scope top_in) in
@@ -167,7 +191,7 @@ module _ (world : World) (nodes : List PlanNode) (table : Table) (is : IsTableOf
           let ordered = subst (λ some. AreInPreorder (parent_in some) (length some)) is.scopes is.ordered in
           let none : both scope ≡ None =
           ap₂ option_or (is.own scope key ∙ own_past world nodes scope key far)
-          (qualified_past (length key) world nodes scope key ordered far) in
+          (sym (by_is scope) ∙ qualified_past (length key) world nodes scope key ordered far) in
           let root : parent_in all scope ≡ 0 = ap parent_or_root (slice_get_past all scope out) in
           found_is scope scope ∙ up all low both scope some
           ∙ ap₂ option_or (ap (risen_to all low both) root) none
@@ -193,17 +217,18 @@ module _ (world : World) (nodes : List PlanNode) (table : Table) (is : IsTableOf
           let more : 0 < length all = omega (arith, long, some) in
           rw e more
 
-  -- a key without a dot is found by no names
-  pub none_by_names : has_dot key ≡ false → (from : Option ℕ) → None ≡ outermost_from by all from
-  none_by_names without None = refl
-  none_by_names without (Some scope) = sym (none_up scope scope)
-    where
-      none_up : (steps at : ℕ) → outermost_in steps by all at ≡ None
-      none_up zero at = qualified_without (length key) world nodes at key without
-      none_up (suc steps) at =
-          by_root (none_up steps (parent_in all at)) (at == 0) refl
-        where
-          by_root : outermost_in steps by all (parent_in all at) ≡ None → (a : Bool) → (at == 0) ≡ a
-              → outermost_in (suc steps) by all at ≡ None
-          by_root behind true e = rw e (qualified_without (length key) world nodes at key without)
-          by_root behind false e = rw (e, behind) (qualified_without (length key) world nodes at key without)
+  -- what is found in the table is the definition
+  pub found_is_definition : (scope : ℕ) → found_in table scope key ≡ definition_found world nodes scope key
+  found_is_definition scope =
+      let here = scope_within all scope in
+      let within = within_table scope in
+      let top = outermost_of table here key in
+      let definitions = table.definitions in
+      let nested = nested_by (parent_in all) (length all) table.ends is.ordered is.ends in
+      let outermost : IsOutermost table.ends definitions here key top =
+      outermost_halved table.ends definitions here key (count_upto here key definitions) nested is.strict is.topped
+      (count_within (λ d. not (is_behind here key d)) definitions)
+      (count_parts (λ d. not (is_behind here key d)) definitions (parted_behind here key definitions is.strict)) in
+      ap (λ one. option_or one (node_of top))
+      (up_is all is.ordered by (from_of all here top) (from_within here within top outermost))
+      ∙ sym (found_within here within top outermost) ∙ sym (found_scope scope)

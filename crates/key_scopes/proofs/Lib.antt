@@ -11,6 +11,7 @@ pub mod OwnKeyLaws
 pub mod OrderLaws
 pub mod SortedLaws
 pub mod ChildLaws
+pub mod CountLaws
 pub mod StrictLaws
 pub mod NestedLaws
 pub mod ToppedLaws

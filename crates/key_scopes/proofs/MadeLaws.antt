@@ -6,12 +6,12 @@ use Rattle.std.proofs.lemmas.List.{length-append, take_all}
 use Rattle.dita_doc.specs.declared.plan.PlanNode.{PlanNode}
 use Rattle.key_scopes.specs.declared.numbering.Numbering.{Numbering}
 use Rattle.key_scopes.specs.Above.{AreEndsFrom, AreInPreorder, parent_in}
-use Rattle.key_scopes.specs.Children.{AreChildNames}
 use Rattle.key_scopes.specs.Defined.{IsTableBy}
 use Rattle.key_scopes.specs.Made.{IsTableOf}
 use Rattle.key_scopes.specs.Numbered.{AreNumbered, entries, entries_at, faults_at, place_in, scope_placed}
 use Rattle.key_scopes.specs.OwnKeys.{by_level, rows_by}
 use Rattle.key_scopes.specs.Table.{Table, firsts_of}
+use Rattle.key_scopes.proofs.FindLaws.{IsMadeOf, found_is_definition}
 use Rattle.key_scopes.proofs.OwnKeyLaws.{own_rows}
 use Rattle.key_scopes.proofs.OwnLaws.{own_is}
 use Rattle.plan_nodes.proofs.PlaceLaws.{known_at}
@@ -68,20 +68,23 @@ module _ (world : World) (nodes : List PlanNode) (known : Numbering)
       → IsTableBy (length nodes) known.scopes (entries known.written.items) table
       → IsTableOf world nodes table
   all_own tree table is =
-      let same = is.scopes ∙ all_scopes in
+      let same : table.scopes ≡ scopes nodes = is.scopes ∙ all_scopes in
       let ordered : AreInPreorder (parent_in table.scopes) (length table.scopes) =
       subst (λ all. AreInPreorder (parent_in all) (length all)) (sym same)
       (scopes_ordered nodes (tree_ordered nodes tree) (tree_parents nodes tree)) in
-      record {
+      let made : IsMadeOf world nodes table = record {
         scopes = same;
         ordered = ordered;
         ends = subst (λ all. AreEndsFrom (parent_in all) (length all) 0 table.ends) (sym is.scopes)
             (is.ends (subst (λ all. AreInPreorder (parent_in all) (length all)) is.scopes ordered));
         strict = firsts_strict (length nodes) (entries known.written.items) (firsts_of table.definitions) is.firsts;
         topped = is.topped;
-        children = subst (λ all. AreChildNames all table.names table.longest) (sym is.scopes) is.children;
         own = λ scope key. own_is world nodes scope key (length nodes) (entries known.written.items)
             (firsts_of table.definitions) refl all_entries is.firsts;
+      } in
+      record {
+        scopes = same;
+        found = λ scope key. found_is_definition world nodes table made key scope;
         own_keys = is.own_keys
             ∙ (λ i. rows_by (length (all_scopes i)) (by_level (length nodes) (all_entries i))) ∙ own_rows world nodes;
       }

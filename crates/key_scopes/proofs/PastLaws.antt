@@ -1,16 +1,21 @@
 -- What is not found: nothing in a scope beyond the table, and no qualified key without a dot.
-use Rattle.std.specs.Prelude.{◌≡◌, ◌+◌, ◌<◌, ◌≤◌, ◌==◌, ◌&&◌, ◌++◌, ◌⊎◌, ℕ, zero, suc, Bool, true, false, not, List, [], ◌∷◌, Option, Some, None, codes, filter, find, length, map, nat_lt, slice_get}
+use Rattle.std.specs.Prelude.{◌≡◌, ◌+◌, ◌<◌, ◌≤◌, ◌==◌, ◌&&◌, ◌++◌, ◌⊎◌, ℕ, zero, suc, Bool, true, false, not, List, [], ◌∷◌, Option, Some, None, codes, filter, find, is_some, length, nat_lt, slice_get}
 use Rattle.std.specs.List.{flat_map, list_any}
-use Rattle.std.specs.Option.{option_and_then, option_map_or, option_or}
+use Rattle.std.specs.Option.{option_map_or}
 use Rattle.std.proofs.Common.{refl, sym, ap, ◌∙◌, arith, inl, inr}
 use Rattle.std.proofs.lemmas.Bool.{cases_Bool, true≢false}
 use Rattle.std.proofs.lemmas.Bool.Decides.{nat_tests}
 use Rattle.dita_doc.specs.declared.plan.PlanNode.{PlanNode}
 use Rattle.dita_doc.specs.declared.plan.Scope.{Scope}
+use Rattle.dita_doc.proofs.Tests.{and_false}
+use Rattle.key_scopes.specs.declared.children.ChildName.{ChildName}
 use Rattle.key_scopes.specs.Above.{AreInPreorder, parent_in}
+use Rattle.key_scopes.specs.Children.{all_names}
+use Rattle.key_scopes.specs.Ways.{answers, leads, qualified_in}
 use Rattle.key_scopes.proofs.ScopeTreeLaws.{begun_within}
+use Rattle.key_scopes.proofs.WayLaws.{tried_in}
 use Rattle.map_spec.specs.Cascade.{places_up}
-use Rattle.map_spec.specs.Scopes.{begins, behind, child_scopes, first_found, has_scope_name, is_at_level, is_child_of, is_in_scope, numbered, own, own_places, places, qualified, scope_at, scope_on, scopes}
+use Rattle.map_spec.specs.Scopes.{begins, behind, child_scopes, has_scope_name, is_at_level, is_child_of, is_in_scope, numbered, own, own_places, places, qualified, scope_at, scope_on, scopes}
 use Rattle.reader_spec.specs.World.{World}
 
 -- The scope of each node is in the table
@@ -141,27 +146,17 @@ no_dot (b ∷ name) (c ∷ key) none =
     by_one more false true e f = rw f (more (rw e at none))
     by_one more false false e f = rw f refl
 
-none_found : {X : Type 0} (f : X → Option ℕ) (xs : List X) (rest : List (Option ℕ)) → ((x : X) → f x ≡ None)
-    → first_found (map f xs ++ rest) ≡ first_found rest
-none_found f [] rest none = refl
-none_found f (x ∷ xs) rest none = rw (none x) (none_found f xs rest none)
+none_leads : (scope : ℕ) (key : List ℕ) (names : List ChildName) → has_dot key ≡ false
+    → filter (leads scope key) names ≡ []
+none_leads scope key [] none = refl
+none_leads scope key (name ∷ names) none =
+    let no : leads scope key name ≡ false =
+    ap (λ rest. (name.parent == scope) && is_some rest) (no_dot name.name key none) ∙ and_false (name.parent == scope) in
+    rw no (none_leads scope key names none)
 
-none_of_all : (f : Scope × ℕ → List ℕ → Option ℕ) (children : List (Scope × ℕ))
-    → ((child : Scope × ℕ) (name : List ℕ) → f child name ≡ None)
-    → first_found (flat_map (λ (child : Scope × ℕ). map (f child) child.0.names) children) ≡ None
-none_of_all f [] none = refl
-none_of_all f (child ∷ children) none =
-    none_found (f child) child.0.names (flat_map (λ (child : Scope × ℕ). map (f child) child.0.names) children)
-    (none child)
-    ∙ none_of_all f children none
-
-pub qualified_without : (steps : ℕ) (world : World) (nodes : List PlanNode) (scope : ℕ) (key : List ℕ)
-    → has_dot key ≡ false → qualified steps world nodes scope key ≡ None
-unfolding qualified
-qualified_without zero world nodes scope key none = refl
-qualified_without (suc steps) world nodes scope key none =
-    none_of_all (λ child name. option_and_then (λ rest.
-    option_or (own world nodes child.1 rest) (qualified steps world nodes child.1 rest))
-    (behind (name ++ codes ".") key)) (child_scopes nodes scope)
-    (λ child name. ap (option_and_then (λ rest.
-    option_or (own world nodes child.1 rest) (qualified steps world nodes child.1 rest))) (no_dot name key none))
+pub qualified_without : (steps : ℕ) (all : List Scope) (own_at : ℕ → List ℕ → Option ℕ) (scope : ℕ) (key : List ℕ)
+    → has_dot key ≡ false → qualified_in steps all own_at scope key ≡ None
+unfolding qualified_in
+qualified_without zero all own_at scope key none = refl
+qualified_without (suc steps) all own_at scope key none =
+    ap (answers (tried_in steps all own_at) key) (none_leads scope key (all_names all) none)

@@ -9,10 +9,19 @@ use Rattle.dita_doc.proofs.Tests.{equal_text, first_holds, same_text, second_hol
 use Rattle.key_scopes.specs.declared.definitions.Definition.{Definition}
 use Rattle.key_scopes.specs.Above.{around_in, parent_in, risen}
 use Rattle.key_scopes.specs.Defined.{AreStrict, first_order}
-use Rattle.key_scopes.specs.Rising.{outermost_from, outermost_in}
 use Rattle.key_scopes.specs.Table.{first_of, firsts_of, is_first, own_in}
 use Rattle.key_scopes.proofs.OrderLaws.{equal_one}
-use Rattle.map_spec.specs.Scopes.{definition_found}
+
+-- So many parents around a scope may be looked at
+
+abbrev pub outermost_in : ℕ → (ℕ → Option ℕ) → List Scope → ℕ → Option ℕ
+outermost_in zero answer scopes scope = answer scope
+outermost_in (suc steps) answer scopes scope = if scope == 0 then answer scope
+    else option_or (outermost_in steps answer scopes (parent_in scopes scope)) (answer scope)
+
+abbrev pub outermost_from : (ℕ → Option ℕ) → List Scope → Option ℕ → Option ℕ
+outermost_from answer scopes None = None
+outermost_from answer scopes (Some scope) = outermost_in scope answer scopes scope
 
 -- Rising by parents that stand before
 
@@ -128,19 +137,19 @@ defined_of (first ∷ definitions) scope key node found =
         }
 
 -- a definition that is there is the scope's own
-pub own_of : (definitions : List Definition) (scope : ℕ) (key : List ℕ) (at : ℕ) (top : Definition)
+pub own_there : (definitions : List Definition) (scope : ℕ) (key : List ℕ) (at : ℕ) (top : Definition)
     → AreStrict (firsts_of definitions) → slice_get definitions at ≡ Some top → top.key ≡ key → top.scope ≡ scope
     → own_in (firsts_of definitions) scope key ≡ Some top.node
-own_of [] scope key at top strict is same_key same_scope = cc
-own_of (first ∷ definitions) scope key zero top strict is same_key same_scope =
+own_there [] scope key at top strict is same_key same_scope = cc
+own_there (first ∷ definitions) scope key zero top strict is same_key same_scope =
     let same : first ≡ top = cc in
     let here : is_first scope key (first_of first) ≡ true =
     and_from (first.scope == scope) (bytes_eq key first.key)
     (eq-eqb first.scope scope (ap (λ (d : Definition). d.scope) same ∙ same_scope))
     (equal_text key first.key (sym (ap (λ (d : Definition). d.key) same ∙ same_key))) in
     rw here (ap (λ (d : Definition). Some d.node) same)
-own_of (first ∷ definitions) scope key (suc at) top strict is same_key same_scope =
-    by_one (own_of definitions scope key at top
+own_there (first ∷ definitions) scope key (suc at) top strict is same_key same_scope =
+    by_one (own_there definitions scope key at top
     (λ i j d less within. strict (suc i) (suc j) d (omega (arith, less)) (omega (arith, within))) is same_key same_scope)
     (is_first scope key (first_of first)) refl
   where

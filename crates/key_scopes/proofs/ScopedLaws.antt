@@ -9,7 +9,7 @@ use Rattle.key_scopes.specs.Table.{Table}
 use Rattle.key_scopes.specs.declared.made.ScopesMade.{ScopesMade}
 use Rattle.map_lemmas.specs.Alike.{AreAlike}
 use Rattle.map_lemmas.proofs.CarriedLaws.{alike_scoped}
-use Rattle.map_lemmas.proofs.ScopeLaws.{same_keys_defined, same_name_faults, same_own, same_own_places, same_scope_at, same_scopes}
+use Rattle.map_lemmas.proofs.ScopeLaws.{same_found, same_keys_defined, same_name_faults, same_own_places, same_scope_at, same_scopes}
 use Rattle.map_spec.specs.Scopes.{name_faults, places_from, scoped, scoped_from}
 use Rattle.reader_spec.specs.World.{World}
 
@@ -25,12 +25,7 @@ pub table_of_scoped : (world : World) (nodes : List PlanNode) (table : Table) �
     → IsTableOf world (scoped nodes) table
 table_of_scoped world nodes table is = record {
   scopes = is.scopes ∙ same_scopes nodes (scoped nodes) (alike_scoped nodes);
-  ordered = is.ordered;
-  ends = is.ends;
-  strict = is.strict;
-  topped = is.topped;
-  children = is.children;
-  own = λ scope key. is.own scope key ∙ same_own world nodes (scoped nodes) (alike_scoped nodes) scope key;
+  found = λ scope key. is.found scope key ∙ same_found world nodes (scoped nodes) (alike_scoped nodes) scope key;
   own_keys = is.own_keys ∙ same_own_keys world nodes (scoped nodes) (alike_scoped nodes);
 }
 

@@ -1,5 +1,5 @@
--- The definitions by qualified keys, way by way.
-use Rattle.std.specs.Prelude.{◌≡◌, ◌+◌, ◌<◌, ◌==◌, ◌&&◌, ℕ, suc, Bool, true, false, List, [], ◌∷◌, ◌++◌, Option, Some, None, filter, find, length, map, option_map, slice_get}
+-- The definitions by qualified keys, way by way: those of the language, and those of a search over scopes.
+use Rattle.std.specs.Prelude.{◌≡◌, ◌+◌, ◌<◌, ◌≤◌, ◌==◌, ◌&&◌, ℕ, zero, suc, Bool, true, false, List, [], ◌∷◌, ◌++◌, Option, Some, None, filter, find, length, map, option_map, slice_get}
 use Rattle.std.specs.List.{All, filter_map, flat_map}
 use Rattle.std.specs.Option.{option_and_then, option_or}
 use Rattle.std.proofs.Common.{refl, sym, ap, subst, ◌∙◌, arith}
@@ -13,14 +13,13 @@ use Rattle.dita_doc.proofs.Tests.{and_false, and_true, second_holds}
 use Rattle.key_scopes.specs.declared.children.ChildName.{ChildName}
 use Rattle.key_scopes.specs.Children.{all_names, child_names_of, ranked}
 use Rattle.key_scopes.specs.Rising.{by_names}
-use Rattle.key_scopes.specs.Ways.{AreInTurn, Way, is_behind, is_later, leads, next_way, way_in}
+use Rattle.key_scopes.specs.Ways.{AreInTurn, Way, answers, is_behind, is_later, leads, next_way, qualified_in, way_in}
 use Rattle.key_scopes.proofs.DotLaws.{all_each, behind_dot, cut, leads_short}
 use Rattle.key_scopes.proofs.FirstLaws.{find_is}
 use Rattle.key_scopes.proofs.OptionLaws.{or_assoc}
 use Rattle.key_scopes.proofs.TurnLaws.{all_in_turn, later_trans, not_itself, not_later}
 use Rattle.map_spec.specs.Scopes.{begins, behind, first_found, is_child_of, numbered, own, places, qualified, scope_begun, scopes}
 use Rattle.reader_spec.specs.World.{World}
-use Rattle.map_lemmas.proofs.KeyLaws.{qualified_same}
 
 -- Lists of answers
 
@@ -43,10 +42,6 @@ filter_append p (x ∷ xs) ys = by_one (filter_append p xs ys) (p x) refl
         → filter p ((x ∷ xs) ++ ys) ≡ filter p (x ∷ xs) ++ filter p ys
     by_one behind true e = rw e (ap (λ some. x ∷ some) behind)
     by_one behind false e = rw e behind
-
--- the first answer of the ways by some names
-abbrev pub answers : (Way → Option ℕ) → List ℕ → List ChildName → Option ℕ
-answers try key names = first_found (map (λ name. try (way_in key name)) names)
 
 answers_append : (try : Way → Option ℕ) (key : List ℕ) (xs ys : List ChildName)
     → answers try key (xs ++ ys) ≡ option_or (answers try key xs) (answers try key ys)
@@ -162,6 +157,25 @@ by_ways steps world nodes scope key =
     (λ child rest. option_or (own world nodes child rest) (qualified steps world nodes child rest)) scope key
     (λ child rank rest. refl) 1 (begun nodes) (omega arith)
 
+abbrev pub tried_in : ℕ → List Scope → (ℕ → List ℕ → Option ℕ) → Way → Option ℕ
+tried_in steps all own_at way =
+    option_or (own_at way.child way.rest) (qualified_in steps all own_at way.child way.rest)
+
+pub by_ways_in : (steps : ℕ) (all : List Scope) (own_at : ℕ → List ℕ → Option ℕ) (scope : ℕ) (key : List ℕ)
+    → qualified_in (suc steps) all own_at scope key
+    ≡ answers (tried_in steps all own_at) key (filter (leads scope key) (all_names all))
+unfolding qualified_in
+by_ways_in steps all own_at scope key = refl
+
+-- over the scopes and the own definitions of nodes, the search finds what the language does
+pub qualified_is : (steps : ℕ) (world : World) (nodes : List PlanNode) (scope : ℕ) (key : List ℕ)
+    → qualified steps world nodes scope key ≡ qualified_in steps (scopes nodes) (own world nodes) scope key
+unfolding qualified qualified_in
+qualified_is zero world nodes scope key = refl
+qualified_is (suc steps) world nodes scope key = by_ways steps world nodes scope key
+    ∙ (λ i. answers (λ (way : Way). option_or (own world nodes way.child way.rest)
+    (qualified_is steps world nodes way.child way.rest i)) key (filter (leads scope key) (all_names (scopes nodes))))
+
 -- Steps beyond a key's length change nothing
 
 same_answers : (f g : Way → Option ℕ) (scope : ℕ) (key : List ℕ) (names : List ChildName)
@@ -187,16 +201,41 @@ shorter scope key name e =
     let low = leads_short scope key name e in
     omega (arith, low, length-drop (length name.name + 1) key)
 
+none_lead : (scope : ℕ) (key : List ℕ) (names : List ChildName) → length key ≤ 0 → filter (leads scope key) names ≡ []
+none_lead scope key [] short = refl
+none_lead scope key (name ∷ names) short =
+    by_one (none_lead scope key names short) (leads scope key name) refl
+  where
+    by_one : filter (leads scope key) names ≡ [] → (a : Bool) → leads scope key name ≡ a
+        → filter (leads scope key) (name ∷ names) ≡ []
+    by_one behind true e = let low = shorter scope key name e in absurd (omega (arith, low, short))
+    by_one behind false e = rw e behind
+
+module _ (all : List Scope) (own_at : ℕ → List ℕ → Option ℕ) where
+  same_steps : (n m scope : ℕ) (key : List ℕ) → length key ≤ n → length key ≤ m
+      → qualified_in n all own_at scope key ≡ qualified_in m all own_at scope key
+  unfolding qualified_in
+  same_steps zero zero scope key first second = refl
+  same_steps zero (suc m) scope key first second =
+      sym (ap (answers (tried_in m all own_at) key) (none_lead scope key (all_names all) first))
+  same_steps (suc n) zero scope key first second =
+      ap (answers (tried_in n all own_at) key) (none_lead scope key (all_names all) second)
+  same_steps (suc n) (suc m) scope key first second =
+      same_answers (tried_in n all own_at) (tried_in m all own_at) scope key (all_names all)
+      (λ name e. let short = shorter scope key name e in
+      ap (option_or (own_at name.child (way_in key name).rest))
+      (same_steps n m name.child (way_in key name).rest (omega (arith, short, first)) (omega (arith, short, second))))
+
 -- The search, way by way
 
 -- by a way the scope's own definition, or again one by a way
-abbrev pub by_way : World → List PlanNode → Way → Option ℕ
-by_way world nodes way = option_or (own world nodes way.child way.rest) (by_names world nodes way.rest way.child)
+abbrev pub by_way : List Scope → (ℕ → List ℕ → Option ℕ) → Way → Option ℕ
+by_way all own_at way = option_or (own_at way.child way.rest) (by_names all own_at way.rest way.child)
 
 -- of the ways behind the last one
-abbrev pub behind_way : World → List PlanNode → ℕ → List ℕ → Option Way → Option ℕ
-behind_way world nodes scope key last = answers (by_way world nodes) key
-    (filter (λ name. leads scope key name && is_behind last name) (all_names (scopes nodes)))
+abbrev pub behind_way : List Scope → (ℕ → List ℕ → Option ℕ) → ℕ → List ℕ → Option Way → Option ℕ
+behind_way all own_at scope key last = answers (by_way all own_at) key
+    (filter (λ name. leads scope key name && is_behind last name) (all_names all))
 
 filter_same : (p q : ChildName → Bool) (names : List ChildName) → All (λ n. p n ≡ q n) names
     → filter p names ≡ filter q names
@@ -210,19 +249,19 @@ filter_same p q (name ∷ names) same =
     by_one behind true e f = rw (f, e) (ap (λ some. name ∷ some) behind)
     by_one behind false e f = rw (f, e) behind
 
-pub by_all_ways : (world : World) (nodes : List PlanNode) (scope : ℕ) (key : List ℕ)
-    → by_names world nodes key scope ≡ behind_way world nodes scope key None
-by_all_ways world nodes scope key =
-    qualified_same (length key) (suc (length key)) world nodes scope key (omega arith) (omega arith)
-    ∙ by_ways (length key) world nodes scope key
-    ∙ same_answers (tried (length key) world nodes) (by_way world nodes) scope key (all_names (scopes nodes))
+pub by_all_ways : (all : List Scope) (own_at : ℕ → List ℕ → Option ℕ) (scope : ℕ) (key : List ℕ)
+    → by_names all own_at key scope ≡ behind_way all own_at scope key None
+by_all_ways all own_at scope key =
+    same_steps all own_at (length key) (suc (length key)) scope key (omega arith) (omega arith)
+    ∙ by_ways_in (length key) all own_at scope key
+    ∙ same_answers (tried_in (length key) all own_at) (by_way all own_at) scope key (all_names all)
     (λ name e. let short = shorter scope key name e in
-    ap (option_or (own world nodes name.child (way_in key name).rest))
-    (qualified_same (length key) (length (way_in key name).rest) world nodes name.child (way_in key name).rest
+    ap (option_or (own_at name.child (way_in key name).rest))
+    (same_steps all own_at (length key) (length (way_in key name).rest) name.child (way_in key name).rest
     (omega (arith, short)) (omega arith)))
-    ∙ ap (answers (by_way world nodes) key) (filter_same (leads scope key) (λ name. leads scope key name && true)
-    (all_names (scopes nodes)) (all_each (λ name. leads scope key name ≡ (leads scope key name && true))
-    (all_names (scopes nodes)) (λ name. sym (and_true (leads scope key name)))))
+    ∙ ap (answers (by_way all own_at) key) (filter_same (leads scope key) (λ name. leads scope key name && true)
+    (all_names all) (all_each (λ name. leads scope key name ≡ (leads scope key name && true))
+    (all_names all) (λ name. sym (and_true (leads scope key name)))))
 
 filter_nothing : (p : ChildName → Bool) (names : List ChildName) → find p names ≡ None → filter p names ≡ []
 filter_nothing p [] none = refl
@@ -232,18 +271,18 @@ filter_nothing p (name ∷ names) none = by_one (λ there. filter_nothing p name
     by_one behind true e = let there = rw e at none in absurd (cc)
     by_one behind false e = rw e (behind (rw e at none))
 
-pub no_way_behind : (world : World) (nodes : List PlanNode) (scope : ℕ) (key : List ℕ) (last : Option Way)
-    → next_way (scopes nodes) scope key last ≡ None → behind_way world nodes scope key last ≡ None
-no_way_behind world nodes scope key last none =
-    ap (answers (by_way world nodes) key)
-    (filter_nothing (λ name. leads scope key name && is_behind last name) (all_names (scopes nodes))
-    (by_found (find (λ name. leads scope key name && is_behind last name) (all_names (scopes nodes))) refl none))
+pub no_way_behind : (all : List Scope) (own_at : ℕ → List ℕ → Option ℕ) (scope : ℕ) (key : List ℕ) (last : Option Way)
+    → next_way all scope key last ≡ None → behind_way all own_at scope key last ≡ None
+no_way_behind all own_at scope key last none =
+    ap (answers (by_way all own_at) key)
+    (filter_nothing (λ name. leads scope key name && is_behind last name) (all_names all)
+    (by_found (find (λ name. leads scope key name && is_behind last name) (all_names all)) refl none))
   where
     by_found : (found : Option ChildName)
-        → find (λ name. leads scope key name && is_behind last name) (all_names (scopes nodes)) ≡ found
-        → option_map (way_in key) (find (λ name. leads scope key name && is_behind last name) (all_names (scopes nodes)))
+        → find (λ name. leads scope key name && is_behind last name) (all_names all) ≡ found
+        → option_map (way_in key) (find (λ name. leads scope key name && is_behind last name) (all_names all))
         ≡ None
-        → find (λ name. leads scope key name && is_behind last name) (all_names (scopes nodes)) ≡ None
+        → find (λ name. leads scope key name && is_behind last name) (all_names all) ≡ None
     by_found None e f = e
     by_found (Some name) e f = let there = rw e at f in absurd (cc)
 
@@ -293,25 +332,25 @@ split_first scope key last (name ∷ names) first turn is =
         ap (λ a. leads scope key name && a) (not_later name first later) ∙ and_false (leads scope key name) in
         rw (e, none) (behind there)
 
-pub way_behind : (world : World) (nodes : List PlanNode) (scope : ℕ) (key : List ℕ) (last : Option Way) (way : Way)
-    → next_way (scopes nodes) scope key last ≡ Some way
-    → behind_way world nodes scope key last
-    ≡ option_or (by_way world nodes way) (behind_way world nodes scope key (Some way))
-way_behind world nodes scope key last way is =
-    by_found (find (λ name. leads scope key name && is_behind last name) (all_names (scopes nodes))) refl
+pub way_behind : (all : List Scope) (own_at : ℕ → List ℕ → Option ℕ) (scope : ℕ) (key : List ℕ) (last : Option Way) (way : Way)
+    → next_way all scope key last ≡ Some way
+    → behind_way all own_at scope key last
+    ≡ option_or (by_way all own_at way) (behind_way all own_at scope key (Some way))
+way_behind all own_at scope key last way is =
+    by_found (find (λ name. leads scope key name && is_behind last name) (all_names all)) refl
   where
     by_found : (found : Option ChildName)
-        → find (λ name. leads scope key name && is_behind last name) (all_names (scopes nodes)) ≡ found
-        → behind_way world nodes scope key last
-        ≡ option_or (by_way world nodes way) (behind_way world nodes scope key (Some way))
+        → find (λ name. leads scope key name && is_behind last name) (all_names all) ≡ found
+        → behind_way all own_at scope key last
+        ≡ option_or (by_way all own_at way) (behind_way all own_at scope key (Some way))
     by_found None e =
         let none : None ≡ Some way = sym (ap (option_map (way_in key)) e) ∙ is in absurd (cc)
     by_found (Some name) e =
         let some : Some (way_in key name) ≡ Some way = sym (ap (option_map (way_in key)) e) ∙ is in
         let same : way_in key name ≡ way = cc in
-        subst (λ w. behind_way world nodes scope key last
-        ≡ option_or (by_way world nodes w) (behind_way world nodes scope key (Some w))) same
-        (ap (answers (by_way world nodes) key) (split_first scope key last (all_names (scopes nodes)) name
-        (all_in_turn (scopes nodes)) e)
-        ∙ first_cons (by_way world nodes (way_in key name)) (map (λ n. by_way world nodes (way_in key n))
-        (filter (λ n. leads scope key n && is_later name.child name.rank n) (all_names (scopes nodes)))))
+        subst (λ w. behind_way all own_at scope key last
+        ≡ option_or (by_way all own_at w) (behind_way all own_at scope key (Some w))) same
+        (ap (answers (by_way all own_at) key) (split_first scope key last (all_names all) name
+        (all_in_turn all) e)
+        ∙ first_cons (by_way all own_at (way_in key name)) (map (λ n. by_way all own_at (way_in key n))
+        (filter (λ n. leads scope key n && is_later name.child name.rank n) (all_names all))))

@@ -1,11 +1,12 @@
 -- The first definitions of keys (own): of the entries in their order the first of each key in each scope.
-use Rattle.std.specs.Prelude.{◌≡◌, ◌<◌, ◌≤◌, ◌++◌, ℕ, Bool, false, List, [], ◌∷◌, Option, Some, None, filter, length, nat_lt, slice_get, if◌then◌else◌}
+use Rattle.std.specs.Prelude.{◌≡◌, ◌<◌, ◌≤◌, ◌++◌, ℕ, Bool, false, not, List, [], ◌∷◌, Option, Some, None, filter, length, nat_lt, slice_get, if◌then◌else◌}
 use Rattle.std.specs.Cmp.Lexicographic.{slice_cmp}
 use Rattle.std.specs.List.Sorted.{IsPermutation}
 use Rattle.std.specs.Option.{option_and_then}
 use Rattle.std.specs.Ordering.{is_eq, is_gt, is_lt, nat_cmp, ordering_then}
 use Rattle.std.proofs.Common.{Ordering, Less, get_or}
 use Rattle.dita_doc.specs.declared.plan.Scope.{Scope}
+use Rattle.key_scopes.specs.declared.children.ChildName.{ChildName}
 use Rattle.key_scopes.specs.declared.definitions.Definition.{Definition}
 use Rattle.key_scopes.specs.Numbered.{KeyEntry}
 use Rattle.key_scopes.specs.Above.{AreEndsFrom, AreInPreorder, parent_in}
@@ -49,6 +50,10 @@ is_below scope key definition = is_lt (first_order (first_of definition) (probe 
 abbrev pub is_behind : ℕ → List ℕ → Definition → Bool
 is_behind scope key definition = is_gt (first_order (first_of definition) (probe scope key))
 
+-- how many do not stand behind one of this key in this scope
+abbrev pub count_upto : ℕ → List ℕ → List Definition → ℕ
+count_upto scope key definitions = length (filter (λ d. not (is_behind scope key d)) definitions)
+
 -- the definition at a place, if it is of this key in this scope
 abbrev pub own_at : List Definition → ℕ → ℕ → List ℕ → Option ℕ
 own_at definitions at scope key = option_and_then (λ (definition : Definition).
@@ -81,6 +86,13 @@ pub record AreFirsts (count : ℕ) (entries : List KeyEntry) (firsts : List Firs
   pub permuted : IsPermutation entries sorted
   pub ordered : AreOrdered sorted
   pub are : firsts ≡ firsts_by [] (filter (is_level_within count) sorted)
+
+-- what halving needs: the definitions and the names of scopes stand in order; and there are keys for each scope
+pub record IsInOrder (all : List Scope) (definitions : List Definition) (names : List ChildName) (longest rows : ℕ)
+    : Type 0 where
+  pub strict : AreStrict (firsts_of definitions)
+  pub children : AreChildNames all names longest
+  pub long : rows ≡ length all
 
 -- a table of these scopes, with the keys that so many nodes define
 pub record IsTableBy (count : ℕ) (all : List Scope) (written : List KeyEntry) (table : Table) : Type 0 where

@@ -1,11 +1,12 @@
--- The ways from a scope into those in it (own): by the names with which a key begins.
-use Rattle.std.specs.Prelude.{◌≡◌, ◌+◌, ◌==◌, ◌&&◌, ◌||◌, ℕ, Bool, true, not, List, [], ◌∷◌, ◌++◌, Option, Some, None, codes, drop, find, is_some, length, nat_lt, option_map}
+-- The ways from a scope into those in it (own): by the names with which a key begins; and what is found by them.
+use Rattle.std.specs.Prelude.{◌≡◌, ◌+◌, ◌==◌, ◌&&◌, ◌||◌, ℕ, zero, suc, Bool, true, not, List, [], ◌∷◌, ◌++◌, Option, Some, None, codes, drop, filter, find, is_some, length, map, nat_lt, option_map}
 use Rattle.std.specs.List.{All}
+use Rattle.std.specs.Option.{option_or}
 use Rattle.dita_doc.specs.declared.plan.Scope.{Scope}
 use Rattle.key_scopes.specs.declared.children.ChildName.{ChildName}
 use Rattle.key_scopes.specs.declared.search.SearchStep.{SearchStep}
 use Rattle.key_scopes.specs.Children.{all_names}
-use Rattle.map_spec.specs.Scopes.{behind}
+use Rattle.map_spec.specs.Scopes.{behind, first_found}
 
 -- a scope, the place of its name, and what is left of the key
 pub record Way : Type 0 where
@@ -35,6 +36,18 @@ leads scope key name = (name.parent == scope) && is_some (behind (name.name ++ c
 
 abbrev pub way_in : List ℕ → ChildName → Way
 way_in key name = record { child = name.child; rank = name.rank; rest = drop (length name.name + 1) key }
+
+-- the first answer of the ways by some names
+abbrev pub answers : (Way → Option ℕ) → List ℕ → List ChildName → Option ℕ
+answers try key names = first_found (map (λ name. try (way_in key name)) names)
+
+-- a key that begins with a name of a scope in this one and a dot: of the ways in order the first that leads to an own
+-- definition of what is left, or again to one by a way from there; so many names may stand before one another
+unfoldable pub qualified_in : ℕ → List Scope → (ℕ → List ℕ → Option ℕ) → ℕ → List ℕ → Option ℕ
+qualified_in zero all own_at scope key = None
+qualified_in (suc steps) all own_at scope key = answers (λ (way : Way).
+    option_or (own_at way.child way.rest) (qualified_in steps all own_at way.child way.rest)) key
+    (filter (leads scope key) (all_names all))
 
 -- the first way behind the last one
 abbrev pub next_way : List Scope → ℕ → List ℕ → Option Way → Option Way

@@ -68,11 +68,10 @@ impl Definitions {
 
     /// The definition of a key in the outermost scope that is this one or stands around it.
     pub(crate) fn outermost(&self, spans: &Spans, scope: u32, key: &[u8]) -> Option<&Definition>
-        ensures { outermost_spec.AreNested spans.now.ends.items
-            → spec.AreStrict (table_spec.firsts_of self.now.sorted.items)
-            → outermost_spec.AreTopped spans.now.ends.items self.now.sorted.items
-            → outermost_spec.IsOutermost spans.now.ends.items self.now.sorted.items scope key.now
-            (option_copied result) }
+        ensures { spec.AreStrict (table_spec.firsts_of self.now.sorted.items)
+            → option_copied result
+            ≡ outermost_spec.outermost_by spans.now.ends.items self.now.sorted.items
+            (spec.count_upto scope key.now self.now.sorted.items) scope key.now }
     {
         let count = place_behind(&self.sorted, scope, key);
         outermost_by(&self.sorted, spans, count, scope, key)

@@ -1,16 +1,12 @@
 //! The search for a key.
 
-ghost use Rattle.std.specs.Prelude.{◌≡◌, ◌&&◌, ◌<◌, ℕ, List, Option, true, find, length, nat_lt, option_map, IfSome};
+ghost use Rattle.std.specs.Prelude.{◌≡◌, ◌&&◌, ◌<◌, Option, true, find, length, nat_lt, option_map, IfSome};
 ghost use Rattle.std.specs.Option.{option_copied, option_or};
-ghost use Rattle.dita_doc.specs.declared.plan.PlanNode.{PlanNode};
 ghost use Rattle.dita_doc.specs.declared.plan.Scope as scope_spec;
-ghost use Rattle.key_scopes.specs.Children as children_spec;
-ghost use Rattle.key_scopes.specs.Made as made_spec;
+ghost use Rattle.key_scopes.specs.Found as found_spec;
 ghost use Rattle.key_scopes.specs.Rising as rising_spec;
 ghost use Rattle.key_scopes.specs.Steps as spec;
 ghost use Rattle.key_scopes.specs.Ways as ways_spec;
-ghost use Rattle.map_spec.specs.Scopes as scopes_spec;
-ghost use Rattle.reader_spec.specs.World.{World};
 
 use crate::children::ChildName;
 use crate::definitions::Definition;
@@ -39,8 +35,7 @@ impl SearchStep<'_> {
 /// definition, then that of a scope in it, whose name and a dot stand before the key. A scope that
 /// is not in the table counts as the root scope. It takes no memory.
 pub fn find(table: &ScopeTable, scope: u32, key: &[u8]) -> Option<u32>
-    ensures { (world : World) (nodes : List PlanNode) → made_spec.IsTableOf world nodes table.now
-        → result ≡ scopes_spec.definition_found world nodes scope key.now }
+    ensures { result ≡ found_spec.found_in table.now scope key.now }
 {
     let scope = scope_within(table, scope);
     let own = table.definitions.outermost(&table.spans, scope, key);
@@ -82,9 +77,8 @@ fn outer_or_own(outer: Option<u32>, own: Option<&Definition>) -> Option<u32>
 
 // As `outermost_qualified` does; a key without a dot has none.
 fn by_dots(table: &ScopeTable, from: Option<u32>, key: &[u8]) -> Option<u32>
-    ensures { (world : World) (nodes : List PlanNode) → made_spec.IsTableOf world nodes table.now
-        → IfSome from (λ scope. scope < length table.now.scopes)
-        → result ≡ rising_spec.outermost_from (rising_spec.by_names world nodes key.now)
+    ensures { result ≡ rising_spec.answer_up
+        (rising_spec.by_names table.now.scopes (found_spec.own_of table.now) key.now)
         table.now.scopes from }
 {
     if key.contains(&b'.') {
@@ -97,9 +91,8 @@ fn by_dots(table: &ScopeTable, from: Option<u32>, key: &[u8]) -> Option<u32>
 // The definition by a qualified key at the outermost scope that has one, of this scope and those
 // around it.
 fn outermost_qualified(table: &ScopeTable, from: Option<u32>, key: &[u8]) -> Option<u32>
-    ensures { (world : World) (nodes : List PlanNode) → made_spec.IsTableOf world nodes table.now
-        → IfSome from (λ scope. scope < length table.now.scopes)
-        → result ≡ rising_spec.outermost_from (rising_spec.by_names world nodes key.now)
+    ensures { result ≡ rising_spec.answer_up
+        (rising_spec.by_names table.now.scopes (found_spec.own_of table.now) key.now)
         table.now.scopes from }
 {
     let mut found = None;
@@ -117,8 +110,8 @@ fn outermost_qualified(table: &ScopeTable, from: Option<u32>, key: &[u8]) -> Opt
 // for the rest of the key, or again one of a scope in it. Of several the first scope's counts, and
 // of its names the first. Into the last scope that fits the search goes on without a call.
 fn qualified(table: &ScopeTable, scope: u32, key: &[u8]) -> Option<u32>
-    ensures { (world : World) (nodes : List PlanNode) → made_spec.IsTableOf world nodes table.now
-        → result ≡ rising_spec.by_names world nodes key.now scope }
+    ensures { result
+        ≡ rising_spec.by_names table.now.scopes (found_spec.own_of table.now) key.now scope }
 {
     let mut around = scope;
     let mut left = key;
@@ -153,19 +146,19 @@ fn next_step<'k>(
 ) -> Option<SearchStep<'k>>
     ensures rest { IfSome result (λ step. length step.rest.now < length key.now) }
     ensures behind { IfSome result (λ step. spec.last_order after.entry < spec.step_order step) }
-    ensures value { children_spec.AreChildNames table.now.scopes table.now.names table.now.longest
-        → option_map ways_spec.way_of result ≡ ways_spec.next_way table.now.scopes scope key.now
-        (option_map ways_spec.way_of after.entry) }
+    ensures value { option_map ways_spec.way_of result ≡ ways_spec.next_way table.now.scopes scope
+        key.now (option_map ways_spec.way_of after.entry) }
 {
+    let children = &table.children;
     let mut first: Option<SearchStep<'k>> = None;
     for (dot, byte) in key.iter().enumerate() {
-        if dot > table.children.longest {
+        if dot > children.longest {
             break;
         }
         if *byte != b'.' {
             continue;
         }
-        if let Some(name) = name_behind(table.children.named(scope, &key[..dot]), after) {
+        if let Some(name) = name_behind(children.named(scope, &key[..dot]), after) {
             if is_earlier(name, first) {
                 first = Some(SearchStep {
                     child: name.child,

@@ -22,7 +22,8 @@ pub struct ScopeTable {
 }
 
 impl Model for ScopeTable {
-    ghost use Rattle.std.specs.Prelude.{◌≡◌, length};
+    ghost use Rattle.std.specs.Prelude.{length};
+    ghost use Rattle.key_scopes.specs.Defined as defined_spec;
     ghost use Rattle.key_scopes.specs.OwnKeys.{rows_of};
     ghost use Rattle.key_scopes.specs.Table as spec;
 
@@ -39,8 +40,9 @@ impl Model for ScopeTable {
       own_keys = rows_of t.own_keys.items;
     } };
 
-    // Each scope has its keys.
-    ghost invariant = { λ t. length t.own_keys.items ≡ length t.scopes };
+    // What is found by halving stands in order, and each scope has its keys.
+    ghost invariant = { λ t. defined_spec.IsInOrder t.scopes t.definitions.sorted.items
+        t.children.sorted.items t.children.longest (length t.own_keys.items) };
 }
 
 impl ScopeTable {

@@ -6,8 +6,8 @@ use Rattle.reader_spec.specs.World.{World}
 use Rattle.readers.specs.Documents.{AskedBy, AsksOnly, Follows, MayAsk, may_ask}
 use Rattle.readers.specs.Founded.{AreAllowed, Grows, IsFounded, StaysFounded, is_allowed, is_among, names_given}
 use Rattle.readers.specs.Told.{Told, Agrees}
-use Rattle.readers.proofs.DocumentLaws.{reach}
-use Rattle.readers.proofs.FoundedLaws.{among_append}
+use Rattle.readers.proofs.DocumentLaws.{asks_by, asks_grows, asks_when, reach}
+use Rattle.readers.proofs.FoundedLaws.{among_append, stays_by, stays_grows, stays_when}
 
 -- a world that agrees with the whole agrees with both
 pub agrees_apart : (world : World) (ts before : List Told) → Agrees world (ts ++ before)
@@ -68,11 +68,11 @@ module _ (roots : List (List ℕ)) where
 
 pub stays_behind : (names : List (List ℕ)) (old new before : List Told) → StaysFounded names old new
     → StaysFounded names (old ++ before) (new ++ before)
-stays_behind names old new before stays = record {
-  by = λ roots allowed founded. let apart = founded_apart roots old before founded in
-      founded_both roots new before
-      (stays.by (given roots before) (allowed_later roots old before names allowed) apart.0) apart.1;
-}
+stays_behind names old new before stays = stays_when names (old ++ before) (new ++ before)
+    (grows_behind old new before (stays_grows names old new stays))
+    (λ roots allowed founded. let apart = founded_apart roots old before founded in
+    founded_both roots new before
+    (stays_by names old new stays (given roots before) (allowed_later roots old before names allowed) apart.0) apart.1)
 
 -- Of documents that may be asked for: the same, by any rule
 
@@ -111,8 +111,8 @@ module _ (rule : Follows) (roots : List (List ℕ)) where
 
 pub asks_behind : (follows : Follows) (names : List (List ℕ)) (old new before : List Told)
     → AsksOnly follows names old new → AsksOnly follows names (old ++ before) (new ++ before)
-asks_behind follows names old new before asks = record {
-  by = λ rule roots covers may asked. let apart = asked_apart rule roots old before asked in
-      asked_both rule roots new before
-      (asks.by rule (reach rule roots before) covers (may_later rule roots old before names may) apart.0) apart.1;
-}
+asks_behind follows names old new before asks = asks_when follows names (old ++ before) (new ++ before)
+    (grows_behind old new before (asks_grows follows names old new asks))
+    (λ rule roots covers may asked. let apart = asked_apart rule roots old before asked in
+    asked_both rule roots new before (asks_by follows names old new asks rule (reach rule roots before) covers
+    (may_later rule roots old before names may) apart.0) apart.1)

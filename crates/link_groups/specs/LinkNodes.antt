@@ -1,12 +1,12 @@
 -- The nodes that links go from and to (own; DITA 1.3, "The @linking attribute"), and those that were found before.
-use Rattle.std.specs.Prelude.{◌≡◌, ◌⊎◌, ℕ, Bool, List, [], ◌∷◌, ◌++◌, Option, Some, map, option_map, slice_get, unwrap_or, codes}
+use Rattle.std.specs.Prelude.{◌≡◌, ◌⊎◌, ℕ, Bool, List, [], ◌∷◌, ◌++◌, Option, Some, None, map, option_map, slice_get, unwrap_or, codes}
 use Rattle.std.specs.BTreeMap.{is_at}
 use Rattle.std.specs.List.{filter_map}
 use Rattle.std.specs.Map.{lookup}
 use Rattle.std.specs.Option.{option_map_or}
 use Rattle.std.specs.Ordering.{nat_cmp}
 use Rattle.dita_doc.specs.ClassValue.{value_of}
-use Rattle.dita_doc.specs.declared.plan.PageId.{PageId}
+use Rattle.dita_doc.specs.declared.plan.Context.{Context}
 use Rattle.dita_doc.specs.declared.plan.PagePlan.{PagePlan}
 use Rattle.dita_doc.specs.declared.plan.Plan.{Plan}
 use Rattle.dita_doc.specs.declared.plan.PlanNode.{PlanNode}
@@ -60,8 +60,13 @@ map_of plan node = option_map_or (λ (root : PlanNode). root.doc) (slice_get pla
 
 -- What was asked
 
+-- where a document is used by a node of a plan: the map is the plan's, and no DITAVAL is named
+abbrev pub use_of : Plan → PlanNode → List ℕ → Context
+use_of plan node name =
+    record { map = map_of plan node; val = None; page = context_of node name; name = name }
+
 -- one question was put: for the page of this document in this context
-pub record AsksPage (pages : List PagePlan) (name : List ℕ) (context : PageId) (old new : List Told) : Type 0 where
+pub record AsksPage (pages : List PagePlan) (name : List ℕ) (context : Context) (old new : List Told) : Type 0 where
   pub place : Option ℕ
   pub is : new ≡ page_of pages name context place ∷ old
 
@@ -71,7 +76,7 @@ pub record AsksOf (plan : Plan) (at : ℕ) (pages : List PagePlan) (old new : Li
   pub name : List ℕ
   pub there : Some node ≡ slice_get plan.nodes at
   pub leads : Some name ≡ local_name (plan_target plan at)
-  pub asked : AsksPage pages name (context_of node name) old new
+  pub asked : AsksPage pages name (use_of plan node name) old new
 
 -- none was put, or this one
 abbrev pub AsksOfNode : Plan → ℕ → List PagePlan → List Told → List Told → Type 0

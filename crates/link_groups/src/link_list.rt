@@ -75,30 +75,8 @@ impl LinkList {
     }
 
     /// The links with their hrefs and labels: the titles of the documents.
-    pub fn written<A: Asker>(
-        &self,
-        alloc: Global,
-        asker: &mut A,
-        plan: &Plan,
-    ) -> Result<List<PageLink>, NoMemory>
-        ensures known { (world : World) (own : ℕ) (all : spec.Links)
-            → Agrees world (A.told asker.new) → spec.HoldsLinks own all self.now
-            → IfOk result (λ links. links ≡ links_spec.page_links world plan.now own all) }
-        ensures value { (own : ℕ) (all : spec.Links) → spec.HoldsLinks own all self.now
-            → IfOk result (λ links.
-            links ≡ links_spec.page_links (A.stand asker.old).world plan.now own all) }
-        ensures stand { A.stand asker.new ≡ A.stand asker.old }
-        ensures founded { StaysFounded (link_nodes_spec.plan_names plan.now) (A.told asker.old)
-            (A.told asker.new) }
-        ensures asks { AsksOnly documents_spec.nothing [] (A.told asker.old) (A.told asker.new) }
-        ensures grows { Grows (A.told asker.old) (A.told asker.new) }
-    {
-        self.shown(alloc, asker, plan)
-    }
-
-    // What `written` says, but of the reader's own world.
     #[tactic(auto, using(readers::proofs::Rules::walking))]
-    fn shown<A: Asker>(
+    pub fn written<A: Asker>(
         &self,
         alloc: Global,
         asker: &mut A,

@@ -60,37 +60,8 @@ impl LinkNodes {
 
     /// The node at this place, if it has a page. The asker is asked once for it, as the node uses
     /// its document.
-    pub fn find<A: Asker>(
-        &mut self,
-        alloc: Global,
-        asker: &mut A,
-        plan: &Plan,
-        at: usize,
-    ) -> Result<Option<LinkNode>, NoMemory>
-        ensures known { (world : World) → Agrees world (A.told asker.new)
-            → CarryValues world plan.now.nodes
-            → (A.stand asker.old).setting.pages ≡ plan.now.pages
-            → spec.AreLinkNodes world plan.now self.old
-            → IfOk result (λ found. spec.IsLinkNode world plan.now at found self.new) }
-        ensures value { CarryValues (A.stand asker.old).world plan.now.nodes
-            → (A.stand asker.old).setting.pages ≡ plan.now.pages
-            → spec.AreLinkNodes (A.stand asker.old).world plan.now self.old
-            → IfOk result (λ found. spec.IsLinkNode (A.stand asker.old).world plan.now at found
-            self.new) }
-        ensures asked { OnOk result (spec.AsksOfNode plan.now at
-            (A.stand asker.old).setting.pages (A.told asker.old) (A.told asker.new)) }
-        ensures stand { A.stand asker.new ≡ A.stand asker.old }
-        ensures founded { StaysFounded (spec.plan_names plan.now) (A.told asker.old)
-            (A.told asker.new) }
-        ensures asks { AsksOnly documents_spec.nothing [] (A.told asker.old) (A.told asker.new) }
-        ensures grows { Grows (A.told asker.old) (A.told asker.new) }
-    {
-        self.found(alloc, asker, plan, at)
-    }
-
-    // What `find` says, but of the reader's own world.
     #[tactic(auto, using(readers::proofs::Rules::walking))]
-    fn found<A: Asker>(
+    pub fn find<A: Asker>(
         &mut self,
         alloc: Global,
         asker: &mut A,
@@ -157,7 +128,7 @@ fn link_node_of<A: Asker>(
         → IfOk result (λ found. found ≡ spec.link_node_of (page_for (A.stand asker.old).setting.pages
         name.now (links_spec.context_of node.now name.now)) at node.now) }
     ensures asked { OnOk result (spec.AsksPage (A.stand asker.old).setting.pages name.now
-        (links_spec.context_of node.now name.now) (A.told asker.old) (A.told asker.new)) }
+        (spec.use_of plan.now node.now name.now) (A.told asker.old) (A.told asker.new)) }
     ensures stand { A.stand asker.new ≡ A.stand asker.old }
     ensures founded { StaysFounded (name.now ∷ []) (A.told asker.old) (A.told asker.new) }
     ensures asks { AsksOnly documents_spec.nothing [] (A.told asker.old) (A.told asker.new) }
@@ -205,10 +176,9 @@ fn context_of(
     node: &PlanNode,
     name: &Name,
 ) -> Result<Arc<Context>, NoMemory>
+    ensures whole { IfOk result (λ context. arc_value context ≡ spec.use_of plan.now node.now name.now) }
     ensures page { IfOk result (λ context.
         (arc_value context).page ≡ links_spec.context_of node.now name.now) }
-    ensures map { IfOk result (λ context.
-        (arc_value context).map ≡ spec.map_of plan.now node.now) }
 {
     let page = PageId {
         doc: name.clone()?,

@@ -10,9 +10,11 @@ use Rattle.plan_nodes.specs.Preorder.{without_end}
 use Rattle.readers.specs.Documents.{AskedBy, AsksOnly, Covers, Follows, MayAsk, documents_asked, may_ask}
 use Rattle.readers.specs.Founded.{AreAllowed, Grows, IsFounded, StaysFounded, homes, is_allowed, is_among, names_asked, names_given}
 use Rattle.readers.specs.Told.{Told, document, kind, title, first, key, pushes, page_of, pending, pending_document}
-use Rattle.readers.proofs.FoundedLaws.{among_one}
+use Rattle.readers.proofs.FoundedLaws.{among_one, stays_by, stays_grows, stays_when}
 use Rattle.map_expand.specs.AskedFor.{AreAsked, asked_for}
 use Rattle.readers.proofs.AmongLaws.{among_back, among_either}
+use Rattle.readers.proofs.DocumentLaws.{asks_by, asks_grows, asks_when}
+use Rattle.readers.proofs.GrowthLaws.{grows_trans}
 
 -- What was asked for before
 
@@ -102,16 +104,15 @@ asked_may rule roots told names by asked =
 
 pub stays_asked : (roots_names names : List (List ℕ)) (a b c : List Told) → StaysFounded roots_names a b
     → AreAsked b names → StaysFounded names b c → StaysFounded roots_names a c
-stays_asked roots_names names a b c before asked next = record {
-  by = λ roots allowed founded.
-      let there = before.by roots allowed founded in next.by roots (asked_allowed roots b names there asked) there;
-}
+stays_asked roots_names names a b c before asked next = stays_when roots_names a c
+    (grows_trans a b c (stays_grows roots_names a b before) (stays_grows names b c next))
+    (λ roots allowed founded. let there = stays_by roots_names a b before roots allowed founded in
+    stays_by names b c next roots (asked_allowed roots b names there asked) there)
 
 pub asks_asked : (follows less : Follows) (roots_names names : List (List ℕ)) (a b c : List Told)
     → ((rule : Follows) → Covers rule follows → Covers rule less) → AsksOnly follows roots_names a b
     → AreAsked b names → AsksOnly less names b c → AsksOnly follows roots_names a c
-asks_asked follows less roots_names names a b c covered before asked next = record {
-  by = λ rule roots covers may first.
-      let there = before.by rule roots covers may first in
-      next.by rule roots (covered rule covers) (asked_may rule roots b names there asked) there;
-}
+asks_asked follows less roots_names names a b c covered before asked next = asks_when follows roots_names a c
+    (grows_trans a b c (asks_grows follows roots_names a b before) (asks_grows less names b c next))
+    (λ rule roots covers may first. let there = asks_by follows roots_names a b before rule roots covers may first in
+    asks_by less names b c next rule roots (covered rule covers) (asked_may rule roots b names there asked) there)

@@ -21,8 +21,8 @@ use Rattle.readers.specs.Documents.{AsksOnly, nothing}
 use Rattle.readers.specs.Founded.{Grows, StaysFounded, is_among, names_given}
 use Rattle.readers.specs.Named.{name_joined, names_in, names_of_element}
 use Rattle.readers.specs.Told.{Told}
-use Rattle.readers.proofs.DocumentLaws.{asks_one, asks_same, asks_then, follows_may, may_ask_before, none_may, one_may}
-use Rattle.readers.proofs.FoundedLaws.{among_first, given_allowed, none_allowed, one_allowed, stays_same, stays_then}
+use Rattle.readers.proofs.DocumentLaws.{asks_by, asks_grows, asks_one, asks_same, asks_then, asks_when, follows_may, may_ask_before, none_may, one_may}
+use Rattle.readers.proofs.FoundedLaws.{among_first, given_allowed, none_allowed, one_allowed, stays_by, stays_grows, stays_same, stays_then, stays_when}
 use Rattle.readers.proofs.GivenLaws.{first_among}
 use Rattle.readers.proofs.GrowthLaws.{allowed_before}
 use Rattle.map_expand.specs.AskedFor.{asked_for}
@@ -193,15 +193,14 @@ asks_name name old new = asks_one map_targets name (name ∷ []) old new (among_
 
 pub stays_free : (name : List ℕ) (old new : List Told) → MayName old name → StaysFounded (name ∷ []) old new
     → StaysFounded [] old new
-stays_free name old new may stays = record {
-  by = λ roots none founded. stays.by roots (one_allowed roots old name (may.allowed roots)) founded;
-}
+stays_free name old new may stays = stays_when [] old new (stays_grows _ old new stays)
+    (λ roots none founded. stays_by _ old new stays roots (one_allowed roots old name (may.allowed roots)) founded)
 
 pub asks_free : (name : List ℕ) (old new : List Told) → MayName old name → AsksOnly map_targets (name ∷ []) old new
     → AsksOnly map_targets [] old new
-asks_free name old new may asks = record {
-  by = λ rule roots covers none asked. asks.by rule roots covers (one_may rule roots old name (may.may rule roots covers)) asked;
-}
+asks_free name old new may asks = asks_when map_targets [] old new (asks_grows map_targets _ old new asks)
+    (λ rule roots covers none asked. asks_by map_targets _ old new asks rule roots covers
+    (one_may rule roots old name (may.may rule roots covers)) asked)
 
 pub stays_more : (name : List ℕ) (a b c : List Told) → Grows a b → StaysFounded (name ∷ []) a b → StaysFounded [] b c
     → StaysFounded (name ∷ []) a c

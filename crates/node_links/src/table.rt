@@ -31,67 +31,8 @@ pub struct NodeLinks {
 
 impl NodeLinks {
     /// Finds the collections and rows of a plan. Each node in them is asked for its page once.
-    pub fn of<A: Asker>(alloc: Global, asker: &mut A, plan: &Plan) -> Result<NodeLinks, NoMemory>
-        ensures known { (world : World) → Agrees world (A.told asker.new)
-            → row_table_spec.CanLink world plan.now (A.stand asker.old).setting.pages
-            → IfOk result (spec.AreNodeLinks world plan.now) }
-        ensures value { row_table_spec.CanLink (A.stand asker.old).world plan.now
-            (A.stand asker.old).setting.pages
-            → IfOk result (spec.AreNodeLinks (A.stand asker.old).world plan.now) }
-        ensures stand { A.stand asker.new ≡ A.stand asker.old }
-        ensures founded { StaysFounded (link_nodes_spec.plan_names plan.now) (A.told asker.old)
-            (A.told asker.new) }
-        ensures asks { AsksOnly documents_spec.nothing (founded_spec.homes plan.now.nodes)
-            (A.told asker.old) (A.told asker.new) }
-        ensures grows { Grows (A.told asker.old) (A.told asker.new) }
-    {
-        NodeLinks::found(alloc, asker, plan)
-    }
-
-    /// The links of a page: to those before it, to those behind it, to its siblings and to those
-    /// that are related, each in the order of the nodes linked to. Each href stands once, with its
-    /// first kind, and none leads to the page itself.
-    pub fn of_page<A: Asker>(
-        &self,
-        alloc: Global,
-        asker: &mut A,
-        plan: &Plan,
-        page: u32,
-    ) -> Result<List<PageLink>, NoMemory>
-        ensures known { (world : World) → Agrees world (A.told asker.new)
-            → spec.AreNodeLinks world plan.now self.now
-            → IfOk result (λ links. links ≡ spec.node_links world plan.now page) }
-        ensures value { spec.AreNodeLinks (A.stand asker.old).world plan.now self.now
-            → IfOk result (λ links.
-            links ≡ spec.node_links (A.stand asker.old).world plan.now page) }
-        ensures stand { A.stand asker.new ≡ A.stand asker.old }
-        ensures founded { StaysFounded (link_nodes_spec.plan_names plan.now) (A.told asker.old)
-            (A.told asker.new) }
-        ensures asks { AsksOnly documents_spec.nothing [] (A.told asker.old) (A.told asker.new) }
-        ensures grows { Grows (A.told asker.old) (A.told asker.new) }
-    {
-        self.shown(alloc, asker, plan, page)
-    }
-
-    /// The faults of nodes in rows that have no page, each once. They are faults of every page.
-    pub fn faults(&self) -> &[Fault]
-        ensures { (world : World) (plan : plan_spec.Plan) → spec.AreNodeLinks world plan self.now
-            → result.now ≡ row_table_spec.cell_faults plan }
-    {
-        self.faults.as_slice()
-    }
-
-    /// The faults of each row in turn: a node that stands in several rows has its fault in each.
-    pub fn faults_by_row(&self, alloc: Global, plan: &Plan) -> Result<List<Fault>, NoMemory>
-        ensures { (world : World) → spec.AreNodeLinks world plan.now self.now
-            → IfOk result (λ faults. faults ≡ links_spec.row_faults plan.now) }
-    {
-        self.rows.faults_by_row(alloc, plan)
-    }
-
-    // What `of` says, but of the reader's own world.
     #[tactic(auto, using(readers::proofs::Rules::walking))]
-    fn found<A: Asker>(alloc: Global, asker: &mut A, plan: &Plan) -> Result<NodeLinks, NoMemory>
+    pub fn of<A: Asker>(alloc: Global, asker: &mut A, plan: &Plan) -> Result<NodeLinks, NoMemory>
         ensures known { (world : World) → Agrees world (A.told asker.new)
             → row_table_spec.CanLink world plan.now (A.stand asker.old).setting.pages
             → IfOk result (spec.AreNodeLinks world plan.now) }
@@ -114,9 +55,11 @@ impl NodeLinks {
         })
     }
 
-    // What `of_page` says, but of the reader's own world.
+    /// The links of a page: to those before it, to those behind it, to its siblings and to those
+    /// that are related, each in the order of the nodes linked to. Each href stands once, with its
+    /// first kind, and none leads to the page itself.
     #[tactic(auto, using(readers::proofs::Rules::walking))]
-    fn shown<A: Asker>(
+    pub fn of_page<A: Asker>(
         &self,
         alloc: Global,
         asker: &mut A,
@@ -137,5 +80,21 @@ impl NodeLinks {
         self.rows.append(alloc, page, &mut links)?;
         let shown = links.written(alloc, asker, plan)?;
         Ok(shown)
+    }
+
+    /// The faults of nodes in rows that have no page, each once. They are faults of every page.
+    pub fn faults(&self) -> &[Fault]
+        ensures { (world : World) (plan : plan_spec.Plan) → spec.AreNodeLinks world plan self.now
+            → result.now ≡ row_table_spec.cell_faults plan }
+    {
+        self.faults.as_slice()
+    }
+
+    /// The faults of each row in turn: a node that stands in several rows has its fault in each.
+    pub fn faults_by_row(&self, alloc: Global, plan: &Plan) -> Result<List<Fault>, NoMemory>
+        ensures { (world : World) → spec.AreNodeLinks world plan.now self.now
+            → IfOk result (λ faults. faults ≡ links_spec.row_faults plan.now) }
+    {
+        self.rows.faults_by_row(alloc, plan)
     }
 }

@@ -4,21 +4,14 @@ use Rattle.std.proofs.Common.{◌≡◌, ◌||◌, ◌⊎◌, ℕ, List, [], ◌
 use Rattle.std.proofs.Math.Logic.{⊎_elim, ∥∥₁_elim}
 use Rattle.std.proofs.lemmas.Bool.{false≢true, or_cases, or_left, or_right}
 use Rattle.conref_push.proofs.AmongLaws.{among_append}
-use Rattle.plan_layer.specs.Carried.{CarriesFrom}
 use Rattle.plan_layer.specs.Passing.{FollowsPlan, PassesOn}
 use Rattle.readers.specs.Documents.{AskedBy, AsksOnly, Covers, Follows, may_ask}
-use Rattle.readers.specs.Founded.{Grows, StaysFounded, is_among}
+use Rattle.readers.specs.Founded.{Grows, is_among}
 use Rattle.readers.specs.Props.{AskedBy-prop}
 use Rattle.readers.specs.Told.{Told, document, kind, title, first, key, pushes, page_of, pending, pending_document}
 use Rattle.readers.proofs.AmongLaws.{among_back, among_front}
-use Rattle.readers.proofs.DocumentLaws.{may_ask_before, reach, root_may}
+use Rattle.readers.proofs.DocumentLaws.{asks_by, asks_when, may_ask_before, reach, root_may}
 use Rattle.readers.proofs.FoundedLaws.{none_among}
-
--- what was told to the reader below stays founded by the questions of the one above
-pub founded_below : (names : List (List ℕ)) (start below above : List Told) → CarriesFrom start below above
-    → StaysFounded names start above → StaysFounded names start below
-founded_below names start below above carried stays =
-    record { by = λ roots allowed founded. carried.founded roots founded (stays.by roots allowed founded) }
 
 -- a rule, but from pushes only what follows by another, and nothing from pages and from questions without answers
 abbrev as_told : Follows → Follows → Follows
@@ -115,21 +108,20 @@ module _ (rule less : Follows) (roots : List (List ℕ)) where
 pub asks_below : (follows : Follows) (names documents : List (List ℕ)) (start below above : List Told)
     → FollowsPlan follows → Grows start below → PassesOn documents below above → AsksOnly follows names start above
     → AsksOnly follows (names ++ documents) start below
-asks_below follows names documents start below above plan grows passed asks = record {
-  by = λ rule roots covers may asked.
-      let less = as_told rule follows in
-      let wide = reach rule roots start in
-      let inside : (m : List ℕ) → IsTrue (may_ask rule roots start m) → IsTrue (is_among wide m)
-      = λ m a. subst IsTrue (sym (reach_may rule roots start m)) a
-      in
-      let down : AskedBy less wide below
-      = passed.asked less wide (told_plan rule follows plan)
-      (record { each = λ m among. inside m (may.each m (among_back names documents m among)) })
-      (asks.by less wide (told_covers rule follows plan covers)
-      (record { each = λ m among. root_may less wide start m (inside m (may.each m (among_front names documents m among))) })
-      (asked_wider rule less roots wide start inside asked))
-      in
-      ∥∥₁_elim grows.is (AskedBy-prop rule roots below) (λ p. subst (AskedBy rule roots) (sym p.1)
-      (asked_narrower rule less roots start p.0 (λ t m. told_less rule follows t m covers)
-      (subst (AskedBy less wide) p.1 down) asked));
-}
+asks_below follows names documents start below above plan grows passed asks =
+    asks_when follows (names ++ documents) start below grows (λ rule roots covers may asked.
+    let less = as_told rule follows in
+    let wide = reach rule roots start in
+    let inside : (m : List ℕ) → IsTrue (may_ask rule roots start m) → IsTrue (is_among wide m)
+    = λ m a. subst IsTrue (sym (reach_may rule roots start m)) a
+    in
+    let down : AskedBy less wide below
+    = passed.asked less wide (told_plan rule follows plan)
+    (record { each = λ m among. inside m (may.each m (among_back names documents m among)) })
+    (asks_by follows names start above asks less wide (told_covers rule follows plan covers)
+    (record { each = λ m among. root_may less wide start m (inside m (may.each m (among_front names documents m among))) })
+    (asked_wider rule less roots wide start inside asked))
+    in
+    ∥∥₁_elim grows.is (AskedBy-prop rule roots below) (λ p. subst (AskedBy rule roots) (sym p.1)
+    (asked_narrower rule less roots start p.0 (λ t m. told_less rule follows t m covers)
+    (subst (AskedBy less wide) p.1 down) asked)))

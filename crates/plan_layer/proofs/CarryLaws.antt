@@ -13,7 +13,7 @@ use Rattle.readers.specs.Setting.{Setting}
 use Rattle.readers.specs.Told.{Told, Holds, Knows, pending, pending_document}
 use Rattle.readers.specs.declared.questions.Note.{Note}
 use Rattle.readers.specs.declared.questions.Note.TheVariants.{PendingDocument, PendingKey}
-use Rattle.readers.proofs.FoundedLaws.{given_allowed}
+use Rattle.readers.proofs.FoundedLaws.{given_allowed, stays_by}
 use Rattle.readers.proofs.GrowthLaws.{agrees_before, allowed_before, are_allowed_before, founded_before, told_answer}
 use Rattle.readers.proofs.LayerLaws.{allowed_with}
 
@@ -47,7 +47,7 @@ module _ (start : List Told) where
       subst (CarriesFrom start below') (sym put) (record {
         agrees = λ world a. (tt, carried.agrees world (agrees_before world below below' grows a));
         allowed = λ roots m base a. allowed_before roots below below' m grows (carried.allowed roots m base a);
-        founded = λ roots base f. stays.by roots
+        founded = λ roots base f. stays_by _ below below' stays roots
             (record { each = λ m among. carried.allowed roots m base (f.0.each m among) })
             (carried.founded roots base f.1);
       })
@@ -60,7 +60,7 @@ module _ (start : List Told) where
       subst (CarriesFrom start below') (sym put) (record {
         agrees = λ world a. (tt, carried.agrees world (agrees_before world below below' grows a));
         allowed = λ roots m base a. allowed_before roots below below' m grows (carried.allowed roots m base a);
-        founded = λ roots base f. stays.by roots
+        founded = λ roots base f. stays_by _ below below' stays roots
             (record { each = λ m among. carried.allowed roots m base (f.0.each m among) })
             (carried.founded roots base f.1);
       })

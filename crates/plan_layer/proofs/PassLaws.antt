@@ -2,7 +2,7 @@
 use Rattle.std.proofs.Common.{◌≡◌, ℕ, List, [], ◌∷◌, ◌⊎◌, Option, IsTrue, drop, sym, ap, subst, ◌∙◌}
 use Rattle.std.proofs.Math.Logic.{⊎_elim}
 use Rattle.std.proofs.lemmas.Bool.{false≢true, or_cases, or_left, or_right}
-use Rattle.dita_doc.specs.declared.plan.PageId.{PageId}
+use Rattle.dita_doc.specs.declared.plan.Context.{Context}
 use Rattle.dita_doc.specs.declared.plan.PagePlan.{PagePlan}
 use Rattle.plan_layer.specs.Passing.{FollowsPlan, PassesOn}
 use Rattle.readers.specs.Documents.{AsksOnly, Follows, MayAsk, documents_asked, may_ask, nothing}
@@ -12,7 +12,7 @@ use Rattle.readers.specs.Setting.{Setting}
 use Rattle.readers.specs.Told.{Told, page_of, pending_document, pending}
 use Rattle.readers.specs.declared.questions.Note.{Note}
 use Rattle.readers.specs.declared.questions.Note.TheVariants.{PendingDocument}
-use Rattle.readers.proofs.DocumentLaws.{covers_nothing, may_ask_before, may_behind, none_may, root_may}
+use Rattle.readers.proofs.DocumentLaws.{asks_by, covers_nothing, may_ask_before, may_behind, none_may, root_may}
 
 module _ (documents : List (List ℕ)) where
   -- a reader begins with what the reader below it was told
@@ -28,8 +28,8 @@ module _ (documents : List (List ℕ)) where
       (record {
         may = λ rule roots m plan among may. may_ask_before rule roots below below' m grows
             (passed.may rule roots m plan among (may_behind rule roots (pending names) above m (plan.tried names) may));
-        asked = λ rule roots plan among a. asks.by rule roots (covers_nothing rule) (none_may rule roots below)
-            (passed.asked rule roots plan among a.1);
+        asked = λ rule roots plan among a. asks_by nothing [] below below' asks rule roots (covers_nothing rule)
+            (none_may rule roots below) (passed.asked rule roots plan among a.1);
       })
 
   -- a document was sought, and then the reader below was asked for it
@@ -41,7 +41,7 @@ module _ (documents : List (List ℕ)) where
         may = λ rule roots m plan among may. may_ask_before rule roots below below' m grows
             (passed.may rule roots m plan among
             (may_behind rule roots (pending_document name) above m (plan.sought name) may));
-        asked = λ rule roots plan among a. asks.by rule roots (covers_nothing rule)
+        asked = λ rule roots plan among a. asks_by nothing (name ∷ []) below below' asks rule roots (covers_nothing rule)
             (record { each = λ m here. passed.may rule roots m plan among (a.0.each m here) })
             (passed.asked rule roots plan among a.1);
       })
@@ -75,7 +75,7 @@ module _ (documents : List (List ℕ)) where
   })
 
 -- from a page nothing follows
-pub page_follows : (documents : List (List ℕ)) (pages : List PagePlan) (name : List ℕ) (context : PageId)
+pub page_follows : (documents : List (List ℕ)) (pages : List PagePlan) (name : List ℕ) (context : Context)
     (answer : Option ℕ) (rule : Follows) (m : List ℕ) → FollowsPlan rule
     → IsTrue (is_among (rule (page_of pages name context answer)) m) → IsTrue (is_among documents m)
 page_follows documents pages name context answer rule m plan here =

@@ -4,7 +4,7 @@ use Rattle.std.specs.Prelude.{◌≡◌, ℕ, List, [], Option, IsTrue}
 use Rattle.std.proofs.Props.{props}
 use Rattle.conref_push.specs.Into.{froms}
 use Rattle.dita_doc.specs.declared.content.PushList.{PushList}
-use Rattle.dita_doc.specs.declared.plan.PageId.{PageId}
+use Rattle.dita_doc.specs.declared.plan.Context.{Context}
 use Rattle.dita_doc.specs.declared.plan.PagePlan.{PagePlan}
 use Rattle.readers.specs.Documents.{AskedBy, Follows, may_ask}
 use Rattle.readers.specs.Founded.{is_among}
@@ -16,7 +16,7 @@ use Rattle.readers.specs.Told.{Told, pushes, page_of, pending_document, pending}
 pub record FollowsPlan (rule : Follows) : Type 0 where
   pub pushes : (documents : List (List ℕ)) (name : List ℕ) (answer : PushList) (m : List ℕ)
       → IsTrue (is_among (rule (pushes documents name answer)) m) → IsTrue (is_among (froms answer.pushes) m)
-  pub pages : (pages : List PagePlan) (name : List ℕ) (context : PageId) (answer : Option ℕ)
+  pub pages : (pages : List PagePlan) (name : List ℕ) (context : Context) (answer : Option ℕ)
       → rule (page_of pages name context answer) ≡ []
   pub tried : (names : List (List ℕ)) → rule (pending names) ≡ []
   pub sought : (name : List ℕ) → rule (pending_document name) ≡ []

@@ -48,7 +48,7 @@ pub fn page_note(
     place: Option<u32>,
 ) -> Result<Note, NoMemory>
     ensures { IfOk result (λ note. (setting : Setting) → noted_spec.told_of setting note
-        ≡ told_spec.page_of setting.pages name.now (arc_value context.now).page place) }
+        ≡ told_spec.page_of setting.pages name.now (arc_value context.now) place) }
 {
     let asked = Asked {
         question: Question::PageOf(name.clone()?, Arc::try_clone(context)?),

@@ -39,7 +39,7 @@ agrees_before world old new grows agrees = ∥∥₁_elim grows.is (Agrees-prop 
 pub told_answer : (world : World) (t : Told) (old new : List Told) → new ≡ t ∷ old → Agrees world new → Holds world t
 told_answer world t old new is agrees = (subst (Agrees world) is agrees).0
 
-allowed_behind : (roots : List (List ℕ)) (more old : List Told) (m : List ℕ) → IsTrue (is_allowed roots old m)
+pub allowed_behind : (roots : List (List ℕ)) (more old : List Told) (m : List ℕ) → IsTrue (is_allowed roots old m)
     → IsTrue (is_allowed roots (more ++ old) m)
 allowed_behind roots [] old m allowed = allowed
 allowed_behind roots (t ∷ more) old m allowed =

@@ -10,7 +10,7 @@ use Rattle.readers.specs.Setting.{Setting}
 use Rattle.readers.specs.Told.{Told, document, pending, Holds, Knows}
 use Rattle.readers.specs.declared.questions.Note.{Note}
 use Rattle.readers.specs.declared.questions.Note.TheVariants.{Pending}
-use Rattle.readers.proofs.FoundedLaws.{given_allowed, none_allowed, stays_same, stays_told}
+use Rattle.readers.proofs.FoundedLaws.{given_allowed, none_allowed, stays_by, stays_same, stays_told}
 use Rattle.readers.proofs.GrowthLaws.{agrees_before, allowed_before, grows_equal, grows_one, grows_same, grows_trans, told_answer}
 
 pub knows_more : (P : World → Type 0) (old new : List Told) → Grows old new → Knows old P → Knows new P
@@ -19,12 +19,6 @@ knows_more P old new grows known world agrees = known world (agrees_before world
 -- a reader begins with what the reader below it was told
 pub carries_same : (ts : List Told) → Carries ts ts
 carries_same ts = record { agrees = λ world a. a; allowed = λ roots m a. a; founded = λ roots f. f }
-
--- what was told to the reader below stays founded by the questions of the one above
-pub founded_below : (names : List (List ℕ)) (start below above : List Told) → Carries below above
-    → StaysFounded names start above → StaysFounded names start below
-founded_below names start below above carried stays =
-    record { by = λ roots allowed founded. carried.founded roots (stays.by roots allowed founded) }
 
 -- the reader below was told more
 pub carries_more : (below below' above : List Told) → Carries below above → Grows below below'
@@ -42,8 +36,8 @@ carries_asked names below below' above above' carried put grows stays =
     subst (Carries below') (sym put) (record {
       agrees = λ world a. (tt, carried.agrees world (agrees_before world below below' grows a));
       allowed = λ roots m a. allowed_before roots below below' m grows (carried.allowed roots m a);
-      founded = λ roots f. stays.by roots (record { each = λ m among. carried.allowed roots m (f.0.each m among) })
-          (carried.founded roots f.1);
+      founded = λ roots f. stays_by names below below' stays roots
+          (record { each = λ m among. carried.allowed roots m (f.0.each m among) }) (carried.founded roots f.1);
     })
 
 pub allowed_with : (t : Told) (roots : List (List ℕ)) (below above : List Told) (m : List ℕ)

@@ -7,7 +7,7 @@ use Rattle.readers.specs.Setting.{Setting}
 use Rattle.readers.specs.Told.{Told, document, pending_document}
 use Rattle.readers.specs.declared.questions.Note.{Note}
 use Rattle.readers.specs.declared.questions.Note.TheVariants.{PendingDocument}
-use Rattle.readers.proofs.FoundedLaws.{given_allowed}
+use Rattle.readers.proofs.FoundedLaws.{given_allowed, stays_by}
 use Rattle.readers.proofs.GrowthLaws.{agrees_before, allowed_before, told_answer}
 use Rattle.readers.proofs.LayerLaws.{allowed_with}
 
@@ -19,8 +19,8 @@ carries_sought name below below' above above' carried put grows stays =
     subst (Carries below') (sym put) (record {
       agrees = λ world a. (tt, carried.agrees world (agrees_before world below below' grows a));
       allowed = λ roots m a. allowed_before roots below below' m grows (carried.allowed roots m a);
-      founded = λ roots f. stays.by roots (record { each = λ m among. carried.allowed roots m (f.0.each m among) })
-          (carried.founded roots f.1);
+      founded = λ roots f. stays_by (name ∷ []) below below' stays roots
+          (record { each = λ m among. carried.allowed roots m (f.0.each m among) }) (carried.founded roots f.1);
     })
 
 -- it is told that the reader below told last

@@ -1,6 +1,6 @@
 -- Which documents are asked for as a whole (own): those of a list, and those that follow from answers told before. As
 -- `Founded`, for documents alone and by any rule of what follows.
-use Rattle.std.specs.Prelude.{◌||◌, ℕ, Bool, List, [], ◌∷◌, Option, IsTrue, map, option_map}
+use Rattle.std.specs.Prelude.{◌≡◌, ◌||◌, ◌++◌, ℕ, Bool, List, [], ◌∷◌, Option, IsTrue, map, option_map}
 use Rattle.dita_doc.specs.declared.content.Push.{Push}
 use Rattle.map_spec.specs.Written.{Element, Written, written_in}
 use Rattle.readers.specs.Founded.{is_among}
@@ -67,11 +67,26 @@ AskedBy follows roots (t ∷ ts) = MayAsk follows roots ts (documents_asked t) �
 pub record Covers (more less : Follows) : Type 0 where
   pub each : (t : Told) (m : List ℕ) → IsTrue (is_among (less t) m) → IsTrue (is_among (more t) m)
 
--- what a call does that asks for these documents, and those that follow from answers, and for no others: by each rule
--- that covers this one, if these might be asked for, then so might all that was asked for
+-- a document is sought by those who ask for documents: it is one of a list, follows from an answer, or was asked for
+abbrev pub is_sought : Follows → List (List ℕ) → List Told → List ℕ → Bool
+is_sought follows names [] m = is_among names m
+is_sought follows names (t ∷ ts) m =
+    is_among (follows t) m || (is_among (documents_asked t) m || is_sought follows names ts m)
+
+pub record AreSought (follows : Follows) (names : List (List ℕ)) (ts : List Told) (some : List (List ℕ)) : Type 0 where
+  pub each : (m : List ℕ) → IsTrue (is_among some m) → IsTrue (is_sought follows names ts m)
+
+-- questions, the newest first, each of which asked for documents that were sought when it was put
+abbrev pub AreOnly : Follows → List (List ℕ) → (more old : List Told) → Type 0
+AreOnly follows names [] old = Unit {0}
+AreOnly follows names (t ∷ more) old =
+    AreSought follows names (more ++ old) (documents_asked t) × AreOnly follows names more old
+
+-- what a call tells that asks for these documents, for those that follow from answers, and for no others: nothing that was
+-- told before is gone, and each document that is asked for is one of these, follows from an answer before, or was asked
+-- for before
 pub record AsksOnly (follows : Follows) (names : List (List ℕ)) (old new : List Told) : Type 0 where
-  pub by : (rule : Follows) (roots : List (List ℕ)) → Covers rule follows → MayAsk rule roots old names
-      → AskedBy rule roots old → AskedBy rule roots new
+  pub is : ∥ ((more : List Told) × (new ≡ more ++ old) × AreOnly follows names more old) ∥₁
 
 -- documents that were told give all that this content gives: what its references name, and what its content references do
 pub record IsGiven (told : List Told) (found : Option Written) : Type 0 where

@@ -55,9 +55,23 @@ abbrev pub IsFounded : List (List ℕ) → List Told → Type 0
 IsFounded roots [] = Unit {0}
 IsFounded roots (t ∷ ts) = AreAllowed roots ts (names_asked t) × IsFounded roots ts
 
--- what a call about these documents does: if they were allowed, what was founded stays so
+-- a name is known to those who put questions: it is one of a list, an answer names it, or a question was about it
+abbrev pub is_known : List (List ℕ) → List Told → List ℕ → Bool
+is_known names [] m = is_among names m
+is_known names (t ∷ ts) m = is_among (names_given t) m || (is_among (names_asked t) m || is_known names ts m)
+
+pub record AreKnown (names : List (List ℕ)) (ts : List Told) (some : List (List ℕ)) : Type 0 where
+  pub each : (m : List ℕ) → IsTrue (is_among some m) → IsTrue (is_known names ts m)
+
+-- questions, the newest first, each of which was about names that were known when it was put
+abbrev pub AreAbout : List (List ℕ) → (more old : List Told) → Type 0
+AreAbout names [] old = Unit {0}
+AreAbout names (t ∷ more) old = AreKnown names (more ++ old) (names_asked t) × AreAbout names more old
+
+-- what a call about these documents tells: nothing that was told before is gone, and each question more is about one of
+-- them, or about a name that was told before. So what was founded stays so, if these documents were allowed.
 pub record StaysFounded (names : List (List ℕ)) (old new : List Told) : Type 0 where
-  pub by : (roots : List (List ℕ)) → AreAllowed roots old names → IsFounded roots old → IsFounded roots new
+  pub is : ∥ ((more : List Told) × (new ≡ more ++ old) × AreAbout names more old) ∥₁
 
 -- nothing that was told before is gone
 pub record Grows (old new : List Told) : Type 0 where

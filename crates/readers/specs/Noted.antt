@@ -24,7 +24,7 @@ told_by setting (questions.Key scope text) (answers.Key answer) = key setting.no
 told_by setting (questions.Pushes name) (answers.Pushes made faults) =
     pushes setting.documents name (record { pushes = made; faults = faults })
 told_by setting (questions.PageOf name context) (answers.PageOf place) =
-    page_of setting.pages name (arc_value context).page place
+    page_of setting.pages name (arc_value context) place
 told_by setting question answer = pending []
 
 abbrev pub told_of : Setting → Note → Told

@@ -1,6 +1,6 @@
 -- Which questions are told (own): those alone that a test lets through, of whatever kind they are. A note without an
 -- answer counts by the documents that it is about, since it tells nothing of a world.
-use Rattle.std.specs.Prelude.{◌≡◌, ◌++◌, ◌&&◌, ◌||◌, ℕ, Bool, false, List, [], ◌∷◌, IsTrue, bytes_eq, map}
+use Rattle.std.specs.Prelude.{◌≡◌, ◌++◌, ◌&&◌, ◌||◌, ℕ, Bool, false, List, [], ◌∷◌, IsTrue, bytes_eq, is_none, map}
 use Rattle.std.specs.List.{list_all}
 use Rattle.dita_doc.specs.declared.content.Push.{Push}
 use Rattle.dita_doc.specs.declared.plan.PageId.{PageId}
@@ -42,12 +42,12 @@ is_page_of names (page_of pages name context answer) = is_among names name
 is_page_of names (pending about) = list_all (is_among names) about
 is_page_of names _ = false
 
--- it asks for the page of this document in this context
-abbrev pub is_page_in : List ℕ → PageId → Told → Bool
-is_page_in name context (page_of pages name' context' answer) =
-    bytes_eq name name' && is_same_page context context'
-is_page_in name context (pending about) = list_all (is_among (name ∷ [])) about
-is_page_in name context _ = false
+-- it asks for the page of this document in this context, of a build of this map; the DITAVAL is not named
+abbrev pub is_page_in : (map name : List ℕ) → PageId → Told → Bool
+is_page_in map name page (page_of pages name' context answer) =
+    bytes_eq name name' && (is_same_page page context.page && (bytes_eq map context.map && is_none context.val))
+is_page_in map name page (pending about) = list_all (is_among (name ∷ [])) about
+is_page_in map name page _ = false
 
 -- the documents in which the elements stand that push into a document (DITA 1.3, "The @conaction attribute")
 abbrev pub sources_of : World → List (List ℕ) → List ℕ → List (List ℕ)

@@ -7,7 +7,7 @@ use Rattle.dita_doc.specs.Tree.{Content, tree_of}
 use Rattle.dita_doc.specs.declared.content.KeyAnswer.{KeyAnswer}
 use Rattle.dita_doc.specs.declared.content.PushList.{PushList}
 use Rattle.dita_doc.specs.declared.doc.Doc.{Doc}
-use Rattle.dita_doc.specs.declared.plan.PageId.{PageId}
+use Rattle.dita_doc.specs.declared.plan.Context.{Context}
 use Rattle.dita_doc.specs.declared.plan.PagePlan.{PagePlan}
 use Rattle.dita_doc.specs.declared.plan.PlanNode.{PlanNode}
 use Rattle.dita_doc.specs.declared.question.DocKind.{DocKind}
@@ -25,7 +25,7 @@ pub data Told : Type 0 where
   first : (name id : List ℕ) → Told
   key : (nodes : List PlanNode) (scope : ℕ) (key : List ℕ) (answer : KeyAnswer) → Told
   pushes : (documents : List (List ℕ)) (name : List ℕ) (answer : PushList) → Told
-  page_of : (pages : List PagePlan) (name : List ℕ) (context : PageId) (answer : Option ℕ) → Told
+  page_of : (pages : List PagePlan) (name : List ℕ) (context : Context) (answer : Option ℕ) → Told
   pending : (names : List (List ℕ)) → Told
   pending_document : (name : List ℕ) → Told
 
@@ -37,7 +37,7 @@ Holds world (title name topic text) = title_in world name topic ≡ text
 Holds world (first name id) = first_in world name ≡ id
 Holds world (key nodes scope text answer) = key_answer world nodes scope text ≡ answer
 Holds world (pushes documents name answer) = pushes_into world documents name ≡ answer
-Holds world (page_of pages name context answer) = page_for pages name context ≡ answer
+Holds world (page_of pages name context answer) = page_for pages name context.page ≡ answer
 Holds world (pending names) = Unit {0}
 Holds world (pending_document name) = Unit {0}
 

@@ -129,7 +129,7 @@ pub trait Asker: Keys {
         ensures stand { Self.stand self.new ≡ Self.stand self.old }
         ensures told { IfOk result (λ place. Self.told self.new
             ≡ told_spec.page_of (Self.stand self.old).setting.pages name.now
-            (arc_value context.now).page place ∷ Self.told self.old) }
+            (arc_value context.now) place ∷ Self.told self.old) }
         ensures founded { StaysFounded (name.now ∷ []) (Self.told self.old) (Self.told self.new) }
         ensures asks { AsksOnly documents_spec.nothing [] (Self.told self.old)
             (Self.told self.new) }

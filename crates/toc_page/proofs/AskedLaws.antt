@@ -1,5 +1,5 @@
 -- The questions of the contents page, told by its parts.
-use Rattle.std.specs.Prelude.{◌≡◌, ◌+◌, ℕ, zero, suc, Bool, List, [], ◌∷◌, Option, Some, None, IsTrue, IfOk, OnOk, Result, bytes_eq, slice_get, unwrap_or}
+use Rattle.std.specs.Prelude.{◌≡◌, ◌+◌, ℕ, zero, suc, Bool, true, List, [], ◌∷◌, Option, Some, None, IsTrue, IfOk, OnOk, Result, bytes_eq, slice_get, unwrap_or}
 use Rattle.std.specs.List.{filter_map, list_any}
 use Rattle.std.specs.Option.{option_to_list}
 use Rattle.std.proofs.Common.{arith, refl, sym, ap, subst, ◌∙◌}
@@ -8,6 +8,7 @@ use Rattle.std.proofs.lemmas.Result.{on_ok_weaker}
 use Rattle.std.proofs.lemmas.Slice.Eq.{bytes_eq-Decides}
 use Rattle.dita_doc.specs.declared.content.PushList.{PushList}
 use Rattle.dita_doc.specs.declared.plan.Affix.{Affix}
+use Rattle.dita_doc.specs.declared.plan.Context.{Context}
 use Rattle.dita_doc.specs.declared.plan.PageId.{PageId}
 use Rattle.dita_doc.specs.declared.plan.PagePlan.{PagePlan}
 use Rattle.dita_doc.specs.declared.plan.Plan.{Plan}
@@ -24,7 +25,7 @@ use Rattle.readers.specs.Told.{Told, document, kind, title, first, key, pushes, 
 use Rattle.readers.proofs.AmongLaws.{among_targets}
 use Rattle.readers.proofs.FoundedLaws.{among_first, among_one}
 use Rattle.readers.proofs.OnlyLaws.{all_weaker, only_after, only_answered, only_told, only_weaker}
-use Rattle.toc_page.specs.Made.{is_of_contents, is_page_at, is_page_by, is_page_of_nodes, is_title_among, is_title_of_targets}
+use Rattle.toc_page.specs.Made.{is_of_contents, is_page_at, is_page_by, is_page_of_nodes, is_title_among, is_title_of_targets, map_of}
 
 -- Some documents among others
 
@@ -81,19 +82,21 @@ page_same : (id : PageId) → IsTrue (is_same_page id id)
 page_same id = and_from _ _ (bytes_same id.doc)
     (and_from _ _ (and_from _ _ (eq-eqb id.scope id.scope refl) (texts_same id.filters)) (affixes_same id.affixes))
 
-pub page_asked : (pages : List PagePlan) (name : List ℕ) (own context : PageId) (place : Option ℕ) (old new : List Told)
-    → context ≡ own → new ≡ page_of pages name context place ∷ old → TellsOnly (is_page_in name own) old new
-page_asked pages name own context place old new same =
-    only_told (is_page_in name own) (page_of pages name context place) old new
+pub page_asked : (pages : List PagePlan) (map name : List ℕ) (own : PageId) (context : Context) (place : Option ℕ)
+    (old new : List Told) → context ≡ record { map = map; val = None; page = own; name = name }
+    → new ≡ page_of pages name context place ∷ old → TellsOnly (is_page_in map name own) old new
+page_asked pages map name own context place old new same =
+    only_told (is_page_in map name own) (page_of pages name context place) old new
+    (subst (λ (u : Context). IsTrue (is_page_in map name own (page_of pages name u place))) (sym same)
     (and_from (bytes_eq name name) _ (bytes_same name)
-    (subst (λ id. IsTrue (is_same_page own id)) (sym same) (page_same own)))
+    (and_from (is_same_page own own) _ (page_same own) (and_from (bytes_eq map map) true (bytes_same map) refl))))
 
-pub page_local : {A E : Type 0} (r : Result A E) (node : PlanNode) (target : Target) (name : List ℕ)
+pub page_local : {A E : Type 0} (r : Result A E) (plan : Plan) (node : PlanNode) (target : Target) (name : List ℕ)
     (reference : Reference) (old new : List Told) → target ≡ targets.Local name reference
-    → OnOk r (TellsOnly (is_page_in name (context_of node name)) old new)
-    → OnOk r (TellsOnly (is_page_by (Some node) (local_name target)) old new)
-page_local r node target name reference old new is =
-    subst (λ t. OnOk r (TellsOnly (is_page_by (Some node) (local_name t)) old new)) (sym is)
+    → OnOk r (TellsOnly (is_page_in (map_of plan node) name (context_of node name)) old new)
+    → OnOk r (TellsOnly (is_page_by plan (Some node) (local_name target)) old new)
+page_local r plan node target name reference old new is =
+    subst (λ t. OnOk r (TellsOnly (is_page_by plan (Some node) (local_name t)) old new)) (sym is)
 
 -- a test of a place that holds at one of them
 any_at : (test : ℕ → Bool) (nodes : List PlanNode) (from at place : ℕ) (node : PlanNode)
@@ -110,14 +113,14 @@ any_at test (head ∷ nodes) from (suc at) place node there sum here =
 
 pub page_there : {A E : Type 0} (r : Result A E) (plan : Plan) (at : ℕ) (node : PlanNode) (target : Target)
     (old new : List Told) → slice_get plan.nodes at ≡ Some node → Some target ≡ slice_get plan.targets at
-    → OnOk r (TellsOnly (is_page_by (Some node) (local_name target)) old new)
+    → OnOk r (TellsOnly (is_page_by plan (Some node) (local_name target)) old new)
     → OnOk r (TellsOnly (is_page_of_nodes plan) old new)
 page_there r plan at node target old new there leads = on_ok_weaker r (only_weaker _ (is_page_of_nodes plan) old new
     (λ t here. any_at (is_page_at plan t) plan.nodes 0 at at node there (omega arith) (at_place t here)))
   where
-    at_place : (t : Told) → IsTrue (is_page_by (Some node) (local_name target) t) → IsTrue (is_page_at plan t at)
-    at_place t here = subst (λ found. IsTrue (is_page_by found (local_name (plan_target plan at)) t)) (sym there)
-        (subst (λ found. IsTrue (is_page_by (Some node) (local_name (unwrap_or found targets.Nothing)) t)) leads here)
+    at_place : (t : Told) → IsTrue (is_page_by plan (Some node) (local_name target) t) → IsTrue (is_page_at plan t at)
+    at_place t here = subst (λ found. IsTrue (is_page_by plan found (local_name (plan_target plan at)) t)) (sym there)
+        (subst (λ found. IsTrue (is_page_by plan (Some node) (local_name (unwrap_or found targets.Nothing)) t)) leads here)
 
 -- the title of the first topic is asked for by the empty text
 pub title_empty : {E : Type 0} (r : Result (List ℕ) E) (name topic : List ℕ) (old new : List Told) → topic ≡ []

@@ -9,9 +9,12 @@ use Rattle.dita_doc.specs.declared.plan.Plan.{Plan}
 use Rattle.dita_doc.specs.declared.plan.PlanNode.{PlanNode}
 use Rattle.dita_doc.specs.declared.plan.Target.{Target}
 use Rattle.dita_doc.specs.declared.plan.Target.TheVariants as targets
+use Rattle.key_scopes.specs.Found.{found_in}
+use Rattle.key_scopes.specs.Table.{Table}
 use Rattle.map_spec.specs.Cascade.{whole_at}
 use Rattle.map_spec.specs.Elements.{is_value}
 use Rattle.map_spec.specs.Pages.{local_name, page_for}
+use Rattle.map_spec.specs.Scopes.{definition_found}
 use Rattle.map_spec.specs.Written.{Whole}
 use Rattle.html_spec.specs.Contents.{href_by, is_local, is_locked, is_text, label_by_target, label_of, navtitle_of}
 use Rattle.link_spec.specs.Links.{context_of, page_of_node, plan_target}
@@ -64,6 +67,13 @@ pub no_keys : (world : World) (plan : Plan) (homes : List (Option Whole)) → ho
 no_keys world plan homes same none = record {
   each = λ at is. absurd (false≢true (sym (none at) ∙ needs_same world plan homes at same ∙ is));
 }
+
+-- what is found in the table of a plan is the definition of the key
+pub found_key : (world : World) (plan : Plan) (keys : Option Table) (table : Table) (at scope : ℕ) (key : List ℕ)
+    (found : Option ℕ) → found ≡ found_in table scope key → keys ≡ Some table → AreKeys world plan keys
+    → needs_keys world plan at ≡ true → found ≡ definition_found world plan.nodes scope key
+found_key world plan keys table at scope key found is some are needs =
+    is ∙ ((subst (AreKeys world plan) some are).each at needs).found scope key
 
 -- Labels
 

@@ -6,6 +6,7 @@ use Rattle.std.proofs.Common.{refl, sym, ap, subst, ◌∙◌}
 use Rattle.std.proofs.lemmas.Bool.{false≢true}
 use Rattle.dita_doc.specs.declared.plan.Plan.{Plan}
 use Rattle.dita_doc.specs.declared.plan.PlanNode.{PlanNode}
+use Rattle.dita_doc.specs.declared.plan.Reference.{Reference}
 use Rattle.dita_doc.specs.declared.plan.Target.{Target}
 use Rattle.dita_doc.specs.declared.plan.Target.TheVariants as targets
 use Rattle.map_spec.specs.Pages.{local_name}
@@ -38,6 +39,13 @@ pub targets_stay : (plan : Plan) (at : ℕ) (target : Target) (old new : List To
 targets_stay plan at target old new there =
     target_named plan at target (local_name target) old new
     (ap (λ found. unwrap_or found targets.Nothing) (sym there)) refl
+
+-- a call about the document of a target that is one
+pub local_stays : (target : Target) (name : List ℕ) (reference : Reference) (old new : List Told)
+    → target ≡ targets.Local name reference → StaysFounded (name ∷ []) old new
+    → StaysFounded (option_to_list (local_name target)) old new
+local_stays target name reference old new is =
+    subst (λ (one : Target). StaysFounded (option_to_list (local_name one)) old new) (sym is)
 
 -- a call about the documents in which nodes stand
 pub homes_stay : (plan : Plan) (nodes : List PlanNode) (old new : List Told) → nodes ≡ plan.nodes

@@ -1,9 +1,10 @@
 -- The contents page of a plan, as a reader makes it (own), and the documents that it may ask about.
-use Rattle.std.specs.Prelude.{◌≡◌, ◌++◌, ◌&&◌, ◌||◌, ℕ, Bool, false, List, [], Option, Some, bytes_eq, slice_get}
+use Rattle.std.specs.Prelude.{◌≡◌, ◌++◌, ◌&&◌, ◌||◌, ℕ, Bool, false, List, [], Option, Some, None, bytes_eq, slice_get}
 use Rattle.std.specs.List.{filter_map, list_all, list_any}
 use Rattle.std.specs.Option.{option_map_or}
 use Rattle.dita_doc.specs.declared.fact.Html.{Html}
 use Rattle.dita_doc.specs.declared.fault.Fault.{Fault}
+use Rattle.dita_doc.specs.declared.plan.Context.{Context}
 use Rattle.dita_doc.specs.declared.plan.Plan.{Plan}
 use Rattle.dita_doc.specs.declared.plan.PlanNode.{PlanNode}
 use Rattle.map_spec.specs.Branches.{each_once}
@@ -50,13 +51,22 @@ is_title_among names _ = false
 abbrev pub is_title_of_targets : Plan → Told → Bool
 is_title_of_targets plan t = is_title_among (filter_map local_name plan.targets) t
 
--- it asks for the page of the document that a node leads to, in the node's own context
-abbrev pub is_page_by : Option PlanNode → Option (List ℕ) → Told → Bool
-is_page_by (Some node) (Some name) t = is_page_in name (context_of node name) t
-is_page_by _ _ t = false
+-- the document of a plan's map, as one of its nodes knows it
+abbrev pub map_of : Plan → PlanNode → List ℕ
+map_of plan node = option_map_or (λ (root : PlanNode). root.doc) (slice_get plan.nodes 0) node.doc
+
+-- where a document is used by a node of a plan: the map is the plan's, and no DITAVAL is named
+abbrev pub use_of : Plan → PlanNode → List ℕ → Context
+use_of plan node name =
+    record { map = map_of plan node; val = None; page = context_of node name; name = name }
+
+-- it asks for the page of the document that a node leads to, in the node's own context, of a build of the plan's map
+abbrev pub is_page_by : Plan → Option PlanNode → Option (List ℕ) → Told → Bool
+is_page_by plan (Some node) (Some name) t = is_page_in (map_of plan node) name (context_of node name) t
+is_page_by plan _ _ t = false
 
 abbrev pub is_page_at : Plan → Told → ℕ → Bool
-is_page_at plan t at = is_page_by (slice_get plan.nodes at) (local_name (plan_target plan at)) t
+is_page_at plan t at = is_page_by plan (slice_get plan.nodes at) (local_name (plan_target plan at)) t
 
 abbrev pub is_page_of_nodes : Plan → Told → Bool
 is_page_of_nodes plan t = list_any (is_page_at plan t) (places plan.nodes)
@@ -66,10 +76,6 @@ is_page_of_nodes plan t = list_any (is_page_at plan t) (places plan.nodes)
 abbrev pub is_of_contents : Plan → Told → Bool
 is_of_contents plan t = is_document_of (homes plan.nodes) t
     || (is_title_of_targets plan t || (is_page_of_nodes plan t || is_pushes_of plan.documents t))
-
--- the document of a plan's map, as one of its nodes knows it
-abbrev pub map_of : Plan → PlanNode → List ℕ
-map_of plan node = option_map_or (λ (root : PlanNode). root.doc) (slice_get plan.nodes 0) node.doc
 
 -- the faults of the pushes that stand in a document
 abbrev pub faults_in : World → List (List ℕ) → List ℕ → List Fault

@@ -75,7 +75,7 @@ fn href_by<A: Asker>(
         (A.told asker.old) (A.told asker.new) }
     ensures asks { AsksOnly documents_spec.nothing [] (A.told asker.old) (A.told asker.new) }
     ensures only { OnOk result (TellsOnly
-        (made_spec.is_page_by (Some node.now) (pages_spec.local_name target.now))
+        (made_spec.is_page_by plan.now (Some node.now) (pages_spec.local_name target.now))
         (A.told asker.old) (A.told asker.new)) }
     ensures grows { Grows (A.told asker.old) (A.told asker.new) }
 {
@@ -112,7 +112,8 @@ fn page_href<A: Asker>(
     ensures founded { StaysFounded (name.now ∷ []) (A.told asker.old) (A.told asker.new) }
     ensures asks { AsksOnly documents_spec.nothing [] (A.told asker.old) (A.told asker.new) }
     ensures only { OnOk result (TellsOnly
-        (only_spec.is_page_in name.now (links_spec.context_of node.now name.now))
+        (only_spec.is_page_in (made_spec.map_of plan.now node.now) name.now
+        (links_spec.context_of node.now name.now))
         (A.told asker.old) (A.told asker.new)) }
     ensures grows { Grows (A.told asker.old) (A.told asker.new) }
 {
@@ -142,10 +143,10 @@ fn context_of(
     node: &PlanNode,
     name: &Name,
 ) -> Result<Arc<Context>, AllocError>
+    ensures whole { IfOk result (λ context. arc_value context
+        ≡ made_spec.use_of plan.now node.now name.now) }
     ensures page { IfOk result (λ context. (arc_value context).page
         ≡ links_spec.context_of node.now name.now) }
-    ensures map { IfOk result (λ context. (arc_value context).map
-        ≡ made_spec.map_of plan.now node.now) }
 {
     let context = Context {
         map: map_of(plan, node).clone()?,

@@ -84,6 +84,7 @@ fn is_file(target: &Target) -> bool
 }
 
 /// Whether a node refers to a key that is defined. The node's target is a file.
+#[tactic(auto, using(crate::proofs::LabelLaws::found_key))]
 pub(crate) fn is_keyed(
     keys: &Option<ScopeTable>,
     homes: &NodeElements,

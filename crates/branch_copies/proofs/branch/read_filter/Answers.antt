@@ -1,7 +1,10 @@
-use Rattle.std.proofs.Common.{refl}
+use Rattle.std.proofs.Common.{◌∙◌, ap, refl, sym}
+use Rattle.doc_elements.specs.Walk.{element_of}
 use Rattle.readers.proofs.DocumentLaws.{asks_same}
 use Rattle.readers.proofs.FoundedLaws.{stays_same}
 use Rattle.readers.proofs.GrowthLaws.{grows_same}
+use Rattle.targets.specs.Named.{named_shown}
+use Rattle.branch_copies.proofs.BranchLaws.{asks_named, stays_named}
 use Rattle.branch_copies.proofs.branch.read_filter.Goals as goal
 
 pub returns-in_default-clause-stand : goal.returns-in_default-clause-stand
@@ -93,3 +96,13 @@ returns-in-Document-clause-stand g c = c.filter_under.ensures.stand
 
 pub returns-in-Document-clause-grows : goal.returns-in-Document-clause-grows
 returns-in-Document-clause-grows g c = c.filter_under.ensures.grows
+
+pub returns-in-Document-clause-founded : goal.returns-in-Document-clause-founded
+returns-in-Document-clause-founded g c =
+    stays_named (element_of c.args.name.now c.args.element.now) _ c.in-Document.val _ _ c.in-Some.ensures
+    (sym (ap named_shown c.in-Document.is) ∙ c.in_ok-val.ensures) c.filter_under.ensures.founded
+
+pub returns-in-Document-clause-asks : goal.returns-in-Document-clause-asks
+returns-in-Document-clause-asks g c =
+    asks_named (element_of c.args.name.now c.args.element.now) _ c.in-Document.val _ _ c.in-Some.ensures
+    (sym (ap named_shown c.in-Document.is) ∙ c.in_ok-val.ensures) c.filter_under.ensures.asks

@@ -35,7 +35,7 @@ loop-at-preserved g c = record {
   stand = c.in_ok-next.ensures.stand ∙ c.loop-at.invariant.stand;
   grows = grows_trans _ _ _ c.loop-at.invariant.grows c.in_ok-next.ensures.grows;
   founded = stays_after [] _ _ _ c.loop-at.invariant.grows c.loop-at.invariant.founded c.in_ok-next.ensures.founded;
-  asks = ditavals_after _ _ _ _ _ c.loop-at.invariant.grows c.loop-at.invariant.asks c.in_ok-next.ensures.asks;
+  asks = ditavals_after _ _ _ _ _ c.loop-at.invariant.asks c.in_ok-next.ensures.asks;
 }
 
 pub returns-clause-known : goal.returns-clause-known
@@ -57,7 +57,7 @@ returns-in_err-next-clause-founded g c = stays_after [] _ _ _ c.loop-at.invarian
 
 pub returns-in_err-next-clause-asks : goal.returns-in_err-next-clause-asks
 returns-in_err-next-clause-asks g c =
-    ditavals_after _ _ _ _ _ c.loop-at.invariant.grows c.loop-at.invariant.asks c.read_from.ensures.asks
+    ditavals_after _ _ _ _ _ c.loop-at.invariant.asks c.read_from.ensures.asks
 
 pub returns-in_err-push-clause-stand : goal.returns-in_err-push-clause-stand
 returns-in_err-push-clause-stand g c = c.read_from.ensures.stand ∙ c.loop-at.invariant.stand
@@ -70,7 +70,7 @@ returns-in_err-push-clause-founded g c = stays_after [] _ _ _ c.loop-at.invarian
 
 pub returns-in_err-push-clause-asks : goal.returns-in_err-push-clause-asks
 returns-in_err-push-clause-asks g c =
-    ditavals_after _ _ _ _ _ c.loop-at.invariant.grows c.loop-at.invariant.asks c.read_from.ensures.asks
+    ditavals_after _ _ _ _ _ c.loop-at.invariant.asks c.read_from.ensures.asks
 
 pub returns-clause-stand : goal.returns-clause-stand
 returns-clause-stand g c = c.loop-at.invariant.stand

@@ -82,7 +82,7 @@ returns-in_err-read-clause-founded g c = stays_there _ _ c.as_slice-nodes.ensure
 pub returns-in_err-read-clause-asks : goal.returns-in_err-read-clause-asks
 returns-in_err-read-clause-asks g c =
     asks_there _ _ c.as_slice-nodes.ensures _ _ _ _ c.in_ok-elements.ensures.value
-    (asks_both _ _ _ _ _ _ c.of.ensures.grows c.of.ensures.asks c.read_branches.ensures.asks)
+    (asks_both _ _ _ _ _ _ c.of.ensures.asks c.read_branches.ensures.asks)
 
 pub returns-clause-stand : goal.returns-clause-stand
 returns-clause-stand g c = c.read_branches.ensures.stand ∙ c.of.ensures.stand
@@ -97,4 +97,4 @@ returns-clause-founded g c = stays_there _ _ c.as_slice-nodes.ensures _ _
 pub returns-clause-asks : goal.returns-clause-asks
 returns-clause-asks g c =
     asks_there _ _ c.as_slice-nodes.ensures _ _ _ _ c.in_ok-elements.ensures.value
-    (asks_both _ _ _ _ _ _ c.of.ensures.grows c.of.ensures.asks c.read_branches.ensures.asks)
+    (asks_both _ _ _ _ _ _ c.of.ensures.asks c.read_branches.ensures.asks)

@@ -6,6 +6,7 @@ use Rattle.readers.specs.Founded.{StaysFounded, homes}
 use Rattle.readers.specs.Noted.{told_onto}
 use Rattle.readers.proofs.GrowthLaws.{agrees_before}
 use Rattle.build_plan.proofs.keyed.pages_under.Goals as goal
+use Rattle.readers.proofs.FoundedLaws.{stays_by, stays_when}
 
 pub returns-clause-known : goal.returns-clause-known
 returns-clause-known g c = λ world agrees.
@@ -27,7 +28,8 @@ returns-clause-founded g c =
     let above = told_onto (made_for last.nodes.now g.S.LogStart.stand.setting) g.S.LogStart.told last.asked.now in
     let stays = subst (λ notes. StaysFounded (homes nodes) (told_onto setting g.S.LogStart.told notes) above)
     c.requires.asked (c.pages.ensures.founded refl) in
-    record { by = λ roots allowed founded. last.carried.founded roots (stays.by roots allowed founded) }
+    stays_when _ _ _ last.grown (λ roots allowed founded.
+    last.carried.founded roots (stays_by _ _ _ stays roots allowed founded))
 
 pub returns-clause-asks : goal.returns-clause-asks
 returns-clause-asks g c =

@@ -156,3 +156,11 @@ returns-clause-given g c =
     nodes_may roots _ _ c.in-Ok-nodes_of_map.made.nodes _ are grows
     (asked_allowed roots _ _ (founded_before roots _ _ grows founded) c.in-Ok-nodes_of_map.ensures.asked)
     (c.in-Ok-nodes_of_map.ensures.filters roots)) c.plan_of_nodes.ensures.nodes
+
+pub returns-in_err-stop-clause-founded : goal.returns-in_err-stop-clause-founded
+returns-in_err-stop-clause-founded g c =
+    stays_map c.args.map.now (option_copied c.args.val) _ _ c.why_no_map.ensures.founded
+
+pub returns-in-Some-clause-founded : goal.returns-in-Some-clause-founded
+returns-in-Some-clause-founded g c =
+    stays_map c.args.map.now (option_copied c.args.val) _ _ c.why_no_map.ensures.founded

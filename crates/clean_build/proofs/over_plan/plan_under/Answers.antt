@@ -4,6 +4,7 @@ use Rattle.plan_layer.specs.Carried.{made_for}
 use Rattle.readers.specs.Founded.{StaysFounded, homes}
 use Rattle.readers.specs.Noted.{told_onto}
 use Rattle.clean_build.proofs.over_plan.plan_under.Goals as goal
+use Rattle.readers.proofs.FoundedLaws.{stays_by, stays_when}
 
 pub returns-clause-known : goal.returns-clause-known
 returns-clause-known g c = λ world agrees. c.run.ensures.known world (c.run.new.asker.carried.agrees world agrees)
@@ -21,4 +22,5 @@ returns-clause-founded g c =
     let stays = subst (λ notes. StaysFounded names
     (told_onto (made_for first.documents.now first.pages.now start) g.S.LogStart.told notes) above) c.requires.asked
     c.run.ensures.founded in
-    record { by = λ roots allowed founded. last.carried.founded roots founded (stays.by roots allowed founded) }
+    stays_when _ _ _ last.grown (λ roots allowed founded.
+    last.carried.founded roots founded (stays_by _ _ _ stays roots allowed founded))

@@ -6,6 +6,7 @@ use Rattle.key_layer.specs.Ready.{made_for}
 use Rattle.readers.specs.Founded.{StaysFounded, homes}
 use Rattle.readers.specs.Noted.{told_onto}
 use Rattle.clean_build.proofs.with_keys.keys_under.Goals as goal
+use Rattle.readers.proofs.FoundedLaws.{stays_by, stays_when}
 
 pub over_plan-requires-clause-tables : goal.over_plan-requires-clause-tables
 over_plan-requires-clause-tables g c = tables_noted _ _ _ _ _ c.requires.asked c.requires.tables
@@ -32,4 +33,5 @@ returns-clause-founded g c =
     c.requires.nodes c.over_plan.ensures.founded in
     let begun = subst (λ notes. StaysFounded (homes c.args.plan.now.nodes ++ about) (below notes) above)
     c.requires.asked stays in
-    record { by = λ roots allowed founded. last.carried.founded roots (begun.by roots allowed founded) }
+    stays_when _ _ _ last.grown (λ roots allowed founded.
+    last.carried.founded roots (stays_by _ _ _ begun roots allowed founded))

@@ -10,6 +10,7 @@ use Rattle.conref_push.specs.Into.{docs_of, froms}
 use Rattle.conref_push.specs.Making.{AreAsked, AreGroups}
 use Rattle.conref_push.specs.Sources.{AreSources}
 use Rattle.conref_push.proofs.AskedLaws.{asked_given, none_asked, some_asked}
+use Rattle.conref_push.proofs.SourceLaws.{same_asks, same_stays}
 use Rattle.conref_push.proofs.pushed_doc.pushed_doc.Goals as goal
 
 pub returns-clause-known : goal.returns-clause-known
@@ -49,3 +50,33 @@ pub returns-in_default-clause-only : goal.returns-in_default-clause-only
 returns-in_default-clause-only g c = subst (λ pushes. TellsOnly (is_document_of (docs_of c.args.doc.now pushes))
     (g.R.Reader.told c.args.reader.now) (g.R.Reader.told c.ask_all.new.reader))
     c.as_slice.ensures c.in_ok-found.ensures.only
+
+pub returns-in_err-found-clause-founded : goal.returns-in_err-found-clause-founded
+returns-in_err-found-clause-founded g c = same_stays _ _ _ _ _ c.as_slice.ensures c.ask_all.ensures.founded
+
+pub returns-in_err-found-clause-asks : goal.returns-in_err-found-clause-asks
+returns-in_err-found-clause-asks g c = same_asks _ _ _ _ _ c.as_slice.ensures c.ask_all.ensures.asks
+
+pub returns-in_default-clause-founded : goal.returns-in_default-clause-founded
+returns-in_default-clause-founded g c = same_stays _ _ _ _ _ c.as_slice.ensures c.ask_all.ensures.founded
+
+pub returns-in_default-clause-asks : goal.returns-in_default-clause-asks
+returns-in_default-clause-asks g c = same_asks _ _ _ _ _ c.as_slice.ensures c.ask_all.ensures.asks
+
+pub returns-in_err-by_place-clause-founded : goal.returns-in_err-by_place-clause-founded
+returns-in_err-by_place-clause-founded g c = same_stays _ _ _ _ _ c.as_slice.ensures c.ask_all.ensures.founded
+
+pub returns-in_err-by_place-clause-asks : goal.returns-in_err-by_place-clause-asks
+returns-in_err-by_place-clause-asks g c = same_asks _ _ _ _ _ c.as_slice.ensures c.ask_all.ensures.asks
+
+pub returns-in_err-made-clause-founded : goal.returns-in_err-made-clause-founded
+returns-in_err-made-clause-founded g c = same_stays _ _ _ _ _ c.as_slice.ensures c.ask_all.ensures.founded
+
+pub returns-in_err-made-clause-asks : goal.returns-in_err-made-clause-asks
+returns-in_err-made-clause-asks g c = same_asks _ _ _ _ _ c.as_slice.ensures c.ask_all.ensures.asks
+
+pub returns-clause-founded : goal.returns-clause-founded
+returns-clause-founded g c = same_stays _ _ _ _ _ c.as_slice.ensures c.ask_all.ensures.founded
+
+pub returns-clause-asks : goal.returns-clause-asks
+returns-clause-asks g c = same_asks _ _ _ _ _ c.as_slice.ensures c.ask_all.ensures.asks

@@ -1,5 +1,5 @@
 use Rattle.std.proofs.Common.{inr, rules}
-use Rattle.desk_top.proofs.EndsLaws.{begun_over, ends_written}
+use Rattle.desk_top.proofs.EndsLaws.{ends_written}
 use Rattle.desk_top.proofs.modes.run.Goals as goal
 
 pub returns-in-Ok-answered : goal.returns-in-Ok-answered
@@ -8,15 +8,27 @@ returns-in-Ok-answered g c =
     let form = rw c.as_slice.ensures at c.in-Ok-answered.ensures.form in
     let pages = rw c.as_slice.ensures at c.in-Ok-answered.ensures.pages in
     let written = rw c.as_slice-in-Ok-answered.ensures at c.written.ensures in
-    ends_written c.args.with_terms _ _ c.in-Ok.input c.in-Ok-answered.output c.in-Ok-answered.status _ c.in-Ok.ensures.ok answer.0
-    answer.1 form pages c.in-Ok.ensures.cause.stays c.in-Ok-answered.ensures.cause.stays written
+    ends_written c.args.with_terms _ _ _ c.in-Ok.input c.in-Ok-answered.output c.in-Ok-answered.status _
+    c.in-Ok.ensures.ok answer.0 answer.1 form pages c.in-Ok.ensures.cause.stays c.in-Ok-answered.ensures.cause.stays
+    written
 
 pub returns-in-Err-Fault-answered : goal.returns-in-Err-Fault-answered
 returns-in-Err-Fault-answered g c =
-    let pages = rw c.as_slice.ensures at c.in-Err-Fault-answered.ensures.pages in
-    (search rules, (begun_over c.args.with_terms _ _ c.in-Ok.input c.in-Ok.ensures.ok, pages, search rules))
+    let put = rw c.as_slice.ensures at c.in-Err-Fault-answered.ensures.pages in
+    record {
+      rose = search rules;
+      input = c.in-Ok.input;
+      read = c.in-Ok.ensures.ok;
+      pages = put;
+      output = search rules;
+    }
 
 pub returns : goal.returns
 returns g c =
-    let pages = rw c.as_slice.ensures at c.in-Err-NoMemory-answered.ensures.pages in
-    inr (begun_over c.args.with_terms _ _ c.in-Ok.input c.in-Ok.ensures.ok, pages, search rules)
+    let put = rw c.as_slice.ensures at c.in-Err-NoMemory-answered.ensures.pages in
+    inr (record {
+      input = c.in-Ok.input;
+      read = c.in-Ok.ensures.ok;
+      pages = put;
+      output = search rules;
+    })

@@ -1,6 +1,6 @@
 use Rattle.std.specs.Prelude.{◌∷◌}
 use Rattle.std.proofs.Common.{refl, ap, ◌∙◌}
-use Rattle.dita_doc.specs.declared.plan.PageId.{PageId}
+use Rattle.dita_doc.specs.declared.plan.Context.{Context}
 use Rattle.readers.proofs.DocumentLaws.{asks_same}
 use Rattle.readers.proofs.FoundedLaws.{stays_same}
 use Rattle.readers.proofs.GrowthLaws.{grows_same}
@@ -46,6 +46,6 @@ returns-clause-grows g c = c.page_of.ensures.grows
 pub returns-clause-asked : goal.returns-clause-asked
 returns-clause-asked g c = record {
   place = c.in_ok-page.page;
-  is = c.in_ok-page.ensures.told ∙ ap (λ (id : PageId). page_of (g.A.Reader.stand c.args.asker.now).setting.pages
-      c.args.name.now id c.in_ok-page.page ∷ g.A.Reader.told c.args.asker.now) c.in_ok-context.ensures.page;
+  is = c.in_ok-page.ensures.told ∙ ap (λ (context : Context). page_of (g.A.Reader.stand c.args.asker.now).setting.pages
+      c.args.name.now context c.in_ok-page.page ∷ g.A.Reader.told c.args.asker.now) c.in_ok-context.ensures.whole;
 }

@@ -2,6 +2,8 @@ use Rattle.std.proofs.Common.{◌∙◌, [], ap, map}
 use Rattle.map_spec.specs.Cascade.{whole_at}
 use Rattle.html_spec.specs.Contents.{contents, contents_body}
 use Rattle.html_spec.specs.PageHtml as page_html
+use Rattle.readers.specs.Documents.{nothing}
+use Rattle.readers.proofs.DocumentLaws.{asks_after, homes_asked}
 use Rattle.readers.proofs.FoundedLaws.{stays_after}
 use Rattle.readers.proofs.GrowthLaws.{agrees_before, grows_trans}
 use Rattle.readers.specs.Setting.{Stand}
@@ -70,3 +72,21 @@ pub returns-clause-only : goal.returns-clause-only
 returns-clause-only g c = only_after _ _ _ _
     (nodes_asked c.args.plan.now _ _ c.as_slice.result.now c.as_slice.ensures c.in_ok-homes.ensures.only)
     c.in_ok-body.ensures.only
+
+pub returns-in_err-homes-clause-asks : goal.returns-in_err-homes-clause-asks
+returns-in_err-homes-clause-asks g c = homes_asked _ _ _ _ c.as_slice.ensures c.of.ensures.asks
+
+pub returns-in_err-title-clause-asks : goal.returns-in_err-title-clause-asks
+returns-in_err-title-clause-asks g c = homes_asked _ _ _ _ c.as_slice.ensures c.of.ensures.asks
+
+pub returns-in_err-body-clause-asks : goal.returns-in_err-body-clause-asks
+returns-in_err-body-clause-asks g c = asks_after nothing _ _ _ _ c.of.ensures.grows
+    (homes_asked _ _ _ _ c.as_slice.ensures c.of.ensures.asks) c.body_of.ensures.asks
+
+pub returns-in_err-page_text-clause-asks : goal.returns-in_err-page_text-clause-asks
+returns-in_err-page_text-clause-asks g c = asks_after nothing _ _ _ _ c.of.ensures.grows
+    (homes_asked _ _ _ _ c.as_slice.ensures c.of.ensures.asks) c.body_of.ensures.asks
+
+pub returns-clause-asks : goal.returns-clause-asks
+returns-clause-asks g c = asks_after nothing _ _ _ _ c.of.ensures.grows
+    (homes_asked _ _ _ _ c.as_slice.ensures c.of.ensures.asks) c.body_of.ensures.asks

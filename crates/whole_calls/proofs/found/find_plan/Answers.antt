@@ -9,6 +9,7 @@ use Rattle.readers.proofs.GrowthLaws.{agrees_before, are_allowed_before, grows_t
 use Rattle.whole_calls.proofs.FoundLaws.{documents_may, parts_may, plan_may}
 use Rattle.whole_calls.proofs.SingleLaws.{ok_same}
 use Rattle.whole_calls.proofs.found.find_plan.Goals as goal
+use Rattle.readers.proofs.FoundedLaws.{stays_by, stays_when}
 
 pub returns-clause-known : goal.returns-clause-known
 returns-clause-known g c = λ world plan agrees is.
@@ -40,7 +41,7 @@ returns-clause-given g c = λ roots allowed founded.
     let planned = c.in-Ok.ensures in
     let name = c.args.map.now in
     let val = option_copied c.args.val in
-    let at_plan = c.planned.ensures.founded.by roots allowed founded in
+    let at_plan = stays_by _ _ _ c.planned.ensures.founded roots allowed founded in
     let elements = planned.ready.elements world agrees in
     let nodes = planned.given roots at_plan in
     let is = planned.known world agrees in
@@ -49,28 +50,26 @@ returns-clause-given g c = λ roots allowed founded.
     are_allowed_before roots _ _ _ c.of.ensures.grows (parts_may roots _ name val c.in-Ok.planned.plan build nodes plan)
 
 pub returns-in_err-tables-clause-founded : goal.returns-in_err-tables-clause-founded
-returns-in_err-tables-clause-founded g c = record {
-  by = λ roots allowed founded.
-      (let world = (g.T.Reader.stand c.planned.new.asker).world in
-      let agrees = g.met.T.Reader.agrees c.planned.new.asker in
-      let planned = c.in-Ok.ensures in
-      c.of.ensures.founded.by roots
-      (documents_may world c.args.map.now (option_copied c.args.val) _ _ _ (planned.known world agrees)
-      (planned.ready.elements world agrees) planned.ready.given roots)
-      (c.planned.ensures.founded.by roots allowed founded));
-}
+returns-in_err-tables-clause-founded g c = stays_when _ _ _
+    (grows_trans _ _ _ c.planned.ensures.grows c.of.ensures.grows) (λ roots allowed founded.
+    (let world = (g.T.Reader.stand c.planned.new.asker).world in
+    let agrees = g.met.T.Reader.agrees c.planned.new.asker in
+    let planned = c.in-Ok.ensures in
+    stays_by _ _ _ c.of.ensures.founded roots
+    (documents_may world c.args.map.now (option_copied c.args.val) _ _ _ (planned.known world agrees)
+    (planned.ready.elements world agrees) planned.ready.given roots)
+    (stays_by _ _ _ c.planned.ensures.founded roots allowed founded)))
 
 pub returns-clause-founded : goal.returns-clause-founded
-returns-clause-founded g c = record {
-  by = λ roots allowed founded.
-      (let world = (g.T.Reader.stand c.planned.new.asker).world in
-      let agrees = g.met.T.Reader.agrees c.planned.new.asker in
-      let planned = c.in-Ok.ensures in
-      c.of.ensures.founded.by roots
-      (documents_may world c.args.map.now (option_copied c.args.val) _ _ _ (planned.known world agrees)
-      (planned.ready.elements world agrees) planned.ready.given roots)
-      (c.planned.ensures.founded.by roots allowed founded));
-}
+returns-clause-founded g c = stays_when _ _ _
+    (grows_trans _ _ _ c.planned.ensures.grows c.of.ensures.grows) (λ roots allowed founded.
+    (let world = (g.T.Reader.stand c.planned.new.asker).world in
+    let agrees = g.met.T.Reader.agrees c.planned.new.asker in
+    let planned = c.in-Ok.ensures in
+    stays_by _ _ _ c.of.ensures.founded roots
+    (documents_may world c.args.map.now (option_copied c.args.val) _ _ _ (planned.known world agrees)
+    (planned.ready.elements world agrees) planned.ready.given roots)
+    (stays_by _ _ _ c.planned.ensures.founded roots allowed founded)))
 
 pub returns-in_err-tables-clause-grows : goal.returns-in_err-tables-clause-grows
 returns-in_err-tables-clause-grows g c = grows_trans _ _ _ c.planned.ensures.grows c.of.ensures.grows

@@ -4,6 +4,7 @@ use Rattle.readers.specs.Founded.{StaysFounded}
 use Rattle.readers.specs.Noted.{told_onto}
 use Rattle.readers.specs.Setting.{Stand}
 use Rattle.whole_calls.proofs.over_reader.reader_under.Goals as goal
+use Rattle.readers.proofs.FoundedLaws.{stays_by, stays_when}
 
 pub returns-clause-known : goal.returns-clause-known
 returns-clause-known g c = λ world agrees.
@@ -17,7 +18,8 @@ returns-clause-founded g c =
     let stays = subst (λ notes. StaysFounded (g.W.TitleWork.about c.args.work)
     (told_onto setting g.S.LogStart.told notes)
     (told_onto setting g.S.LogStart.told last.asked.now)) c.requires.asked c.run.ensures.founded in
-    record { by = λ roots allowed founded. last.carried.founded roots (stays.by roots allowed founded) }
+    stays_when _ _ _ last.grown (λ roots allowed founded.
+    last.carried.founded roots (stays_by _ _ _ stays roots allowed founded))
 
 pub returns-clause-grows : goal.returns-clause-grows
 returns-clause-grows g c = c.run.new.asker.grown

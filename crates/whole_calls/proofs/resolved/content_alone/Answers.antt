@@ -3,6 +3,7 @@ use Rattle.readers.proofs.GrowthLaws.{agrees_before, grows_trans}
 use Rattle.whole_calls.specs.Single.{HasTables, IsPlanFound, MayBeAsked}
 use Rattle.whole_calls.proofs.SingleLaws.{content_made}
 use Rattle.whole_calls.proofs.resolved.content_alone.Goals as goal
+use Rattle.readers.proofs.FoundedLaws.{stays_by, stays_when}
 
 pub over_titles-requires-clause-tables : goal.over_titles-requires-clause-tables
 over_titles-requires-clause-tables g c = subst (HasTables _) c.in-Some.is c.in_ok-plan.ensures.tables
@@ -25,11 +26,11 @@ returns-in_default-clause-known g c = λ world agrees. record {
 }
 
 pub returns-clause-founded : goal.returns-clause-founded
-returns-clause-founded g c = record {
-  by = λ roots allowed founded.
-      c.over_titles.ensures.founded.by roots (subst (MayBeAsked _ _ _ _) c.in-Some.is c.in_ok-plan.ensures.given
-      roots allowed founded) (c.find_plan.ensures.founded.by roots allowed founded);
-}
+returns-clause-founded g c = stays_when _ _ _
+    (grows_trans _ _ _ c.find_plan.ensures.grows c.over_titles.ensures.grows) (λ roots allowed founded.
+    stays_by _ _ _ c.over_titles.ensures.founded roots (subst (MayBeAsked _ _ _ _) c.in-Some.is
+    c.in_ok-plan.ensures.given roots allowed founded)
+    (stays_by _ _ _ c.find_plan.ensures.founded roots allowed founded))
 
 pub returns-clause-grows : goal.returns-clause-grows
 returns-clause-grows g c = grows_trans _ _ _ c.find_plan.ensures.grows c.over_titles.ensures.grows

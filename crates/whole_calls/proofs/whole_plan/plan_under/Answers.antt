@@ -4,6 +4,7 @@ use Rattle.readers.specs.Founded.{StaysFounded}
 use Rattle.readers.specs.Noted.{told_onto}
 use Rattle.build_plan.specs.Documents.{build_names}
 use Rattle.whole_calls.proofs.whole_plan.plan_under.Goals as goal
+use Rattle.readers.proofs.FoundedLaws.{stays_by, stays_when}
 
 pub returns-in-Ok-clause-known : goal.returns-in-Ok-clause-known
 returns-in-Ok-clause-known g c = λ world agrees.
@@ -20,7 +21,8 @@ returns-in-Ok-clause-founded g c =
     let stays = subst (λ notes. StaysFounded (build_names c.args.map.now (option_copied c.args.val))
     (told_onto setting g.S.LogStart.told notes) (told_onto setting g.S.LogStart.told last.asked.now))
     c.requires.asked c.planned.ensures.founded in
-    record { by = λ roots allowed founded. last.carried.founded roots (stays.by roots allowed founded) }
+    stays_when _ _ _ last.grown (λ roots allowed founded.
+    last.carried.founded roots (stays_by _ _ _ stays roots allowed founded))
 
 pub returns-in-Err-clause-founded : goal.returns-in-Err-clause-founded
 returns-in-Err-clause-founded g c =
@@ -29,4 +31,5 @@ returns-in-Err-clause-founded g c =
     let stays = subst (λ notes. StaysFounded (build_names c.args.map.now (option_copied c.args.val))
     (told_onto setting g.S.LogStart.told notes) (told_onto setting g.S.LogStart.told last.asked.now))
     c.requires.asked c.planned.ensures.founded in
-    record { by = λ roots allowed founded. last.carried.founded roots (stays.by roots allowed founded) }
+    stays_when _ _ _ last.grown (λ roots allowed founded.
+    last.carried.founded roots (stays_by _ _ _ stays roots allowed founded))

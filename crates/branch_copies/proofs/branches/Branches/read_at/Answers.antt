@@ -39,7 +39,7 @@ loop-child-preserved g c = record {
   stand = c.in_ok-read_child.ensures.stand ∙ c.loop-child.invariant.stand;
   grows = grows_trans _ _ _ c.loop-child.invariant.grows c.in_ok-read_child.ensures.grows;
   founded = stays_after [] _ _ _ c.loop-child.invariant.grows c.loop-child.invariant.founded c.in_ok-read_child.ensures.founded;
-  asks = ditavals_after _ _ _ _ _ c.loop-child.invariant.grows c.loop-child.invariant.asks c.in_ok-read_child.ensures.asks;
+  asks = ditavals_after _ _ _ _ _ c.loop-child.invariant.asks c.in_ok-read_child.ensures.asks;
 }
 
 pub returns-clause-known : goal.returns-clause-known
@@ -62,7 +62,7 @@ returns-in_err-read_child-clause-founded g c = stays_after [] _ _ _ c.loop-child
 
 pub returns-in_err-read_child-clause-asks : goal.returns-in_err-read_child-clause-asks
 returns-in_err-read_child-clause-asks g c =
-    ditavals_after _ _ _ _ _ c.loop-child.invariant.grows c.loop-child.invariant.asks c.read_child.ensures.asks
+    ditavals_after _ _ _ _ _ c.loop-child.invariant.asks c.read_child.ensures.asks
 
 pub returns-clause-stand : goal.returns-clause-stand
 returns-clause-stand g c = c.loop-child.invariant.stand

@@ -59,3 +59,16 @@ returns-clause-only g c =
     c.in_ok-read_val.ensures.only)
     (only_weaker (is_document_of filters) (is_document_of (val ++ filters)) _ _ (documents_among filters (val ++ filters) (λ m here. among_back val filters m here)) next))
     c.read_filters.ensures.only)
+
+pub returns-in_err-read_val-clause-founded : goal.returns-in_err-read_val-clause-founded
+returns-in_err-read_val-clause-founded g c =
+    let val = option_to_list c.args.context.now.val in
+    let filters = c.args.context.now.page.filters in
+    stays_among val (val ++ filters) _ _ (λ m here. among_front val filters m here) c.read_val.ensures.founded
+
+pub returns-in_err-read_val-clause-asks : goal.returns-in_err-read_val-clause-asks
+returns-in_err-read_val-clause-asks g c =
+    let val = option_to_list c.args.context.now.val in
+    let filters = c.args.context.now.page.filters in
+    asks_among nothing nothing val (val ++ filters) _ _ (covers_same nothing)
+    (λ m here. among_front val filters m here) c.read_val.ensures.asks

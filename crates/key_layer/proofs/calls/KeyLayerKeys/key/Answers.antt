@@ -1,4 +1,4 @@
-use Rattle.std.proofs.Common.{ap, refl, sym, ◌∙◌}
+use Rattle.std.proofs.Common.{ap, inr, refl, sym, ◌∙◌}
 use Rattle.readers.specs.Told.{key}
 use Rattle.readers.specs.Documents.{documents_asked}
 use Rattle.readers.specs.Founded.{names_asked}
@@ -10,7 +10,7 @@ use Rattle.readers.proofs.LayerLaws.{grows_tried, note_known, note_settled, stay
 use Rattle.key_layer.specs.Ready.{made_for}
 use Rattle.key_layer.proofs.AnswerLaws.{answer_held, answer_moved}
 use Rattle.key_layer.proofs.PassingLaws.{note_plain, note_remembered}
-use Rattle.key_layer.proofs.TellingLaws.{nodes_settled}
+use Rattle.key_layer.proofs.TellingLaws.{nodes_settled, nodes_tried}
 use Rattle.key_layer.proofs.calls.KeyLayerKeys.key.Goals as goal
 
 pub invariant_of-self-in-Some-clause-carried : goal.invariant_of-self-in-Some-clause-carried
@@ -78,3 +78,11 @@ returns-clause-asks g c = asks_told _ _ _ _ _ refl (returns-clause-told g c)
 
 pub returns-clause-grows : goal.returns-clause-grows
 returns-clause-grows g c = grows_one _ _ _ (returns-clause-told g c)
+
+pub returns-in_err-answer-2-clause-asks : goal.returns-in_err-answer-2-clause-asks
+returns-in_err-answer-2-clause-asks g c = nodes_tried g.S.LogStart.stand.setting g.S.LogStart.told _ _ _ _ _ _ _
+    c.in_err-answer-2.ensures.nodes c.in_err-answer-2.ensures.err refl
+
+pub returns-in_err-note-2-clause-asks : goal.returns-in_err-note-2-clause-asks
+returns-in_err-note-2-clause-asks g c = nodes_tried g.S.LogStart.stand.setting g.S.LogStart.told _ _ _ _ _ _ _
+    c.in_ok-answer-2.ensures.nodes (inr c.in_ok-answer-2.ensures.ok) refl

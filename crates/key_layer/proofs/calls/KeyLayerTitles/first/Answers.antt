@@ -1,10 +1,10 @@
-use Rattle.std.proofs.Common.{refl}
+use Rattle.std.proofs.Common.{inr, refl}
 use Rattle.readers.proofs.DocumentLaws.{asks_told}
 use Rattle.readers.proofs.FoundedLaws.{stays_told}
 use Rattle.readers.proofs.GrowthLaws.{grows_one, told_answer}
 use Rattle.readers.proofs.LayerLaws.{plain_settled}
 use Rattle.key_layer.proofs.PassingLaws.{note_passed}
-use Rattle.key_layer.proofs.TellingLaws.{nodes_settled}
+use Rattle.key_layer.proofs.TellingLaws.{nodes_settled, nodes_tried}
 use Rattle.key_layer.specs.Ready.{made_for}
 use Rattle.key_layer.proofs.calls.KeyLayerTitles.first.Goals as goal
 
@@ -33,3 +33,11 @@ returns-clause-asks g c = asks_told _ _ _ _ _ refl (returns-clause-told g c)
 
 pub returns-clause-grows : goal.returns-clause-grows
 returns-clause-grows g c = grows_one _ _ _ (returns-clause-told g c)
+
+pub returns-in_err-id-clause-asks : goal.returns-in_err-id-clause-asks
+returns-in_err-id-clause-asks g c = nodes_tried g.S.LogStart.stand.setting g.S.LogStart.told _ _ _ _ _ _ _
+    c.in_err-id.ensures.nodes c.in_err-id.ensures.err refl
+
+pub returns-in_err-note-clause-asks : goal.returns-in_err-note-clause-asks
+returns-in_err-note-clause-asks g c = nodes_tried g.S.LogStart.stand.setting g.S.LogStart.told _ _ _ _ _ _ _
+    c.in_ok-id.ensures.nodes (inr c.in_ok-id.ensures.ok) refl

@@ -5,7 +5,7 @@ use Rattle.key_scopes.proofs.table.ScopeTable.own.Goals as goal
 
 pub returns : goal.returns
 returns c = λ world nodes is.
-    let long : length c.self.inside.own_keys.items ≡ length c.self.inside.scopes = c.self.invariant in
+    let long : length c.self.inside.own_keys.items ≡ length c.self.inside.scopes = c.self.invariant.long in
     let seen : length c.self.inside.scopes ≡ length c.args.self.now.scopes =
     ap (λ (t : Table). length t.scopes) c.self.view_is in
     own_at world nodes c.self.inside.own_keys.items c.args.scope c.index.result.now

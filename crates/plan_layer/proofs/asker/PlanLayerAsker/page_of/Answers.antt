@@ -25,7 +25,7 @@ pub invariant_of-self-clause-carried : goal.invariant_of-self-clause-carried
 invariant_of-self-clause-carried g c =
     let layer = c.args.self.now in
     carry.note_known _ _
-    (page_of layer.pages.now c.args.name.now (arc_value c.args.context.now).page c.in_ok-place.place) _ _ _ _
+    (page_of layer.pages.now c.args.name.now (arc_value c.args.context.now) c.in_ok-place.place) _ _ _ _
     layer.carried (c.in_ok-note.ensures (made_for layer.documents.now layer.pages.now g.S.LogStart.stand.setting))
     c.begin.ensures.either (λ world agrees.
     ap (λ (context : Context). page_for layer.pages.now c.args.name.now context.page) (sym c.deref.ensures)
@@ -36,10 +36,10 @@ pub invariant_of-self-clause-passed : goal.invariant_of-self-clause-passed
 invariant_of-self-clause-passed g c =
     let layer = c.args.self.now in
     pass.note_known _ _ _
-    (page_of layer.pages.now c.args.name.now (arc_value c.args.context.now).page c.in_ok-place.place) _ _ _ _
+    (page_of layer.pages.now c.args.name.now (arc_value c.args.context.now) c.in_ok-place.place) _ _ _ _
     layer.passed (c.in_ok-note.ensures (made_for layer.documents.now layer.pages.now g.S.LogStart.stand.setting))
     c.begin.ensures.either (pass.page_follows layer.documents.now layer.pages.now c.args.name.now
-    (arc_value c.args.context.now).page c.in_ok-place.place)
+    (arc_value c.args.context.now) c.in_ok-place.place)
 
 pub returns-in_err-place-clause-stand : goal.returns-in_err-place-clause-stand
 returns-in_err-place-clause-stand g c = refl

@@ -3,7 +3,7 @@ use Rattle.dita_doc.specs.declared.content.LinkKind.TheVariants as links
 use Rattle.family_links.specs.Collected.{links_by_collections}
 use Rattle.link_spec.specs.Links.{links_of_kind, page_links}
 use Rattle.node_links.proofs.NodeLaws.{both_are}
-use Rattle.node_links.proofs.table.NodeLinks.shown.Goals as goal
+use Rattle.node_links.proofs.table.NodeLinks.of_page.Goals as goal
 
 pub returns-clause-known : goal.returns-clause-known
 returns-clause-known g c = λ world agrees are.

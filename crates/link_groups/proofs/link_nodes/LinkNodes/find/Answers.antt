@@ -2,7 +2,7 @@ use Rattle.std.proofs.Common.{sym, inr}
 use Rattle.readers.proofs.FoundedLaws.{stays_one}
 use Rattle.link_groups.specs.LinkNodes.{plan_names}
 use Rattle.link_groups.proofs.NodeLaws.{found_asked, named_among}
-use Rattle.link_groups.proofs.link_nodes.LinkNodes.found.Goals as goal
+use Rattle.link_groups.proofs.link_nodes.LinkNodes.find.Goals as goal
 
 pub returns-in_err-found-clause-founded : goal.returns-in_err-found-clause-founded
 returns-in_err-found-clause-founded g c =

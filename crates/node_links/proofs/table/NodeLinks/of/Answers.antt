@@ -1,13 +1,18 @@
-use Rattle.std.proofs.Common.{◌∙◌, ap, map, subst, sym}
+use Rattle.std.proofs.Common.{◌≡◌, ◌∙◌, List, [], ap, map, subst, sym}
+use Rattle.dita_doc.specs.declared.plan.PlanNode.{PlanNode}
 use Rattle.family_links.specs.Collected.{IsReady}
 use Rattle.link_groups.proofs.NodeLaws.{homes_stay}
 use Rattle.map_spec.specs.Cascade.{whole_at}
+use Rattle.readers.proofs.DocumentLaws.{asks_after, asks_none, homes_asked}
 use Rattle.readers.proofs.FoundedLaws.{stays_after}
 use Rattle.readers.proofs.GrowthLaws.{agrees_before}
+use Rattle.readers.specs.Documents.{AsksOnly, nothing}
+use Rattle.readers.specs.Founded.{Grows, homes}
 use Rattle.readers.specs.Setting.{Stand}
+use Rattle.readers.specs.Told.{Told}
 use Rattle.reltable_links.specs.RowTable.{CanLink}
 use Rattle.reltable_links.proofs.UpLaws.{tree_before}
-use Rattle.node_links.proofs.table.NodeLinks.found.Goals as goal
+use Rattle.node_links.proofs.table.NodeLinks.of.Goals as goal
 
 pub returns-in_err-homes-clause-founded : goal.returns-in_err-homes-clause-founded
 returns-in_err-homes-clause-founded g c =
@@ -54,3 +59,31 @@ returns-clause-known g c = λ world agrees can.
       rows = rows.are;
       faults = c.in_ok-faults.ensures world rows.are;
     }
+
+-- the documents of the nodes are asked for, and then none
+asks_both : (slice nodes : List PlanNode) (a b c : List Told) → slice ≡ nodes → Grows a b
+    → AsksOnly nothing (homes slice) a b → AsksOnly nothing [] b c → AsksOnly nothing (homes nodes) a c
+asks_both slice nodes a b c same grows before next = asks_after nothing (homes nodes) a b c grows
+    (homes_asked slice nodes a b same before) (asks_none nothing (homes nodes) b c next)
+
+pub returns-in_err-homes-clause-asks : goal.returns-in_err-homes-clause-asks
+returns-in_err-homes-clause-asks g c = homes_asked _ _ _ _ c.as_slice.ensures c.of.ensures.asks
+
+pub returns-in_err-collections-clause-asks : goal.returns-in_err-collections-clause-asks
+returns-in_err-collections-clause-asks g c =
+    asks_both _ _ _ _ _ c.as_slice.ensures c.of.ensures.grows c.of.ensures.asks c.of-2.ensures.asks
+
+pub returns-in_err-rows-clause-asks : goal.returns-in_err-rows-clause-asks
+returns-in_err-rows-clause-asks g c =
+    asks_both _ _ _ _ _ c.as_slice.ensures c.of.ensures.grows c.of.ensures.asks
+    (asks_after nothing [] _ _ _ c.of-2.ensures.grows c.of-2.ensures.asks c.of-3.ensures.asks)
+
+pub returns-in_err-faults-clause-asks : goal.returns-in_err-faults-clause-asks
+returns-in_err-faults-clause-asks g c =
+    asks_both _ _ _ _ _ c.as_slice.ensures c.of.ensures.grows c.of.ensures.asks
+    (asks_after nothing [] _ _ _ c.of-2.ensures.grows c.of-2.ensures.asks c.of-3.ensures.asks)
+
+pub returns-clause-asks : goal.returns-clause-asks
+returns-clause-asks g c =
+    asks_both _ _ _ _ _ c.as_slice.ensures c.of.ensures.grows c.of.ensures.asks
+    (asks_after nothing [] _ _ _ c.of-2.ensures.grows c.of-2.ensures.asks c.of-3.ensures.asks)

@@ -4,7 +4,7 @@ use Rattle.readers.proofs.FoundedLaws.{stays_among}
 use Rattle.link_groups.specs.LinkNodes.{names_of_pages, plan_names}
 use Rattle.link_groups.proofs.ListLaws.{all_linked, none_linked}
 use Rattle.link_groups.proofs.NodeLaws.{pages_among}
-use Rattle.link_groups.proofs.link_list.LinkList.shown.Goals as goal
+use Rattle.link_groups.proofs.link_list.LinkList.written.Goals as goal
 
 pub returns-in_default-clause-known : goal.returns-in_default-clause-known
 returns-in_default-clause-known g c = λ world own all agrees holds.
