@@ -1,9 +1,9 @@
 -- For which documents as a whole the parts of a build may ask (own), each rule by itself.
-use Rattle.std.specs.Prelude.{◌≡◌, ◌++◌, ◌||◌, ℕ, Bool, List, [], ◌∷◌, Result, Ok, Err, codes, map, option_map, slice_get, if◌then◌else◌}
+use Rattle.std.specs.Prelude.{◌≡◌, ◌++◌, ◌||◌, ◌⊎◌, ℕ, Bool, List, [], ◌∷◌, All, IsSomeAnd, IsTrue, Option, Result, Ok, Err, codes, option_map, slice_get, if◌then◌else◌}
 use Rattle.std.specs.Arc.{arc_value}
 use Rattle.std.specs.List.{flat_map}
-use Rattle.std.specs.Option.{option_map_or, option_to_list}
-use Rattle.dita_doc.specs.declared.content.Push.{Push}
+use Rattle.std.specs.Option.{option_map_or}
+use Rattle.conref_spec.specs.PageDocuments.{IsPageDocument}
 use Rattle.dita_doc.specs.declared.fact.Part.{Part}
 use Rattle.dita_doc.specs.declared.fact.Part.TheVariants as parts
 use Rattle.dita_doc.specs.declared.plan.PagePlan.{PagePlan}
@@ -14,16 +14,20 @@ use Rattle.dita_doc.specs.declared.question.Answered.TheVariants as answers
 use Rattle.dita_doc.specs.declared.question.Asked.{Asked}
 use Rattle.dita_doc.specs.declared.question.Question.{Question}
 use Rattle.dita_doc.specs.declared.question.Question.TheVariants as questions
+use Rattle.fact_judge.specs.Agreed.{OwnAnswers, PlanAnswers}
 use Rattle.fact_judge.specs.Founded.{roots_of}
 use Rattle.fact_judge.specs.Order.{InOrder}
 use Rattle.facts.specs.Rows.{Stands}
 use Rattle.facts.specs.declared.fact.Fact.{Fact}
 use Rattle.facts.specs.declared.fact.PlanFact.{PlanFact}
 use Rattle.map_spec.specs.Elements.{attribute, has_value, is_a}
-use Rattle.map_spec.specs.Pages.{local_name}
+use Rattle.map_spec.specs.Pushes.{pushes_into}
 use Rattle.map_spec.specs.Target.{Named, Document, Elsewhere, Unreadable, named_of}
 use Rattle.map_spec.specs.Written.{Element, written_in}
-use Rattle.readers.specs.Named.{given_in_found, reused_by}
+use Rattle.part_spec.specs.Parts.{setting_of}
+use Rattle.reader_spec.specs.World.{World}
+use Rattle.readers.specs.Founded.{is_among}
+use Rattle.readers.specs.Named.{given_in_found}
 use Rattle.readers.specs.Told.{tree_found}
 
 -- the document that a question asks for as a whole
@@ -70,26 +74,23 @@ abbrev pub PlanAsks : List (List ℕ) → PlanFact → Type 0
 PlanAsks roots plan = InOrder document_in planned_in roots plan.asked
 
 -- A page asks for what the plan asks for, and for its documents: its own, those that content references in its documents
--- name, by themselves or by keys, and those from which the pushes into its documents come
+-- name, by themselves or by keys, and those from which the pushes into its documents come. Which these are, is said by
+-- the definition of a page, in every world of the answers
 
-abbrev pub content_in : Question → Answered → List (List ℕ)
-content_in (questions.Document name) (answers.Document found) =
-    given_in_found reused_by (option_map (written_in name) (tree_found found))
-content_in (questions.Key scope text) (answers.Key answer) = option_to_list (local_name answer.target)
-content_in (questions.Pushes name) (answers.Pushes pushes faults) = map (λ (push : Push). push.from) pushes
-content_in question answered = []
+-- a document of the page at an index of a plan; without a plan there is no page
+abbrev pub IsPageDocumentAt : World → Result Plan PlanStop → Option (List ℕ) → ℕ → List ℕ → Type 0
+IsPageDocumentAt world (Err stop) val index name = ⊥
+IsPageDocumentAt world (Ok plan) val index name = IsSomeAnd (slice_get plan.pages index)
+    (λ page. IsPageDocument (setting_of world plan val page) (pushes_into world plan.documents) name)
 
-abbrev pub content_given : Asked → List (List ℕ)
-content_given one = content_in one.question one.answered
+-- the plan asked for it too
+abbrev pub IsPlanned : PlanFact → List ℕ → Type 0
+IsPlanned plan name = IsTrue (is_among (whole_documents plan.asked) name)
 
--- the document of the page at an index
-abbrev pub page_document : Result Plan PlanStop → ℕ → List (List ℕ)
-page_document (Err stop) index = []
-page_document (Ok plan) index = option_map_or (λ (page : PagePlan). page.id.doc ∷ []) (slice_get plan.pages index) []
-
-abbrev pub PageAsks : PlanFact → ℕ → List Asked → Type 0
-PageAsks plan index own =
-    InOrder document_in content_given (whole_documents plan.asked ++ page_document plan.value index) own
+pub record PageAsks (fact : Fact) (index : ℕ) : Type 0 where
+  pub each : (world : World) → PlanAnswers (arc_value fact.plan) world → OwnAnswers fact world
+      → All (λ name. IsPlanned (arc_value fact.plan) name
+      ⊎ IsPageDocumentAt world (arc_value fact.plan).value fact.key.val index name) (whole_documents fact.asked)
 
 -- The contents page asks for what the plan asks for
 
@@ -110,12 +111,12 @@ pub record AskNoKey (asked : List Asked) : Type 0 where
 
 -- All of it, by the part
 
-abbrev pub OwnAsks : Part → PlanFact → List Asked → Type 0
-OwnAsks parts.Plan plan own = own ≡ []
-OwnAsks (parts.Page index) plan own = PageAsks plan index own
-OwnAsks parts.Contents plan own = ContentsAsks plan own × AskNoKey own
+abbrev pub OwnAsks : Part → Fact → Type 0
+OwnAsks parts.Plan fact = fact.asked ≡ []
+OwnAsks (parts.Page index) fact = PageAsks fact index
+OwnAsks parts.Contents fact = ContentsAsks (arc_value fact.plan) fact.asked × AskNoKey fact.asked
 
 pub record AsksAsItMay (fact : Fact) : Type 0 where
   pub plan : PlanAsks (roots_of fact) (arc_value fact.plan)
   pub no_key : AskNoKey (arc_value fact.plan).asked
-  pub own : OwnAsks fact.key.part (arc_value fact.plan) fact.asked
+  pub own : OwnAsks fact.key.part fact

@@ -1,5 +1,6 @@
 -- When a fact is sound (own): in every world that gives each of its questions the recorded answer the fact is the part
--- of its key, and its questions are founded. The questions of the plan alone fix the plan.
+-- of its key; its questions are founded, and ask for no document as a whole but those that its part may ask for. The
+-- questions of the plan alone fix the plan.
 use Rattle.std.specs.Prelude.{◌≡◌, ◌<◌, ℕ, List, [], Option, Some, None, Result, Ok, length}
 use Rattle.std.specs.Arc.{arc_value}
 use Rattle.std.specs.declared.alloc.Global.{Global}
@@ -10,6 +11,7 @@ use Rattle.dita_doc.specs.declared.fact.Part.TheVariants as parts
 use Rattle.dita_doc.specs.declared.plan.Plan.{Plan}
 use Rattle.dita_doc.specs.declared.plan.PlanStop.{PlanStop}
 use Rattle.fact_judge.specs.Agreed.{OwnAnswers, PlanAnswers}
+use Rattle.fact_judge.specs.Asks.{AsksAsItMay}
 use Rattle.fact_judge.specs.Founded.{IsFoundedFact}
 use Rattle.facts.specs.declared.fact.Fact.{Fact}
 use Rattle.map_spec.specs.PlanOf.{limits, plan_of}
@@ -45,3 +47,4 @@ pub record IsSound (fact : Fact) : Type 0 where
   pub plan : (world : World) → PlanAnswers (arc_value fact.plan) world → HasPlan fact world
   pub part : (world : World) → PlanAnswers (arc_value fact.plan) world → OwnAnswers fact world → IsPart fact world
   pub founded : IsFoundedFact fact
+  pub asks : AsksAsItMay fact
