@@ -7,6 +7,7 @@
 mod below;
 mod built;
 mod head;
+mod lines;
 mod read;
 mod state;
 mod transcript;
@@ -14,6 +15,7 @@ mod word;
 mod write;
 
 pub use built::{BuiltText, PageMark};
+pub use lines::{append_lines, count_lines};
 pub use read::read_transcript;
 pub use transcript::{BadTranscript, EntryText, RowText, Transcript};
 pub use write::{write_end, write_entry, write_head};

@@ -1,6 +1,6 @@
 //! Entries to lines.
 
-ghost use Rattle.std.specs.Prelude.{◌≡◌, ◌++◌, length, map, is_some, true};
+ghost use Rattle.std.specs.Prelude.{◌≡◌, ◌++◌, map, is_some, true};
 ghost use Rattle.std.specs.Prelude.{All, IfOk, IfSome, OnOk};
 ghost use Rattle.std.specs.Fmt.{decimal};
 ghost use Rattle.std.specs.List.{flat_map};
@@ -12,9 +12,8 @@ ghost use Rattle.transcript_text.specs.Transcript as transcript_spec;
 ghost use Rattle.transcript_text.specs.Written as written_spec;
 
 use crate::built::{BuiltText, PageMark};
-use dita_doc::{
-    EditFault, Entry, Fault, List, Name, NoMemory, PlanStop, Read, Reply, split_at_first,
-};
+use crate::lines::{append_line, append_lines, count_lines};
+use dita_doc::{EditFault, Entry, Fault, List, Name, NoMemory, PlanStop, Read, Reply};
 use fault_report::fault_line;
 use std::alloc::{AllocError, Global};
 
@@ -160,36 +159,7 @@ fn append_text(alloc: Global, out: &mut List<u8>, bytes: &[u8]) -> Result<(), Al
         (transcript_spec.Lines (lines_spec.lines_of bytes.now))) }
 {
     append_number(alloc, out, b"text ", count_lines(bytes) as u64)?;
-    let mut rest = bytes;
-    while let Some((front, back)) = split_at_first(rest, b'\n') {
-        append_line(out, front)?;
-        rest = back;
-    }
-    if !rest.is_empty() {
-        append_line(out, rest)?;
-    }
-    Ok(())
-}
-
-// How many lines there are; a rest without LF is one.
-fn count_lines(bytes: &[u8]) -> usize
-    ensures { result ≡ length (lines_spec.lines_of bytes.now) }
-{
-    let mut count = 0;
-    let mut rest = bytes;
-    while let Some((_, back)) = split_at_first(rest, b'\n') {
-        count += 1;
-        rest = back;
-    }
-    if rest.is_empty() { count } else { count + 1 }
-}
-
-fn append_line(out: &mut List<u8>, text: &[u8]) -> Result<(), AllocError>
-    ensures { OnOk result (out.new ≡ out.old ++ transcript_spec.bar_line text.now) }
-{
-    out.append(b"|")?;
-    out.append(text)?;
-    out.append(b"\n")
+    append_lines(out, bytes)
 }
 
 // Appends names with their versions.

@@ -1,6 +1,6 @@
 use Rattle.std.proofs.Common.{length, arith, ap}
 use Rattle.transcript_text.proofs.LineLaws.{lines_cut, back_shorter, rest_line, some_left}
-use Rattle.transcript_text.proofs.write.count_lines.Goals as goal
+use Rattle.transcript_text.proofs.lines.count_lines.Goals as goal
 
 pub loop-back-preserved : goal.loop-back-preserved
 loop-back-preserved c =

@@ -1,6 +1,6 @@
 use Rattle.std.proofs.Common.{◌≡◌, ◌+◌, ◌≤◌, length}
 use Rattle.dita_doc.specs.Lines.{lines_of}
-use Rattle.transcript_text.proofs.write.count_lines.Given as goal
+use Rattle.transcript_text.proofs.lines.count_lines.Given as goal
 
 abbrev pub invariant-loop-back : goal.invariant-loop-back
 invariant-loop-back l = record {

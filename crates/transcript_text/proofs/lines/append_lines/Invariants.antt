@@ -2,7 +2,7 @@ use Rattle.std.proofs.Common.{◌≡◌, ◌++◌, length}
 use Rattle.std.specs.List.{flat_map}
 use Rattle.dita_doc.specs.Lines.{lines_of}
 use Rattle.transcript_text.specs.Transcript.{bar_line}
-use Rattle.transcript_text.proofs.write.append_text.Given as goal
+use Rattle.transcript_text.proofs.lines.append_lines.Given as goal
 
 abbrev pub invariant-loop-front : goal.invariant-loop-front
 invariant-loop-front l =
