@@ -9,4 +9,13 @@ mod OneMap
 mod MapAgain
 mod OneTopic
 mod NoMap
+mod TopicRead
+mod TopicBuilt
+mod TopicFalls
+mod TopicAgain
+mod TopicTold
+mod TwoRead
+mod TwoStored
+mod TwoTopics
+mod TwoTold
 mod Generated

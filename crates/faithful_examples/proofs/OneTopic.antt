@@ -43,14 +43,19 @@ topic_tree = Element (codes "topic") (given "class" "- topic/topic " ∷ given "
     (Element (codes "body") (given "class" "- topic/body " ∷ []) 0 8
     (Element (codes "p") (given "class" "- topic/p " ∷ []) 0 10 (Chars (codes "A & B") 0 0 End) End) End)) End
 
+abbrev pub map_lines : List String
+map_lines = "(map" ∷ "Aclass - map/map " ∷ "(topicref" ∷ "Aclass - map/topicref " ∷ "Ahref t.dita" ∷ ")topicref"
+    ∷ ")map" ∷ []
+
 abbrev pub map_body : List ℕ
-map_body = lines ("(map" ∷ "Aclass - map/map " ∷ "(topicref" ∷ "Aclass - map/topicref " ∷ "Ahref t.dita" ∷ ")topicref"
-    ∷ ")map" ∷ [])
+map_body = lines map_lines
+
+abbrev pub topic_lines : List String
+topic_lines = "(topic" ∷ "Aclass - topic/topic " ∷ "Aid t" ∷ "(title" ∷ "Aclass - topic/title " ∷ "-Hello" ∷ ")title"
+    ∷ "(body" ∷ "Aclass - topic/body " ∷ "(p" ∷ "Aclass - topic/p " ∷ "-A & B" ∷ ")p" ∷ ")body" ∷ ")topic" ∷ []
 
 abbrev pub topic_body : List ℕ
-topic_body = lines ("(topic" ∷ "Aclass - topic/topic " ∷ "Aid t" ∷ "(title" ∷ "Aclass - topic/title " ∷ "-Hello"
-    ∷ ")title" ∷ "(body" ∷ "Aclass - topic/body " ∷ "(p" ∷ "Aclass - topic/p " ∷ "-A & B" ∷ ")p" ∷ ")body" ∷ ")topic"
-    ∷ [])
+topic_body = lines topic_lines
 
 abbrev pub map_alone : State
 map_alone = record { name = in_m; nodes = nodes_of map_tree 0; bytes = map_body; version = 1 } ∷ []
