@@ -1,5 +1,5 @@
 -- The end of a claim keeps the rule.
-use Rattle.std.proofs.Common.{◌≡◌, ◌≢◌, ℕ, zero, suc, ◌+◌, ◌<◌, ◌≤◌, ◌⊎◌, Bool, true, false, not, cond, eqb, List, [], ◌∷◌, ◌++◌, Some, None, refl, sym, ap, ◌∙◌, subst, inl, inr, arith, length, map, set, eq-eqb, ne_eqb, filter, sum_by}
+use Rattle.std.proofs.Common.{◌≡◌, ◌≢◌, ℕ, zero, suc, ◌+◌, ◌<◌, ◌≤◌, not, cond, eqb, List, [], ◌∷◌, ◌++◌, Some, refl, sym, ap, subst, inl, arith, set, eq-eqb, ne_eqb, sum_by}
 use Rattle.std.specs.List.{slice_get}
 use Rattle.std.proofs.lemmas.List.{append-nil}
 use Rattle.std.proofs.lemmas.List.Sums.{sum_by-append, sum_by-cons, sum_by_push}
@@ -8,17 +8,17 @@ use mathlib.Core.Logic.{dite}
 use mathlib.Core.Option.{some}
 use native.Mathlib.Decide.{ℕ_discrete}
 use lib.ListN.{get_elem?}
-use Rattle.facts.specs.Rows.{Claim, RowData, Running, Stands, claim_of}
+use Rattle.facts.specs.Rows.{Claim, Running, Stands, claim_of}
 use Rattle.facts.specs.Table.{others}
 use Rattle.desk_core.specs.Book.{BookData}
 use Rattle.desk_lock.specs.Knows.{ends, let_go, row_serials, serials}
 use Rattle.desk_lock.specs.Lists.{Each, IsNoneOf}
 use Rattle.desk_lock.specs.Past.{IsDrawn, Past}
-use Rattle.desk_lock.specs.Rule.{IsOfPast, Stocked, running_serials}
+use Rattle.desk_lock.specs.Rule.{IsOfPast}
 use Rattle.desk_lock.specs.declared.view.View.{View}
 use Rattle.desk_lock.proofs.EventLaws.{stamps_seen}
 use Rattle.desk_lock.proofs.LearnsLaws.{drawn_once, none_ended}
-use Rattle.desk_lock.proofs.RuledLaws.{Ruled, Shifts, ruled_set}
+use Rattle.desk_lock.proofs.RuledLaws.{Ruled, ruled_set}
 use Rattle.desk_lock.proofs.Weights.{at_weighs, stands_weighs, sum_by-map, tick, tick_is, tick_other}
 
 -- A weight without one number

@@ -1,9 +1,8 @@
 -- Opening the gate after no event, after an entry and after a claim keeps the rule.
-use Rattle.std.proofs.Common.{◌≡◌, ℕ, zero, suc, ◌<◌, ◌≤◌, ◌⊎◌, List, [], ◌∷◌, ◌++◌, Option, Some, None, refl, sym, ap, ◌∙◌, subst, inl, inr, ⊎_elim, arith, length, map, set, get_or-set_same, length-append, length-set, append_assoc, sum_by}
+use Rattle.std.proofs.Common.{◌≡◌, ℕ, zero, suc, ◌<◌, ◌≤◌, ◌⊎◌, List, [], ◌∷◌, ◌++◌, Option, Some, None, refl, sym, ap, ◌∙◌, inl, inr, ⊎_elim, arith, length, set, get_or-set_same, length-append, length-set, append_assoc}
 use Rattle.std.specs.List.{slice_get}
 use Rattle.std.proofs.lemmas.List.{append-nil}
-use Rattle.std.proofs.lemmas.List.Sums.{sum_by-append, sum_by-cons, sum_by_push}
-use Rattle.std.proofs.lemmas.Option.{none-some, same_Some, slice_get_within}
+use Rattle.std.proofs.lemmas.Option.{none-some, same_Some}
 use mathlib.Core.Logic.{dite}
 use mathlib.Core.Option.{some, some-injective}
 use native.Mathlib.Decide.{ℕ_discrete}
@@ -11,16 +10,15 @@ use lib.ListN.{get_elem?}
 use Rattle.atomic_table.specs.Table.{State}
 use Rattle.atomic_table.proofs.Lists.{at_set, set_here}
 use Rattle.dita_doc.specs.History.{Entry}
-use Rattle.facts.specs.Rows.{Claim, RowData, Running, Stands, claim_of}
+use Rattle.facts.specs.Rows.{Claim, RowData}
 use Rattle.desk_core.specs.Book.{BookData}
-use Rattle.desk_lock.specs.Knows.{drew, ends, given, has_met, known, looked, made, serials, spent_view, with_session}
+use Rattle.desk_lock.specs.Knows.{given, has_met, looked}
 use Rattle.desk_lock.specs.Lists.{Each, StartsWith}
-use Rattle.desk_lock.specs.Past.{IsCounted, IsDrawn, IsMade, IsPrinted, Past, placed}
-use Rattle.desk_lock.specs.Rule.{IsOfPast, IsOpen, IsShut, RuleKept, Stocked, running_serials}
+use Rattle.desk_lock.specs.Past.{IsDrawn, IsPrinted, Past}
+use Rattle.desk_lock.specs.Rule.{IsOfPast, IsShut, RuleKept}
 use Rattle.desk_lock.specs.declared.view.View.{View}
-use Rattle.desk_lock.proofs.GateLaws.{kept_of, ruled_of}
-use Rattle.desk_lock.proofs.RuledLaws.{Ruled, Shifts, ruled_set}
-use Rattle.desk_lock.proofs.Weights.{at_within}
+use Rattle.desk_lock.proofs.GateLaws.{kept_of}
+use Rattle.desk_lock.proofs.RuledLaws.{Ruled, ruled_set}
 
 -- Lists
 

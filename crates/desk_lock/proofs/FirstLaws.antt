@@ -8,7 +8,7 @@ use Rattle.desk_core.specs.Book.{BookData, new_book}
 use Rattle.desk_core.specs.declared.limits.Limits.{Limits}
 use Rattle.desk_lock.specs.Knows.{first_view, spent_view}
 use Rattle.desk_lock.specs.Past.{IsCounted, Past}
-use Rattle.desk_lock.specs.Rule.{Counts, IsOfPast, IsOpen, RuleKept, Stocked}
+use Rattle.desk_lock.specs.Rule.{Counts, IsOfPast, RuleKept, Stocked}
 use Rattle.desk_lock.specs.Tokens.{IsIdle}
 use Rattle.desk_lock.specs.declared.view.View.{View}
 

@@ -1,21 +1,20 @@
 -- An entry more, or a claim more, keeps the rule.
-use Rattle.std.proofs.Common.{◌≡◌, ◌≢◌, ℕ, zero, suc, ◌+◌, ◌<◌, ◌≤◌, ◌⊎◌, List, [], ◌∷◌, ◌++◌, Some, None, refl, sym, ap, ◌∙◌, subst, inl, inr, ⊎_elim, arith, length, map, set, length-append, sum_by}
+use Rattle.std.proofs.Common.{◌≡◌, ℕ, suc, ◌+◌, ◌<◌, ◌≤◌, List, [], ◌∷◌, ◌++◌, refl, sym, ap, ◌∙◌, subst, inl, ⊎_elim, arith, length, set, length-append, sum_by}
 use Rattle.std.specs.List.{slice_get}
 use Rattle.std.proofs.lemmas.List.{append-nil}
-use Rattle.std.proofs.lemmas.List.Sums.{sum_by-append, sum_by-cons, sum_by_push}
+use Rattle.std.proofs.lemmas.List.Sums.{sum_by-cons, sum_by_push}
 use mathlib.Core.Option.{some}
 use lib.ListN.{get_elem?}
 use Rattle.dita_doc.specs.History.{Entry}
 use Rattle.dita_doc.proofs.Lists.{get_front, get_pushed}
 use Rattle.facts.specs.Rows.{Claim, RowData, Running, claim_of}
 use Rattle.desk_core.specs.Book.{BookData}
-use Rattle.desk_lock.specs.Knows.{drew, ends, known, made, serials, with_session}
-use Rattle.desk_lock.specs.Lists.{Each, StartsWith}
+use Rattle.desk_lock.specs.Knows.{drew, made, with_session}
 use Rattle.desk_lock.specs.Past.{IsCounted, IsDrawn, IsMade, IsPrinted, Past, placed, row_claim}
-use Rattle.desk_lock.specs.Rule.{IsOfPast, Stocked, running_serials}
+use Rattle.desk_lock.specs.Rule.{IsOfPast, Stocked}
 use Rattle.desk_lock.specs.declared.view.View.{View}
 use Rattle.desk_lock.proofs.EventLaws.{each_map, each_with, get_either, stamps_seen, starts_longer}
-use Rattle.desk_lock.proofs.RuledLaws.{Ruled, Shifts, ruled_set}
+use Rattle.desk_lock.proofs.RuledLaws.{Ruled, ruled_set}
 use Rattle.desk_lock.proofs.Weights.{sum_by-map}
 
 -- Weights of places

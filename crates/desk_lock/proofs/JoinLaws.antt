@@ -1,5 +1,5 @@
 -- A join of two parties keeps the rule, and the look behind it tells that the longer history begins with the shorter.
-use Rattle.std.proofs.Common.{◌≡◌, ◌≢◌, ℕ, zero, suc, ◌+◌, ◌<◌, ◌≤◌, ◌⊎◌, Bool, true, false, List, [], ◌∷◌, ◌++◌, Option, Some, None, refl, sym, ap, ◌∙◌, subst, inl, inr, ⊎_elim, arith, length, map, set, get_or, length-append, sum_by}
+use Rattle.std.proofs.Common.{◌≡◌, ◌≢◌, ℕ, suc, ◌+◌, ◌<◌, ◌≤◌, ◌⊎◌, Bool, List, [], ◌∷◌, ◌++◌, Option, None, refl, sym, ap, ◌∙◌, subst, inl, inr, ⊎_elim, arith, length, set, get_or, length-append, sum_by}
 use Rattle.std.specs.Prelude.{if◌then◌else◌}
 use Rattle.std.proofs.lemmas.Bool.Decides.{leb_tells}
 use Rattle.std.proofs.lemmas.List.{append-nil}
@@ -16,7 +16,7 @@ use Rattle.facts.specs.Rows.{Claim, RowData}
 use Rattle.desk_core.specs.Book.{BookData}
 use Rattle.desk_lock.specs.Knows.{both, ends, known, longer, row_serials, serials, settled, shorter, spent_view, with_session}
 use Rattle.desk_lock.specs.Lists.{Each, StartsWith}
-use Rattle.desk_lock.specs.Past.{IsDrawn, IsMade, IsPrinted, Past, placed, row_claim}
+use Rattle.desk_lock.specs.Past.{IsDrawn, IsMade, IsPrinted, Past, row_claim}
 use Rattle.desk_lock.specs.Rule.{Counts, IsOfPast, IsOpen, IsShut, RuleKept}
 use Rattle.desk_lock.specs.Steps.{Compares}
 use Rattle.desk_lock.specs.declared.view.View.{View}
@@ -65,7 +65,7 @@ whole_beginning : {X : Type 0} (log xs : List X) → StartsWith log xs → lengt
 whole_beginning log xs begins long = nothing_left xs begins.0
     (let l : length log ≡ length (xs ++ begins.0) = ap (λ list. length list) begins.1 in omega arith) ∙ sym begins.1
 
-longer_cases : (log other : List Entry)
+pub longer_cases : (log other : List Entry)
     → ((longer log other ≡ log) × (shorter log other ≡ other) × (length other ≤ length log))
     ⊎ ((longer log other ≡ other) × (shorter log other ≡ log) × (length log < length other))
 longer_cases log other = ⊎_elim

@@ -12,3 +12,6 @@ pub mod OpenLaws
 pub mod FirstLaws
 pub mod MayLaws
 pub mod TurnLaws
+pub mod ReadyLaws
+pub mod CallLaws
+pub mod PassLaws

@@ -1,7 +1,6 @@
 -- A row more keeps the rule, also if the first rows are dropped.
-use Rattle.std.proofs.Common.{◌≡◌, ◌≢◌, ℕ, zero, suc, ◌+◌, ◌-◌, ◌<◌, ◌≤◌, ◌⊎◌, Bool, true, false, List, [], ◌∷◌, ◌++◌, Some, None, refl, sym, ap, ◌∙◌, subst, inl, inr, ⊎_elim, arith, length, drop, map, set, length-append, sum_by}
+use Rattle.std.proofs.Common.{◌≡◌, ℕ, zero, suc, ◌+◌, ◌-◌, ◌<◌, ◌≤◌, ◌⊎◌, Bool, List, [], ◌∷◌, ◌++◌, refl, sym, ap, ◌∙◌, subst, inl, inr, ⊎_elim, arith, length, drop, set, length-append, sum_by}
 use Rattle.std.specs.Prelude.{if◌then◌else◌}
-use Rattle.std.specs.List.{slice_get}
 use Rattle.std.proofs.lemmas.Bool.Decides.{leb_tells}
 use Rattle.std.proofs.lemmas.List.{append-nil, length-drop}
 use Rattle.std.proofs.lemmas.List.Sums.{sum_by-append, sum_by-cons, sum_by_push}
@@ -15,13 +14,13 @@ use Rattle.facts.specs.Rows.{Claim, RowData, Running, Stands, claim_of}
 use Rattle.facts.specs.Table.{left, others, size}
 use Rattle.desk_core.specs.Book.{BookData}
 use Rattle.desk_lock.specs.Knows.{ends, printed, row_serials, serials}
-use Rattle.desk_lock.specs.Lists.{Each, IsNoneOf}
-use Rattle.desk_lock.specs.Past.{HasPlanAmong, IsCounted, IsDrawn, IsPrinted, Past, limits_of, row_claim}
-use Rattle.desk_lock.specs.Rule.{IsOfPast, Stocked, running_serials}
+use Rattle.desk_lock.specs.Lists.{IsNoneOf}
+use Rattle.desk_lock.specs.Past.{HasPlanAmong, IsCounted, IsDrawn, IsPrinted, Past, row_claim}
+use Rattle.desk_lock.specs.Rule.{IsOfPast, Stocked}
 use Rattle.desk_lock.specs.declared.view.View.{View}
 use Rattle.desk_lock.proofs.EndLaws.{below_more, each_others, others_one, runs_once, serial_stands}
 use Rattle.desk_lock.proofs.EventLaws.{each_map, each_with, get_either, stamps_seen}
-use Rattle.desk_lock.proofs.RuledLaws.{Ruled, Shifts, ruled_set}
+use Rattle.desk_lock.proofs.RuledLaws.{Ruled, ruled_set}
 use Rattle.desk_lock.proofs.Weights.{each_stands, sum_by-map}
 
 -- What is left of rows

@@ -1,25 +1,18 @@
 -- Splits and joins of parties keep the rule.
-use Rattle.std.proofs.Common.{◌≡◌, ◌≢◌, ℕ, zero, suc, ◌+◌, ◌-◌, ◌<◌, ◌≤◌, ◌⊎◌, Bool, true, false, List, [], ◌∷◌, ◌++◌, Some, None, refl, sym, ap, ◌∙◌, subst, inl, inr, ⊎_elim, arith, length, map, set, length-append, append_assoc, sum_by}
-use Rattle.std.specs.Prelude.{if◌then◌else◌}
-use Rattle.std.specs.List.{slice_get}
-use Rattle.std.proofs.lemmas.Bool.Decides.{leb_tells}
-use Rattle.std.proofs.lemmas.List.Sums.{sum_by-append, sum_by-cons, sum_by_push}
+use Rattle.std.proofs.Common.{◌≡◌, ◌≢◌, ℕ, ◌-◌, ◌<◌, ◌⊎◌, List, [], ◌∷◌, ◌++◌, None, refl, sym, ap, ◌∙◌, subst, inl, inr, ⊎_elim, arith, set, sum_by}
+use Rattle.std.proofs.lemmas.List.Sums.{sum_by_push}
 use Rattle.std.proofs.lemmas.Option.{none-some}
 use mathlib.Core.Logic.{dite}
-use mathlib.Core.Option.{some, some-injective, some-ne-none}
+use mathlib.Core.Option.{some, some-injective}
 use native.Mathlib.Decide.{ℕ_discrete}
 use lib.ListN.{get_elem?}
-use Rattle.atomic_table.specs.Table.{Joins, Splits, State}
+use Rattle.atomic_table.specs.Table.{Splits}
 use Rattle.atomic_table.proofs.Lists.{at_longer, at_set, at_snoc, set_else, set_here}
-use Rattle.dita_doc.specs.History.{Entry}
-use Rattle.facts.specs.Rows.{Claim, RowData}
 use Rattle.desk_core.specs.Book.{BookData}
-use Rattle.desk_lock.specs.Knows.{arrived, both, ends, known, longer, parted, serials, shorter, spent_view, with_session}
-use Rattle.desk_lock.specs.Lists.{Each, StartsWith}
-use Rattle.desk_lock.specs.Past.{IsCounted, IsDrawn, IsMade, IsPrinted, Past, placed, row_claim}
-use Rattle.desk_lock.specs.Rule.{Counts, IsOfPast, IsOpen, IsShut, RuleKept, Stocked, running_serials}
+use Rattle.desk_lock.specs.Knows.{arrived, ends, known, parted, serials}
+use Rattle.desk_lock.specs.Past.{Past}
+use Rattle.desk_lock.specs.Rule.{Counts, IsOfPast, RuleKept}
 use Rattle.desk_lock.specs.declared.view.View.{View}
-use Rattle.desk_lock.proofs.EventLaws.{each_map, starts_length}
 use Rattle.desk_lock.proofs.GateLaws.{kept_of, ruled_of}
 use Rattle.desk_lock.proofs.RuledLaws.{Ruled}
 use Rattle.desk_lock.proofs.Weights.{at_within, total_set}

@@ -2,7 +2,7 @@
 -- it. It has the book as it took the gate. It takes the book out, and has nothing of it. It puts a book back: the one
 -- that it took, or the one after its one event. Its view is the same all the while. The rule does not say this: it is
 -- over the words, the slots and the views of a desk, and what a party has of a slot is its own.
-use Rattle.std.specs.Prelude.{◌≡◌, ◌⊎◌, ℕ, List, [], ◌∷◌, Option, Some, None}
+use Rattle.std.specs.Prelude.{◌≡◌, ◌⊎◌, [], ◌∷◌, Option, Some, None}
 use Rattle.atomic_table.specs.Table.{Me}
 use Rattle.desk_core.specs.Book.{BookData}
 use Rattle.desk_core.specs.Steps.{EventDone, IsStep}

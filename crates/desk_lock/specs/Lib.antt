@@ -9,3 +9,4 @@ pub mod Calls
 pub mod Closes
 pub mod Tokens
 pub mod GateTurn
+pub mod Picks

@@ -4,6 +4,8 @@
 use Rattle.std.specs.Prelude.{◌≡◌, ◌≢◌, ℕ, List, [], ◌∷◌, Option, Some, None, length}
 use Rattle.atomic_table.specs.Table.{Me}
 use Rattle.dita_doc.specs.History.{Entry}
+use Rattle.dita_doc.specs.declared.fact.FactKey.{FactKey}
+use Rattle.facts.specs.Latest.{ClaimAnswer, Have, Taken, Yours}
 use Rattle.facts.specs.Rows.{Claim, RowData}
 use Rattle.desk_core.specs.Book.{BookData}
 use Rattle.desk_lock.specs.Knows.{drew, given, has_met, holding, let_go, looked, made, printed, settled}
@@ -56,6 +58,12 @@ module _ {B : Type 0} (shown : B → BookData) where
   -- after a claim for which this row was kept
   abbrev pub Had : RowData → Me (Option B) View → ℕ → Me (Option B) View → Type 0
   Had row m found n = n ≡ (given m.0 (log_carried m.1) row, [])
+
+  -- after a claim, by its answer
+  abbrev pub Tells : FactKey → ℕ → ClaimAnswer → Me (Option B) View → ℕ → Me (Option B) View → Type 0
+  Tells key stamp (Have row) = Had row
+  Tells key stamp (Taken serial) = Met (record { serial = serial; key = key; stamp = stamp })
+  Tells key stamp (Yours claim) = IsGranted claim
 
   -- after this row was published
   abbrev pub Prints : RowData → Me (Option B) View → ℕ → Me (Option B) View → Type 0

@@ -11,19 +11,21 @@ use std::alloc::Global;
 /// A desk: a book behind a gate.
 #[derive(Drop)]
 pub struct Desk<B: Shown> {
-    table: Table<Option<B>, View, Limits, Order, Global>,
+    pub(crate) table: Table<Option<B>, View, Limits, Order, Global>,
+    // What a step of the book is handed, also one that takes no memory.
+    pub(crate) alloc: Global,
     ghost sized: { (table.shared.table_id.words ≡ 1) × (table.shared.table_id.slots ≡ 1) },
 }
 
 /// A caller's token. Its entries have its session.
 #[derive(Drop)]
 pub struct Pass<B> {
-    session: u32,
-    seat: Seat<Option<B>, View>,
+    pub(crate) session: u32,
+    pub(crate) seat: Seat<Option<B>, View>,
 }
 
 /// A worker's token.
 #[derive(Drop)]
 pub struct Hand<B> {
-    seat: Seat<Option<B>, View>,
+    pub(crate) seat: Seat<Option<B>, View>,
 }

@@ -1,12 +1,19 @@
-//! The lock round the book of a desk of many threads: what each caller knows, the rule that holds
-//! between any two steps, and what each step changes.
+//! The lock round the book of a desk of many threads: its calls, what each caller knows, the rule
+//! that holds between any two steps, and what each step changes.
 //!
-//! What is used above it: `Kept`, the rule, and the relations of `Calls`, one for each way in which a call ends.
+//! What is used above it: the relations of `Calls`, one for each way in which a call ends, and
+//! `RuleKept`, the rule.
 #![tactic(auto)]
 
+mod claims;
 mod desk;
+mod entries;
+mod events;
+mod gate;
+mod no_judge;
 mod plays;
 mod rule;
+mod tokens;
 mod view;
 
 pub use desk::{Desk, Hand, Pass};

@@ -3,12 +3,13 @@
 ghost use Rattle.std.specs.Prelude.{ℕ};
 ghost use Rattle.facts.specs.Rows.{Claim, RowData};
 ghost use Rattle.desk_lock.specs.Knows as knows_spec;
+ghost use Rattle.desk_lock.specs.Picks as picks_spec;
 ghost use Rattle.desk_lock.specs.Steps as steps_spec;
 
 use crate::rule::Shown;
 use crate::view::View;
 use atomic_table::{Join, Play, Split};
-use std::marker::PhantomData;
+use std::marker::{Brand, PhantomData};
 
 /// What a step tells that opens the gate after a claim or its end.
 pub trait Picked {
@@ -24,6 +25,21 @@ pub trait Share {
     ghost for_session: { ℕ };
 
     ghost with_parts: { ℕ };
+}
+
+// A call picks what it tells and what it gives.
+impl Picked for Brand {
+    ghost picked_claim = { picks_spec.no_claim };
+
+    ghost picked_row = { picks_spec.no_row };
+
+    ghost picked_serial = { 0 };
+}
+
+impl Share for Brand {
+    ghost for_session = { 0 };
+
+    ghost with_parts = { 0 };
 }
 
 /// The gate is tried.

@@ -6,11 +6,17 @@ ghost use Rattle.desk_lock.specs.Rule as rule_spec;
 
 use crate::view::View;
 use atomic_table::TableRule;
-use desk_core::Limits;
+use desk_core::{Book, Limits};
+use facts::Parts;
 
 /// A book, which contracts see as its history and its table.
 pub trait Shown {
     ghost shown: { Self → BookData };
+}
+
+/// Contracts see a book as just that.
+impl<P: Parts> Shown for Book<P> {
+    ghost shown = { λ book. book };
 }
 
 /// The order of a desk: there is one past, of which the book and all parties know.
