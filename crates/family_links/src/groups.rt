@@ -3,6 +3,7 @@
 ghost use Rattle.std.specs.Prelude.{◌≡◌, [], IfOk, OnOk, Some, false, map, slice_get, unwrap_or};
 ghost use Rattle.dita_doc.specs.declared.plan.Plan as plan_spec;
 ghost use Rattle.family_links.specs.Grouped as spec;
+ghost use Rattle.link_groups.specs.Asked as asked_spec;
 ghost use Rattle.link_groups.specs.LinkNodes as link_nodes_spec;
 ghost use Rattle.map_spec.specs.Cascade as cascade_spec;
 ghost use Rattle.plan_nodes.specs.Carried.{CarryValues};
@@ -11,6 +12,7 @@ ghost use Rattle.reader_spec.specs.World.{World};
 ghost use Rattle.readers.specs.Documents as documents_spec;
 ghost use Rattle.readers.specs.Documents.{AsksOnly};
 ghost use Rattle.readers.specs.Founded.{Grows, StaysFounded};
+ghost use Rattle.readers.specs.Only.{TellsOnly};
 ghost use Rattle.readers.specs.Told.{Agrees};
 
 use crate::lists::put;
@@ -99,6 +101,8 @@ pub(crate) fn children_of<A: Asker>(
     ensures founded { StaysFounded (link_nodes_spec.plan_names plan.now) (A.told asker.old)
         (A.told asker.new) }
     ensures asks { AsksOnly documents_spec.nothing [] (A.told asker.old) (A.told asker.new) }
+    ensures only { OnOk result (TellsOnly (asked_spec.is_page_of_nodes plan.now)
+        (A.told asker.old) (A.told asker.new)) }
     ensures grows { Grows (A.told asker.old) (A.told asker.new) }
 {
     let mut children = BTreeMap::new(alloc);
@@ -146,6 +150,8 @@ fn put_child<A: Asker>(
     ensures founded { StaysFounded (link_nodes_spec.plan_names plan.now) (A.told asker.old)
         (A.told asker.new) }
     ensures asks { AsksOnly documents_spec.nothing [] (A.told asker.old) (A.told asker.new) }
+    ensures only { OnOk result (TellsOnly (asked_spec.is_page_of_nodes plan.now)
+        (A.told asker.old) (A.told asker.new)) }
     ensures grows { Grows (A.told asker.old) (A.told asker.new) }
 {
     let Some(parent) = parent else {

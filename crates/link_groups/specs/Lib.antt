@@ -1,2 +1,3 @@
 pub mod LinkNodes
 pub mod LinkLists
+pub mod Asked

@@ -5,6 +5,7 @@ ghost use Rattle.std.specs.BTreeSet.{insert_key};
 ghost use Rattle.std.specs.List.{filter_map};
 ghost use Rattle.std.specs.Option.{option_copied, option_to_list};
 ghost use Rattle.std.specs.Ordering.{nat_cmp};
+ghost use Rattle.link_groups.specs.Asked as asked_spec;
 ghost use Rattle.link_groups.specs.LinkLists as spec;
 ghost use Rattle.link_groups.specs.LinkNodes as link_nodes_spec;
 ghost use Rattle.link_spec.specs.Links as links_spec;
@@ -12,6 +13,7 @@ ghost use Rattle.reader_spec.specs.World.{World};
 ghost use Rattle.readers.specs.Documents as documents_spec;
 ghost use Rattle.readers.specs.Documents.{AsksOnly};
 ghost use Rattle.readers.specs.Founded.{Grows, StaysFounded};
+ghost use Rattle.readers.specs.Only.{TellsOnly};
 ghost use Rattle.readers.specs.Told.{Agrees};
 
 use crate::link_nodes::LinkNode;
@@ -89,6 +91,8 @@ impl LinkList {
         ensures founded { StaysFounded (link_nodes_spec.plan_names plan.now) (A.told asker.old)
             (A.told asker.new) }
         ensures asks { AsksOnly documents_spec.nothing [] (A.told asker.old) (A.told asker.new) }
+        ensures only { OnOk result (TellsOnly (asked_spec.is_title_of_pages plan.now)
+            (A.told asker.old) (A.told asker.new)) }
         ensures grows { Grows (A.told asker.old) (A.told asker.new) }
     {
         let pages = plan.pages.as_slice();
@@ -136,6 +140,9 @@ fn all_written<A: Asker>(
     ensures founded { StaysFounded (link_nodes_spec.names_of_pages pages.now) (A.told asker.old)
         (A.told asker.new) }
     ensures asks { AsksOnly documents_spec.nothing [] (A.told asker.old) (A.told asker.new) }
+    ensures only { OnOk result (TellsOnly
+        (asked_spec.is_title_among (link_nodes_spec.names_of_pages pages.now))
+        (A.told asker.old) (A.told asker.new)) }
     ensures grows { Grows (A.told asker.old) (A.told asker.new) }
 {
     let mut written = List::new(alloc);
@@ -162,6 +169,9 @@ fn put_link<A: Asker>(
     ensures founded { StaysFounded (link_nodes_spec.names_of_pages pages.now) (A.told asker.old)
         (A.told asker.new) }
     ensures asks { AsksOnly documents_spec.nothing [] (A.told asker.old) (A.told asker.new) }
+    ensures only { OnOk result (TellsOnly
+        (asked_spec.is_title_among (link_nodes_spec.names_of_pages pages.now))
+        (A.told asker.old) (A.told asker.new)) }
     ensures grows { Grows (A.told asker.old) (A.told asker.new) }
 {
     let Some(other) = page_at(pages, link.page) else {
@@ -193,6 +203,8 @@ fn link_to<A: Asker>(
     ensures founded { StaysFounded (other.now.id.doc ∷ []) (A.told asker.old)
         (A.told asker.new) }
     ensures asks { AsksOnly documents_spec.nothing [] (A.told asker.old) (A.told asker.new) }
+    ensures only { OnOk result (TellsOnly (asked_spec.is_title_among (other.now.id.doc ∷ []))
+        (A.told asker.old) (A.told asker.new)) }
     ensures grows { Grows (A.told asker.old) (A.told asker.new) }
 {
     let no_topic = Text::new(alloc);

@@ -1,7 +1,8 @@
 //! The table of the links between pages.
 
-ghost use Rattle.std.specs.Prelude.{◌≡◌, [], IfOk};
+ghost use Rattle.std.specs.Prelude.{◌≡◌, [], IfOk, OnOk};
 ghost use Rattle.dita_doc.specs.declared.plan.Plan as plan_spec;
+ghost use Rattle.link_groups.specs.Asked as asked_spec;
 ghost use Rattle.link_groups.specs.LinkNodes as link_nodes_spec;
 ghost use Rattle.node_links.specs.NodeTable as spec;
 ghost use Rattle.link_spec.specs.Links as links_spec;
@@ -10,6 +11,7 @@ ghost use Rattle.readers.specs.Documents as documents_spec;
 ghost use Rattle.readers.specs.Documents.{AsksOnly};
 ghost use Rattle.readers.specs.Founded as founded_spec;
 ghost use Rattle.readers.specs.Founded.{Grows, StaysFounded};
+ghost use Rattle.readers.specs.Only.{TellsOnly};
 ghost use Rattle.readers.specs.Told.{Agrees};
 ghost use Rattle.reltable_links.specs.RowTable as row_table_spec;
 
@@ -41,6 +43,8 @@ impl NodeLinks {
             (A.told asker.new) }
         ensures asks { AsksOnly documents_spec.nothing (founded_spec.homes plan.now.nodes)
             (A.told asker.old) (A.told asker.new) }
+        ensures only { OnOk result (TellsOnly (asked_spec.is_of_links plan.now) (A.told asker.old)
+            (A.told asker.new)) }
         ensures grows { Grows (A.told asker.old) (A.told asker.new) }
     {
         let homes = NodeElements::of(alloc, asker, plan.nodes.as_slice())?;
@@ -73,6 +77,8 @@ impl NodeLinks {
         ensures founded { StaysFounded (link_nodes_spec.plan_names plan.now) (A.told asker.old)
             (A.told asker.new) }
         ensures asks { AsksOnly documents_spec.nothing [] (A.told asker.old) (A.told asker.new) }
+        ensures only { OnOk result (TellsOnly (asked_spec.is_title_of_pages plan.now)
+            (A.told asker.old) (A.told asker.new)) }
         ensures grows { Grows (A.told asker.old) (A.told asker.new) }
     {
         let mut links = LinkList::new(alloc, page);

@@ -3,6 +3,7 @@
 ghost use Rattle.std.specs.Prelude.{◌≡◌, ◌<◌, ◌++◌, [], codes, is_some, length, map, nat_lt, true, IfOk, OnOk};
 ghost use Rattle.std.specs.Option.{option_copied, option_to_list};
 ghost use Rattle.dita_doc.specs.declared.plan.Plan as plan_spec;
+ghost use Rattle.link_groups.specs.Asked as asked_spec;
 ghost use Rattle.link_groups.specs.LinkNodes as link_nodes_spec;
 ghost use Rattle.map_spec.specs.Cascade as cascade_spec;
 ghost use Rattle.map_spec.specs.Pages.{local_name};
@@ -13,6 +14,7 @@ ghost use Rattle.reader_spec.specs.World.{World};
 ghost use Rattle.readers.specs.Documents as documents_spec;
 ghost use Rattle.readers.specs.Documents.{AsksOnly};
 ghost use Rattle.readers.specs.Founded.{Grows, StaysFounded};
+ghost use Rattle.readers.specs.Only.{TellsOnly};
 ghost use Rattle.readers.specs.Told.{Agrees};
 ghost use Rattle.reltable_links.specs.Below as below_spec;
 ghost use Rattle.reltable_links.specs.CellTable as spec;
@@ -86,6 +88,8 @@ impl Cells {
         ensures founded { StaysFounded (link_nodes_spec.plan_names plan.now) (A.told asker.old)
             (A.told asker.new) }
         ensures asks { AsksOnly documents_spec.nothing [] (A.told asker.old) (A.told asker.new) }
+        ensures only { OnOk result (TellsOnly (asked_spec.is_page_of_nodes plan.now)
+            (A.told asker.old) (A.told asker.new)) }
         ensures grows { Grows (A.told asker.old) (A.told asker.new) }
     {
         let mut cells = Cells::new(alloc);
@@ -116,6 +120,8 @@ impl Cells {
         ensures founded { StaysFounded (link_nodes_spec.plan_names plan.now) (A.told asker.old)
             (A.told asker.new) }
         ensures asks { AsksOnly documents_spec.nothing [] (A.told asker.old) (A.told asker.new) }
+        ensures only { OnOk result (TellsOnly (asked_spec.is_page_of_nodes plan.now)
+            (A.told asker.old) (A.told asker.new)) }
         ensures grows { Grows (A.told asker.old) (A.told asker.new) }
     {
         if at >= self.end as usize {

@@ -3,6 +3,7 @@
 ghost use Rattle.std.specs.Prelude.{◌≡◌, ◌++◌, [], IfOk, OnOk, map};
 ghost use Rattle.dita_doc.specs.declared.content.LinkKind.TheVariants as kinds;
 ghost use Rattle.dita_doc.specs.declared.plan.Plan as plan_spec;
+ghost use Rattle.link_groups.specs.Asked as asked_spec;
 ghost use Rattle.link_groups.specs.LinkLists as link_lists_spec;
 ghost use Rattle.link_groups.specs.LinkNodes as link_nodes_spec;
 ghost use Rattle.map_spec.specs.Cascade as cascade_spec;
@@ -11,6 +12,7 @@ ghost use Rattle.reader_spec.specs.World.{World};
 ghost use Rattle.readers.specs.Documents as documents_spec;
 ghost use Rattle.readers.specs.Documents.{AsksOnly};
 ghost use Rattle.readers.specs.Founded.{Grows, StaysFounded};
+ghost use Rattle.readers.specs.Only.{TellsOnly};
 ghost use Rattle.readers.specs.Told.{Agrees};
 ghost use Rattle.reltable_links.specs.RowTable as spec;
 
@@ -49,6 +51,8 @@ impl Rows {
         ensures founded { StaysFounded (link_nodes_spec.plan_names plan.now) (A.told asker.old)
             (A.told asker.new) }
         ensures asks { AsksOnly documents_spec.nothing [] (A.told asker.old) (A.told asker.new) }
+        ensures only { OnOk result (TellsOnly (asked_spec.is_page_of_nodes plan.now)
+            (A.told asker.old) (A.told asker.new)) }
         ensures grows { Grows (A.told asker.old) (A.told asker.new) }
     {
         let cells = Cells::of(alloc, asker, plan, homes, link_nodes)?;

@@ -6,6 +6,7 @@ use Rattle.family_links.proofs.MadeLaws.{all_children, child_more, no_children, 
 use Rattle.readers.specs.Documents.{nothing}
 use Rattle.readers.proofs.DocumentLaws.{asks_after, asks_same}
 use Rattle.readers.proofs.FoundedLaws.{stays_after, stays_same}
+use Rattle.readers.proofs.OnlyLaws.{only_after, only_same}
 use Rattle.family_links.proofs.groups.children_of.Goals as goal
 
 pub loop-at-init : goal.loop-at-init
@@ -16,6 +17,7 @@ loop-at-init g c = record {
   stand = refl;
   founded = stays_same _ _ _ refl;
   asks = asks_same _ _ _ _ refl;
+  only = only_same _ _ _ refl;
   grows = grows_same _;
 }
 
@@ -39,6 +41,7 @@ loop-at-preserved g c = record {
   stand = c.in_ok-put_child.ensures.stand ∙ c.loop-at.invariant.stand;
   founded = stays_after _ _ _ _ c.loop-at.invariant.grows c.loop-at.invariant.founded c.in_ok-put_child.ensures.founded;
   asks = asks_after nothing [] _ _ _ c.loop-at.invariant.grows c.loop-at.invariant.asks c.in_ok-put_child.ensures.asks;
+  only = only_after _ _ _ _ c.loop-at.invariant.only c.in_ok-put_child.ensures.only;
   grows = grows_trans _ _ _ c.loop-at.invariant.grows c.in_ok-put_child.ensures.grows;
 }
 
@@ -74,3 +77,6 @@ returns-clause-asks g c = c.loop-at.invariant.asks
 
 pub returns-clause-grows : goal.returns-clause-grows
 returns-clause-grows g c = c.loop-at.invariant.grows
+
+pub returns-clause-only : goal.returns-clause-only
+returns-clause-only g c = c.loop-at.invariant.only

@@ -1,9 +1,11 @@
 use Rattle.std.proofs.Common.{◌≡◌, [], take}
+use Rattle.link_groups.specs.Asked.{is_page_of_nodes}
 use Rattle.link_groups.specs.LinkNodes.{AreLinkNodes, plan_names}
 use Rattle.map_spec.specs.Scopes.{places}
 use Rattle.plan_nodes.specs.Carried.{CarryValues}
 use Rattle.readers.specs.Documents.{AsksOnly, nothing}
 use Rattle.readers.specs.Founded.{Grows, StaysFounded}
+use Rattle.readers.specs.Only.{TellsOnly}
 use Rattle.readers.specs.Told.{Agrees}
 use Rattle.reader_spec.specs.World.{World}
 use Rattle.family_links.specs.Grouped.{AreChildren, kinds_of}
@@ -18,5 +20,6 @@ invariant-loop-at g l = record {
   stand : g.A.Reader.stand l.asker ≡ g.A.Reader.stand l.fn.asker;
   founded : StaysFounded (plan_names l.plan) (g.A.Reader.told l.fn.asker) (g.A.Reader.told l.asker);
   asks : AsksOnly nothing [] (g.A.Reader.told l.fn.asker) (g.A.Reader.told l.asker);
+  only : TellsOnly (is_page_of_nodes l.plan) (g.A.Reader.told l.fn.asker) (g.A.Reader.told l.asker);
   grows : Grows (g.A.Reader.told l.fn.asker) (g.A.Reader.told l.asker);
 }

@@ -1,3 +1,6 @@
+use Rattle.std.proofs.Common.{refl}
+use Rattle.readers.proofs.OnlyLaws.{only_held, only_same}
+use Rattle.link_groups.proofs.AskedLaws.{node_asked}
 use Rattle.family_links.proofs.groups.put_child.Goals as goal
 
 pub returns-in_err-found-clause-stand : goal.returns-in_err-found-clause-stand
@@ -23,3 +26,10 @@ returns-clause-asks g c = c.find.ensures.asks
 
 pub returns-clause-grows : goal.returns-clause-grows
 returns-clause-grows g c = c.find.ensures.grows
+
+pub returns-in_default-clause-only : goal.returns-in_default-clause-only
+returns-in_default-clause-only g c = only_same _ _ _ refl
+
+pub returns-clause-only : goal.returns-clause-only
+returns-clause-only g c =
+    only_held c.put_found.result _ _ _ (node_asked c.args.plan.now c.args.at _ _ _ c.in_ok-found.ensures.asked)

@@ -8,6 +8,7 @@ use Rattle.link_groups.proofs.ListLaws.{written_more}
 use Rattle.readers.specs.Documents.{nothing}
 use Rattle.readers.proofs.DocumentLaws.{asks_after}
 use Rattle.readers.proofs.FoundedLaws.{stays_after}
+use Rattle.readers.proofs.OnlyLaws.{only_after}
 use Rattle.link_groups.proofs.link_list.all_written.Goals as goal
 
 pub loop-link-preserved : goal.loop-link-preserved
@@ -20,6 +21,7 @@ loop-link-preserved g c = record {
   stand = c.in_ok-put_link.ensures.stand ∙ c.loop-link.invariant.stand;
   founded = stays_after _ _ _ _ c.loop-link.invariant.grows c.loop-link.invariant.founded c.in_ok-put_link.ensures.founded;
   asks = asks_after nothing [] _ _ _ c.loop-link.invariant.grows c.loop-link.invariant.asks c.in_ok-put_link.ensures.asks;
+  only = only_after _ _ _ _ c.loop-link.invariant.only c.in_ok-put_link.ensures.only;
   grows = grows_trans _ _ _ c.loop-link.invariant.grows c.in_ok-put_link.ensures.grows;
 }
 
@@ -55,3 +57,6 @@ returns-clause-asks g c = c.loop-link.invariant.asks
 
 pub returns-clause-grows : goal.returns-clause-grows
 returns-clause-grows g c = c.loop-link.invariant.grows
+
+pub returns-clause-only : goal.returns-clause-only
+returns-clause-only g c = c.loop-link.invariant.only

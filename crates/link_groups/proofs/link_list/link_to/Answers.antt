@@ -2,6 +2,7 @@ use Rattle.std.proofs.Common.{ap, sym, ◌∙◌}
 use Rattle.map_spec.specs.Titles.{title_in}
 use Rattle.readers.specs.Told.{title}
 use Rattle.readers.proofs.GrowthLaws.{told_answer}
+use Rattle.link_groups.proofs.AskedLaws.{title_asked}
 use Rattle.link_groups.proofs.link_list.link_to.Goals as goal
 
 pub returns-clause-known : goal.returns-clause-known
@@ -46,3 +47,6 @@ returns-in_err-relative-clause-asks g c = c.title.ensures.asks
 
 pub returns-in_err-relative-clause-grows : goal.returns-in_err-relative-clause-grows
 returns-in_err-relative-clause-grows g c = c.title.ensures.grows
+
+pub returns-clause-only : goal.returns-clause-only
+returns-clause-only g c = title_asked _ _ _ _ _ c.new-no_topic.ensures c.in_ok-label.ensures.told

@@ -1,8 +1,10 @@
-use Rattle.std.proofs.Common.{◌∙◌, ap, sym}
+use Rattle.std.proofs.Common.{◌∙◌, ap, refl, sym}
 use Rattle.std.specs.Option.{option_copied}
 use Rattle.readers.proofs.FoundedLaws.{stays_one}
 use Rattle.link_groups.specs.LinkNodes.{names_of_pages}
 use Rattle.link_groups.proofs.ListLaws.{none_written, one_written, page_among}
+use Rattle.readers.proofs.OnlyLaws.{only_same}
+use Rattle.link_groups.proofs.AskedLaws.{page_titled}
 use Rattle.link_groups.proofs.link_list.put_link.Goals as goal
 
 pub returns-in_default-clause-known : goal.returns-in_default-clause-known
@@ -60,3 +62,11 @@ returns-clause-asks g c = c.link_to.ensures.asks
 
 pub returns-clause-grows : goal.returns-clause-grows
 returns-clause-grows g c = c.link_to.ensures.grows
+
+pub returns-in_default-clause-only : goal.returns-in_default-clause-only
+returns-in_default-clause-only g c = only_same _ _ _ refl
+
+pub returns-clause-only : goal.returns-clause-only
+returns-clause-only g c =
+    page_titled c.args.pages.now c.args.link.now.page c.in-Some.other.now _ _ c.in-Some.ensures
+    c.in_ok-made.ensures.only

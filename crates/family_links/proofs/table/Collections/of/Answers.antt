@@ -48,3 +48,6 @@ returns-clause-asks g c = c.children_of.ensures.asks
 
 pub returns-clause-grows : goal.returns-clause-grows
 returns-clause-grows g c = c.children_of.ensures.grows
+
+pub returns-clause-only : goal.returns-clause-only
+returns-clause-only g c = c.in_ok-children.ensures.only

@@ -1,9 +1,11 @@
-use Rattle.std.proofs.Common.{◌∙◌, ap, sym}
+use Rattle.std.proofs.Common.{◌∙◌, ap, refl, sym}
 use Rattle.std.specs.Option.{option_copied}
 use Rattle.readers.proofs.FoundedLaws.{stays_among}
 use Rattle.link_groups.specs.LinkNodes.{names_of_pages, plan_names}
 use Rattle.link_groups.proofs.ListLaws.{all_linked, none_linked}
 use Rattle.link_groups.proofs.NodeLaws.{pages_among}
+use Rattle.readers.proofs.OnlyLaws.{only_same}
+use Rattle.link_groups.proofs.AskedLaws.{pages_titled}
 use Rattle.link_groups.proofs.link_list.LinkList.written.Goals as goal
 
 pub returns-in_default-clause-known : goal.returns-in_default-clause-known
@@ -45,3 +47,10 @@ returns-clause-asks g c = c.all_written.ensures.asks
 
 pub returns-clause-grows : goal.returns-clause-grows
 returns-clause-grows g c = c.all_written.ensures.grows
+
+pub returns-in_default-clause-only : goal.returns-in_default-clause-only
+returns-in_default-clause-only g c = only_same _ _ _ refl
+
+pub returns-clause-only : goal.returns-clause-only
+returns-clause-only g c =
+    pages_titled c.args.plan.now c.as_slice-pages.result.now _ _ c.as_slice-pages.ensures c.in_ok-written.ensures.only

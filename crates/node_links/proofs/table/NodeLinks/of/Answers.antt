@@ -12,6 +12,8 @@ use Rattle.readers.specs.Setting.{Stand}
 use Rattle.readers.specs.Told.{Told}
 use Rattle.reltable_links.specs.RowTable.{CanLink}
 use Rattle.reltable_links.proofs.UpLaws.{tree_before}
+use Rattle.readers.proofs.OnlyLaws.{only_after}
+use Rattle.link_groups.proofs.AskedLaws.{nodes_asked, pages_asked}
 use Rattle.node_links.proofs.table.NodeLinks.of.Goals as goal
 
 pub returns-in_err-homes-clause-founded : goal.returns-in_err-homes-clause-founded
@@ -87,3 +89,9 @@ pub returns-clause-asks : goal.returns-clause-asks
 returns-clause-asks g c =
     asks_both _ _ _ _ _ c.as_slice.ensures c.of.ensures.grows c.of.ensures.asks
     (asks_after nothing [] _ _ _ c.of-2.ensures.grows c.of-2.ensures.asks c.of-3.ensures.asks)
+
+pub returns-clause-only : goal.returns-clause-only
+returns-clause-only g c =
+    let plan = c.args.plan.now in
+    only_after _ _ _ _ (nodes_asked plan _ _ c.as_slice.result.now c.as_slice.ensures c.in_ok-homes.ensures.only)
+    (pages_asked plan _ _ (only_after _ _ _ _ c.in_ok-collections.ensures.only c.in_ok-rows.ensures.only))

@@ -14,3 +14,6 @@ returns-clause-known g c = λ world agrees are.
     let all = c.in_ok-append-2.ensures world plan some are.rows held in
     c.in_ok-shown.ensures.known world page (some ++ links_of_kind world plan page links.Related) agrees all
     ∙ ap (page_links world plan page) (both_are world plan page)
+
+pub returns-clause-only : goal.returns-clause-only
+returns-clause-only g c = c.in_ok-shown.ensures.only

@@ -1,6 +1,7 @@
 use Rattle.std.specs.Prelude.{◌≡◌, true, nat_lt}
 use Rattle.std.proofs.Common.{arith}
 use Rattle.std.proofs.lemmas.Bool.Decides.{nat_tests}
+use Rattle.link_groups.proofs.AskedLaws.{node_asked}
 use Rattle.reltable_links.proofs.cells.Cells.put_node.Goals as goal
 
 pub returns-clause-known : goal.returns-clause-known
@@ -44,3 +45,6 @@ returns-in_err-put_found-clause-asks g c = c.find.ensures.asks
 
 pub returns-in_err-put_found-clause-grows : goal.returns-in_err-put_found-clause-grows
 returns-in_err-put_found-clause-grows g c = c.find.ensures.grows
+
+pub returns-clause-only : goal.returns-clause-only
+returns-clause-only g c = node_asked c.args.plan.now c.args.at _ _ _ c.in_ok-found.ensures.asked

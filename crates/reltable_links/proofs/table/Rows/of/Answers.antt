@@ -59,3 +59,6 @@ returns-clause-asks g c = c.of.ensures.asks
 
 pub returns-clause-grows : goal.returns-clause-grows
 returns-clause-grows g c = c.of.ensures.grows
+
+pub returns-clause-only : goal.returns-clause-only
+returns-clause-only g c = c.in_ok-cells.ensures.only
