@@ -31,6 +31,22 @@ impl<'a> KnownTitles<'a> {
         }
     }
 
+    /// These titles are known, which are right over the sources. It takes no memory.
+    pub fn with_titles(sources: &'a Sources, table: TitleTable) -> Self
+        requires { AreTitles (world_of sources.now) table }
+        ensures { result.sources.now ≡ sources.now }
+    {
+        KnownTitles { sources, table }
+    }
+
+    /// The titles that are known, without the sources.
+    pub fn into_titles(self) -> TitleTable
+        ensures { AreTitles (world_of self.entry.sources.now) result }
+    {
+        let KnownTitles { table, .. } = self;
+        table
+    }
+
     /// The document that stands under a name, if one does: it is shared, and not copied.
     pub fn doc(&self, name: &Name) -> Result<Option<Arc<Doc>>, NoMemory>
         ensures value { IfOk result (λ found.

@@ -2,6 +2,7 @@
 
 ghost use Rattle.std.specs.Prelude.{◌≡◌, []};
 ghost use Rattle.readers.specs.Props.{Agrees-prop};
+ghost use Rattle.source_reader.specs.Kinds as kinds_spec;
 ghost use Rattle.source_reader.specs.Stored as stored_spec;
 
 use crate::known_titles::KnownTitles;
@@ -10,12 +11,14 @@ use readers::{Note, Questions, Reader, Titles};
 use std::alloc::Global;
 use std::sync::Arc;
 
-/// A reader over sources, which were made for no map and no plan.
+/// A reader over sources, which were made for no map and no plan. `agrees` says that the sources give
+/// each answer that was told, and `kinds` that no question was put that wants a plan.
 #[derive(Drop)]
 pub struct SourceReader<'a> {
     known: KnownTitles<'a>,
     asked: Questions,
     ghost agrees: { stored_spec.AreAnswers known.sources.now asked } by { Prim.hlevel Agrees-prop },
+    ghost kinds: { kinds_spec.AreOfPlanKind asked },
 }
 
 impl<'a> SourceReader<'a> {
@@ -33,6 +36,7 @@ impl<'a> SourceReader<'a> {
     /// The questions that it was asked, and the titles that it knows.
     pub fn into_asked(self) -> (Questions, KnownTitles<'a>)
         ensures asked { result.0 ≡ self.entry.asked }
+        ensures kinds { kinds_spec.AreOfPlanKind result.0 }
         ensures sources { result.1.sources.now ≡ self.entry.known.sources.now }
     {
         let SourceReader { known, asked, .. } = self;

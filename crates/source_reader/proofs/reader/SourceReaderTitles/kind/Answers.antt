@@ -7,14 +7,20 @@ use Rattle.readers.proofs.DocumentLaws.{asks_kept, asks_put, asks_same}
 use Rattle.readers.proofs.FoundedLaws.{stays_same}
 use Rattle.readers.proofs.GrowthLaws.{grows_same}
 use Rattle.readers.proofs.LayerLaws.{grows_kept, grows_put, stays_kept, stays_put}
+use Rattle.source_reader.proofs.KindLaws.{kind_put}
 use Rattle.source_reader.proofs.StoredLaws.{answers_put}
 use Rattle.source_reader.proofs.reader.SourceReaderTitles.kind.Goals as goal
 
-pub invariant_of-self : goal.invariant_of-self
-invariant_of-self c = record {
-  agrees = answers_put (kind c.args.name.now c.kind-kind.result) _ _ _ _ _ refl c.args.self.now.agrees
-      (c.in_ok-note.ensures no_setting) c.begin.ensures.either c.kind-kind.ensures;
-}
+pub invariant_of-self-clause-agrees : goal.invariant_of-self-clause-agrees
+invariant_of-self-clause-agrees c =
+    answers_put (kind c.args.name.now c.kind-kind.result) _ _ _ _ _ refl c.args.self.now.agrees
+    (c.in_ok-note.ensures no_setting) c.begin.ensures.either c.kind-kind.ensures
+
+pub invariant_of-self-clause-kinds : goal.invariant_of-self-clause-kinds
+invariant_of-self-clause-kinds c =
+    kind_put c.in_ok-note.note c.args.self.now.asked _ c.args.self.now.kinds
+    c.args.name.now c.kind-kind.result
+    (c.in_ok-note.ensures no_setting) c.begin.ensures.either
 
 pub returns-in_err-note-clause-founded : goal.returns-in_err-note-clause-founded
 returns-in_err-note-clause-founded c = stays_same _ _ _ refl

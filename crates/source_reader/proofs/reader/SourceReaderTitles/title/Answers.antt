@@ -7,15 +7,21 @@ use Rattle.readers.proofs.DocumentLaws.{asks_kept, asks_put, asks_same}
 use Rattle.readers.proofs.FoundedLaws.{stays_same}
 use Rattle.readers.proofs.GrowthLaws.{grows_same}
 use Rattle.readers.proofs.LayerLaws.{grows_kept, grows_put, stays_kept, stays_put}
+use Rattle.source_reader.proofs.KindLaws.{title_put}
 use Rattle.source_reader.proofs.StoredLaws.{answers_put}
 use Rattle.source_reader.proofs.reader.SourceReaderTitles.title.Goals as goal
 
-pub invariant_of-self-2 : goal.invariant_of-self-2
-invariant_of-self-2 c = record {
-  agrees = answers_put (title c.args.name.now c.args.topic.now c.in_ok-text.text) _ _ _ _ _
-      c.in_ok-text.ensures.sources c.args.self.now.agrees (c.in_ok-note.ensures no_setting) c.begin.ensures.either
-      c.in_ok-text.ensures.value;
-}
+pub invariant_of-self-2-clause-agrees : goal.invariant_of-self-2-clause-agrees
+invariant_of-self-2-clause-agrees c =
+    answers_put (title c.args.name.now c.args.topic.now c.in_ok-text.text) _ _ _ _ _
+    c.in_ok-text.ensures.sources c.args.self.now.agrees (c.in_ok-note.ensures no_setting) c.begin.ensures.either
+    c.in_ok-text.ensures.value
+
+pub invariant_of-self-2-clause-kinds : goal.invariant_of-self-2-clause-kinds
+invariant_of-self-2-clause-kinds c =
+    title_put c.in_ok-note.note c.args.self.now.asked _ c.args.self.now.kinds
+    c.args.name.now c.args.topic.now c.in_ok-text.text
+    (c.in_ok-note.ensures no_setting) c.begin.ensures.either
 
 pub returns-in_err-text-clause-founded : goal.returns-in_err-text-clause-founded
 returns-in_err-text-clause-founded c = stays_same _ _ _ refl
