@@ -22,17 +22,14 @@ use Rattle.desk_core.proofs.StampLaws.{snapshot_is_of, stamp_within}
 use Rattle.desk_core.specs.Book.{BookData, SnapshotData, snapshot_of, stamp_of}
 use Rattle.desk_core.specs.Events as events
 use Rattle.desk_core.specs.Invariant.{IsInOrder, IsStore}
-use Rattle.desk_core.specs.Steps.{IsBegun, IsClaimed, IsPlaced, IsPublished, RunsAs, Steps, with_claim, with_published, with_released}
-use Rattle.desk_core.specs.declared.limits.Limits.{Limits}
-use Rattle.desk_lock.specs.Calls.{Answers, Appends, Begins, Draws, Gives, HandMayPublish, IsStopped, Looks, Meets, Publishes, Releases}
-use Rattle.desk_lock.specs.Closes.{Closes}
-use Rattle.desk_lock.specs.Knows.{drew, ends, given, has_met, let_go, looked, made, printed, row_serials}
+use Rattle.desk_core.specs.Steps.{IsBegun, IsClaimed, IsPlaced, IsPublished, RunsAs, Steps, with_claim, with_published}
+use Rattle.desk_lock.specs.Calls.{Answers, Appends, Begins, Draws, Gives, HandMayPublish, Looks, Meets, Publishes}
+use Rattle.desk_lock.specs.Knows.{drew, ends, given, has_met, made, printed, row_serials}
 use Rattle.desk_lock.specs.Learns.{Learns}
 use Rattle.desk_lock.specs.Lists.{IsNoneOf, StartsWith}
 use Rattle.desk_lock.specs.Meaning.{Meaning, NoLaterAgrees}
-use Rattle.desk_lock.specs.Past.{limits_of}
 use Rattle.desk_lock.specs.Picks.{claim_at}
-use Rattle.desk_lock.specs.Steps.{Commits, Had, IsGranted, LetsGo, Met, Prints, Sees, Tells, log_carried, log_held}
+use Rattle.desk_lock.specs.Steps.{Commits, Had, IsGranted, Met, Prints, Tells, log_carried, log_held}
 use Rattle.desk_lock.specs.Tokens.{IsIdle}
 use Rattle.desk_lock.specs.declared.view.View.{View}
 use Rattle.desk_lock.proofs.EventLaws.{each_map, starts_length, starts_longer}
@@ -103,58 +100,10 @@ looks_again me idle = record {
   later = ([], sym (append-nil me.0.seen));
 }
 
-module _ (me : Seated) (idle : IsIdle me) (taken back : BookData) (learns : Learns me.0 taken) (ready final : Seated)
-    (is : IsReady me.0 taken back ready) where
-  abbrev v : View
-  v = me.0
-
+module _ (v : View) (taken back : BookData) (learns : Learns v taken) (ready final : Seated)
+    (is : IsReady v taken back ready) where
   abbrev log : List Entry
   log = back.store.history
-
-  -- After no event
-
-  saw : Sees as_is ready 0 final → final ≡ (looked v log, [])
-  saw sees = subst (λ (x : Seated). final ≡ (looked x.0 (log_carried as_is x.1), [])) is.is sees
-
-  looks_at : back ≡ taken → Looks v (looked v log)
-  looks_at same = record {
-    knows = refl;
-    later = subst (λ (b : BookData). StartsWith b.store.history v.seen) (sym same) learns.seen;
-  }
-
-  pub looks : back ≡ taken → Sees as_is ready 0 final → Looks v final.0
-  looks same sees = of_view (Looks v) final (looked v log) (saw sees) (looks_at same)
-
-  -- without room
-  full_at : (asked : Request) (full : Full) → back ≡ taken → store_spec.IsFull taken.store asked full
-      → store_spec.IsFull (record {
-        history = log;
-        entry_limit = v.limits.entries;
-        text_limit = v.limits.text_bytes;
-      }) asked full
-  full_at asked full same full_is = subst (λ (l : Limits). store_spec.IsFull (record {
-    history = log;
-    entry_limit = l.entries;
-    text_limit = l.text_bytes;
-  }) asked full)
-      (ap (λ (b : BookData). limits_of b) same ∙ learns.limits)
-      (subst (λ (b : BookData). store_spec.IsFull b.store asked full) (sym same) full_is)
-
-  pub stopped : (agrees : FactAgrees) (session number : ℕ) (asked : Request) (stop : Stop Full)
-      → Steps agrees taken (events.Commit session number asked) (Err stop) back → Sees as_is ready 0 final
-      → IsStopped v asked stop final.0
-  stopped agrees session number asked (Fault full) steps sees = of_view (IsStopped v asked (Fault full)) final
-      (looked v log) (saw sees)
-      (record { looks = looks_at steps.same; passed = full_at asked full steps.same steps.full_is })
-  stopped agrees session number asked NoMemory steps sees = looks steps sees
-
-  pub not_begun : (agrees : FactAgrees) (session number : ℕ) (root : List ℕ) (val : Option (List ℕ)) (stop : Stop Full)
-      → Steps agrees taken (events.Begin session number root val) (Err stop) back → Sees as_is ready 0 final
-      → IsStopped v (Build root val) stop final.0
-  not_begun agrees session number root val (Fault full) steps sees =
-      of_view (IsStopped v (Build root val) (Fault full)) final (looked v log) (saw sees)
-      (record { looks = looks_at steps.same; passed = full_at (Build root val) full steps.same steps.full_is })
-  not_begun agrees session number root val NoMemory steps sees = looks steps sees
 
   -- After an entry
 
@@ -325,25 +274,3 @@ module _ (me : Seated) (idle : IsIdle me) (taken back : BookData) (learns : Lear
       of_view (Publishes v claim fact row) final (printed v log row) (printed_at row prints)
       (subst (λ (r : RowData). Publishes v claim fact r (printed v log r)) (sym published.row_is)
       (published_at means order claim fact may published.claim published.runs published.left))
-
-  -- After a release
-
-  let_go_at : (serial : ℕ) → LetsGo as_is serial ready 0 final → final ≡ (let_go v log serial, [])
-  let_go_at serial lets_go = subst (λ (x : Seated). final ≡ (let_go x.0 (log_carried as_is x.1) serial, [])) is.is
-      lets_go
-
-  pub releases : (serial : ℕ) → back ≡ with_released serial taken → LetsGo as_is serial ready 0 final
-      → Releases v serial final.0
-  releases serial left lets_go = of_view (Releases v serial) final (let_go v log serial) (let_go_at serial lets_go)
-      (record { knows = refl; later = seen_still (with_released serial taken) refl left })
-
--- The end of a desk
-
-pub closes : (means : Meaning) (v : View) (book : BookData) → Learns v book
-    → IsInOrder means.agrees means.is_sound book → Closes means v book
-closes means v book learns order = record {
-  begins = learns.seen;
-  legal = order.store.legal;
-  never_twice = order.rows.fresh;
-  all = learns.all;
-}

@@ -1,6 +1,6 @@
 -- What a hand knows of its claim is enough for the event that ends it: once it has the book, the claim runs there, and
 -- the fact may be published.
-use Rattle.std.proofs.Common.{◌≡◌, ◌≢◌, ◌≤◌, ◌==◌, ℕ, Bool, true, false, List, sym, ap, ◌∙◌, subst, inl, inr, ⊎_elim, eq-eqb, length, arith}
+use Rattle.std.proofs.Common.{◌≡◌, ◌≢◌, ◌≤◌, ◌==◌, ℕ, Bool, true, false, List, sym, ap, ◌∙◌, subst, inl, inr, ⊎_elim, eq-eqb, length}
 use Rattle.std.specs.Prelude.{if◌then◌else◌}
 use Rattle.std.specs.Arc.{arc_value}
 use Rattle.std.proofs.lemmas.Bool.Decides.{eqb_tells}
@@ -8,15 +8,14 @@ use Rattle.dita_doc.specs.History.{Entry, sources}
 use Rattle.facts.specs.Rows.{Claim, HaveOnePlan, RowData, Running, Stands, plan_in, plan_serial, serial_of_plan}
 use Rattle.facts.specs.declared.fact.Fact.{Fact}
 use Rattle.version_store.proofs.HistoryLaws.{sources_prefix}
-use Rattle.desk_core.specs.Book.{BookData, SnapshotData}
+use Rattle.desk_core.specs.Book.{BookData}
 use Rattle.desk_core.specs.Invariant.{AreClaims}
-use Rattle.desk_core.specs.Steps.{IsSnapshotOf, MayPublish, MayRelease, RunsAs}
+use Rattle.desk_core.specs.Steps.{MayPublish, MayRelease, RunsAs}
 use Rattle.desk_lock.specs.Calls.{HandMayPublish, RestsOnPlan, MayEnd}
 use Rattle.desk_lock.specs.Learns.{Learns}
 use Rattle.desk_lock.specs.Lists.{StartsWith}
 use Rattle.desk_lock.specs.Meaning.{Meaning}
 use Rattle.desk_lock.specs.declared.view.View.{View}
-use Rattle.desk_lock.proofs.EventLaws.{starts_length}
 use Rattle.desk_lock.proofs.Weights.{each_stands}
 
 -- what was stored after the first entries is the same in a history that begins with what was seen
@@ -33,16 +32,6 @@ named_serial : (fact : Fact) (serial : ℕ) → (fact.planned == 0) ≡ false �
 named_serial fact serial is = ap (λ (b : Bool). if b then serial else fact.planned) is
 
 module _ (means : Meaning) (v : View) (book : BookData) (learns : Learns v book) where
-  -- a snapshot of what was seen is one of the book's history
-  pub may_claim : (snapshot : SnapshotData) → IsSnapshotOf v.seen snapshot → IsSnapshotOf book.store.history snapshot
-  may_claim snapshot of =
-      let within = of.within in
-      let long = starts_length book.store.history v.seen learns.seen in
-      record {
-        within = omega arith;
-        state = of.state ∙ sym (sources_seen book.store.history v.seen snapshot.stamp learns.seen within);
-      }
-
   -- a claim that it drew and did not end runs
   runs_as : (claim : Claim) → MayEnd v claim → (one : Running) × RunsAs book.table.running claim one
   runs_as claim may = let one = learns.running claim may.drew may.runs in

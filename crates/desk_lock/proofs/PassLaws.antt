@@ -1,12 +1,12 @@
--- The tokens behind a split and behind a join: they may be used, and a join took in the longer history.
-use Rattle.std.proofs.Common.{◌≡◌, ℕ, ◌<◌, ◌≤◌, List, [], Option, refl, sym, ap, ◌∙◌, subst, ⊎_elim, arith, length, eqb}
+-- A token may try the gate. Behind a join it may be used, and has seen the longer of both histories.
+use Rattle.std.proofs.Common.{◌≡◌, ℕ, ◌≤◌, List, [], Option, refl, sym, ap, ◌∙◌, subst, ⊎_elim, arith, length, eqb}
 use Rattle.std.proofs.lemmas.List.{append-nil}
 use prog.Atomic.{either}
 use Rattle.atomic_table.specs.Table.{Allows, Me}
 use Rattle.dita_doc.specs.History.{Entry}
 use Rattle.desk_core.specs.Book.{BookData}
 use Rattle.desk_lock.specs.Calls.{Joins}
-use Rattle.desk_lock.specs.Knows.{arrived, both, longer, parted, settled, shorter}
+use Rattle.desk_lock.specs.Knows.{both, longer, settled, shorter}
 use Rattle.desk_lock.specs.Lists.{StartsWith}
 use Rattle.desk_lock.specs.Rule.{RuleKept}
 use Rattle.desk_lock.specs.Steps.{Compares, Tries}
@@ -22,18 +22,6 @@ idle_tries {B} shown slots by me idle = subst
     (λ (carried : List (ℕ × Option B)). Allows (RuleKept shown) slots by (me.0, carried) 0 (λ n. either (eqb n 0) 1 n)
     (Tries shown (me.0, carried)))
     (sym idle.empty) (tries shown slots by me.0 idle.some_part)
-
--- Behind a split
-
-pub parted_idle : {S : Type 0} (me : Me S View) (parts : ℕ) → IsIdle me → parts < me.0.parts
-    → IsIdle {S = S} (parted me.0 parts, [])
-parted_idle me parts idle enough =
-    record { empty = refl; free = idle.free; some_part = omega arith; compared = idle.compared }
-
-pub arrived_idle : {S : Type 0} (v : View) (session parts : ℕ) → 0 < parts
-    → IsIdle {S = S} (arrived v session parts, [])
-arrived_idle v session parts some_part =
-    record { empty = refl; free = refl; some_part = some_part; compared = refl }
 
 -- Behind a join
 

@@ -23,23 +23,6 @@ use Rattle.desk_lock.specs.declared.view.View.{View}
 use Rattle.desk_lock.proofs.EventLaws.{starts_length}
 use Rattle.desk_lock.proofs.OpenLaws.{after_row, commits, grants, has, lets_go, meets, prints, sees}
 
--- What a desk's table has one slot of
-
-module _ {B : Type 0} (shown : B → BookData) (slots by : ℕ) (me : Me (Option B) View) (one : slots ≡ 1) where
-  pub at_slot : (Then : Me (Option B) View → Type 0)
-      → Allows (RuleKept shown) 1 by me 0 (λ _. 0) (λ _. Then)
-      → Allows (RuleKept shown) slots by me 0 (λ _. 0) (λ _. Then)
-  at_slot Then allows =
-      subst (λ n. Allows (RuleKept shown) n by me 0 (λ _. 0) (λ _. Then)) (sym one) allows
-
-  -- and what a step tells that picks it
-  pub at_pick : {T : Type 0} (Then : T → Me (Option B) View → Type 0) (told picked : T) → picked ≡ told
-      → Allows (RuleKept shown) 1 by me 0 (λ _. 0) (λ _. Then told)
-      → Allows (RuleKept shown) slots by me 0 (λ _. 0) (λ _. Then picked)
-  at_pick Then told picked same allows =
-      subst (λ t. Allows (RuleKept shown) slots by me 0 (λ _. 0) (λ _. Then t)) (sym same)
-      (at_slot (Then told) allows)
-
 abbrev pub as_is : BookData → BookData
 as_is book = book
 

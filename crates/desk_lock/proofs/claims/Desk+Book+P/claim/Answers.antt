@@ -31,7 +31,7 @@ pub returns-in-Ok-claimed-clause-ok : goal.returns-in-Ok-claimed-clause-ok
 returns-in-Ok-claimed-clause-ok g c =
     let me = c.args.hand.now.seat.me in
     let back = c.claim_part-claimed.new.book in
-    answers me c.requires.hand.idle c.take_book-book.result back c.take_book-book.ensures.learns c.put.new.seat.me
+    answers me.0 c.take_book-book.result back c.take_book-book.ensures.learns c.put.new.seat.me
     c.open_claimed.new.seat.me (is_ready me.0 c.take_book-book.result back c.take_book-book.new.seat.me
     c.put.new.seat.me c.take_book-book.ensures.me c.put.ensures.back)
     (meant_by g.P.Parts.plan_agrees g.P.Parts.own_agrees g.P.Parts.is_sound) c.take_book-book.ensures.order

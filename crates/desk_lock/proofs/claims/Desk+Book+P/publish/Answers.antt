@@ -25,7 +25,7 @@ pub returns-clause-publishes : goal.returns-clause-publishes
 returns-clause-publishes g c =
     let me = c.args.hand.now.seat.me in
     let back = c.publish_part-row.new.book in
-    publishes me c.requires.hand.idle c.take_book-book.result back c.take_book-book.ensures.learns c.put.new.seat.me
+    publishes me.0 c.take_book-book.result back c.take_book-book.ensures.learns c.put.new.seat.me
     c.open_printed.new.seat.me (is_ready me.0 c.take_book-book.result back c.take_book-book.new.seat.me
     c.put.new.seat.me c.take_book-book.ensures.me c.put.ensures.back)
     (meant_by g.P.Parts.plan_agrees g.P.Parts.own_agrees g.P.Parts.is_sound) c.take_book-book.ensures.order c.args.ticket

@@ -32,7 +32,7 @@ pub returns-in-Ok-begun-clause-ok : goal.returns-in-Ok-begun-clause-ok
 returns-in-Ok-begun-clause-ok g c =
     let me = c.args.pass.now.seat.me in
     let back = c.ask_build-begun.new.book in
-    begins me c.requires.pass.idle c.take_book-book.result back c.take_book-book.ensures.learns c.put.new.seat.me
+    begins me.0 c.take_book-book.result back c.take_book-book.ensures.learns c.put.new.seat.me
     c.open_entered.new.seat.me (is_ready me.0 c.take_book-book.result back c.take_book-book.new.seat.me
     c.put.new.seat.me c.take_book-book.ensures.me c.put.ensures.back) c.args.pass.now.session c.args.number
     c.args.map.now c.in-Ok.map (option_copied c.args.val) c.in-Ok.val c.in-Ok-begun.begun.0

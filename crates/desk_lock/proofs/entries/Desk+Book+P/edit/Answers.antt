@@ -27,7 +27,7 @@ pub returns-in-Ok-clause-ok : goal.returns-in-Ok-clause-ok
 returns-in-Ok-clause-ok g c =
     let me = c.args.pass.now.seat.me in
     let back = c.ask-placed.new.book in
-    appends me c.requires.pass.idle c.take_book-book.result back c.take_book-book.ensures.learns c.put.new.seat.me
+    appends me.0 c.take_book-book.result back c.take_book-book.ensures.learns c.put.new.seat.me
     c.open_entered.new.seat.me (is_ready me.0 c.take_book-book.result back c.take_book-book.new.seat.me
     c.put.new.seat.me c.take_book-book.ensures.me c.put.ensures.back) c.args.pass.now.session c.args.number
     (request_seen c.args.request) (reply_seen c.in-Ok.placed.1) c.in-Ok.placed.0 c.requires.pass.session
