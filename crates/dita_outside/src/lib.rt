@@ -1,4 +1,5 @@
-//! The outside as the program sees it: sources, sinks and outlets, each with a count of its faults.
+//! The outside as the program sees it: sources, sinks and outlets, each with a count of its faults, and
+//! the gate that makers of parts of builds pass.
 //!
 //! What is used above it: a call answers `Failed` only if the object's count rose in it, or stands
 //! at its last value. Then, and if it answers `NoMemory`, the object has taken nothing. Only the
@@ -7,11 +8,13 @@
 
 mod count;
 mod folder;
+mod gate;
 mod outlet;
 mod sink;
 mod source;
 
 pub use folder::{FolderOutlet, PageError};
+pub use gate::{Gate, NoGate};
 pub use outlet::{MemOutlet, Outlet, SureOutlet};
 pub use sink::{MemSink, Sink, StdSink, SureSink};
 pub use source::{MemSource, Source, StdSource, SureSource};
