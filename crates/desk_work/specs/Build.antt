@@ -1,24 +1,24 @@
 -- How a build by workers ends (own), over what its caller knew, `v`, and what it knows then, `w`, and over the pages
 -- that the outlet took before and after. The build has a place in the history, and its pages are those of the clean
 -- build of the sources there. What the workers did is said in every case in which it has its place.
-use Rattle.std.specs.Prelude.{◌≡◌, ◌⊎◌, ℕ, List, [], ◌∷◌, Option, Some, None, Result, Ok, Err, IsSome, drop, map}
+use Rattle.std.specs.Prelude.{◌≡◌, ◌⊎◌, ◌≤◌, ℕ, List, [], Option, Some, None, Result, Ok, Err, IsSome, drop, map}
 use Rattle.std.specs.Arc.{arc_value}
 use Rattle.std.specs.declared.alloc.Global.{Global}
 use Rattle.std.specs.declared.sync.Arc.{Arc}
 use Rattle.build_spec.specs.Built as clean_spec
 use Rattle.dita_doc.specs.Desk.{State}
 use Rattle.dita_doc.specs.Request.{Build}
-use Rattle.dita_doc.specs.declared.fact.FactKey.{FactKey}
 use Rattle.dita_doc.specs.declared.fact.Html.{Html}
+use Rattle.dita_outside.specs.Cause.{Rose}
 use Rattle.dita_outside.specs.Pages.{Pages, TakesPages, TakesPagesFront}
-use Rattle.facts.specs.Rows.{RowData, row_data}
+use Rattle.facts.specs.Rows.{row_data}
 use Rattle.desk_lock.specs.Calls.{Begins, IsFull, Looks}
 use Rattle.desk_lock.specs.Lists.{Each, StartsWith}
 use Rattle.desk_lock.specs.Meaning.{Meaning}
 use Rattle.desk_lock.specs.declared.view.View.{View}
 use Rattle.version_store.specs.declared.full.Full as full_declared
 use Rattle.desk_language.specs.Language.{Language, parts_of}
-use Rattle.desk_work.specs.Work.{Basis, Job, Progress}
+use Rattle.desk_work.specs.Work.{Job, Progress}
 use Rattle.desk_work.specs.declared.built.BuildStop.{BuildStop}
 use Rattle.desk_work.specs.declared.built.BuildStop.TheVariants.{OutletFault, NoMemory, Full}
 use Rattle.desk_work.specs.declared.built.Built.{Built}
@@ -31,6 +31,9 @@ pub record BuildOrder : Type 0 where
   pub number : ℕ
   pub root : List ℕ
   pub val : Option (List ℕ)
+
+abbrev pub order_of : ℕ → List ℕ → Option (List ℕ) → BuildOrder
+order_of asked map val = record { number = asked; root = map; val = val }
 
 -- The outcome, as the clean build would say it
 
@@ -125,3 +128,11 @@ Ends means language v order (Err OutletFault) w old new = EndsUndelivered means 
 Ends means language v order (Err (Full full)) w old new = EndsFull v order full w old new
 Ends means language v order (Err NoMemory) w old new =
     EndsShort means language v order w old new ⊎ EndsNowhere v w old new
+
+-- the outlet's count of faults never falls, and rose if the outlet failed; it stays if the build gives something or the
+-- history is full
+abbrev pub HasBuildCause : ℕ → ℕ → Result Built BuildStop → Type 0
+HasBuildCause before now (Ok built) = now ≡ before
+HasBuildCause before now (Err OutletFault) = (before ≤ now) × Rose before now
+HasBuildCause before now (Err (Full full)) = now ≡ before
+HasBuildCause before now (Err NoMemory) = before ≤ now

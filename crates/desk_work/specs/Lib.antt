@@ -1,2 +1,10 @@
 pub mod Work
+pub mod Makers
+pub mod Attempts
+pub mod Sites
+pub mod Dealing
+pub mod Teams
 pub mod Build
+pub mod Outcome
+pub mod Cited
+pub mod Rounds

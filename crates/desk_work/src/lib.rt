@@ -4,6 +4,17 @@
 //! knows then, by the way in which it ends.
 #![tactic(auto)]
 
+mod bench;
+mod building;
 mod built;
+mod deal;
+mod deliver;
+mod makers;
+mod outcome;
+mod rounds;
+mod team;
+mod work;
 
+pub use building::build;
 pub use built::{BuildStop, Built, Outcome, PageRow};
+pub use makers::Makers;
