@@ -30,4 +30,4 @@ pub use over_plan::PlanTask;
 pub use root::root_line;
 pub use whole_build::{clean, clean_with_terms};
 pub use with_keys::over_titles;
-pub use works::{PageMade, PageWork};
+pub use works::{ContentsWork, PageMade, PageWork};

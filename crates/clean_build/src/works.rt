@@ -60,7 +60,7 @@ impl<'p> PlanTask for LinksWork<'p> {
 
 /// The contents page, with the faults of all pushes.
 #[derive(Clone, Copy)]
-pub(crate) struct ContentsWork<'p> {
+pub struct ContentsWork<'p> {
     pub ground: BuildInput<'p>,
 }
 
