@@ -3,8 +3,16 @@
 #![tactic(auto)]
 
 #[cfg(test)]
+mod chance;
+#[cfg(test)]
 mod crowd;
 #[cfg(test)]
+mod events;
+#[cfg(test)]
 mod passes;
+#[cfg(test)]
+mod rush;
+#[cfg(test)]
+mod tally;
 #[cfg(test)]
 mod toy;

@@ -1,7 +1,7 @@
 //! A language for tests, in which each part is sound and agrees with any sources; and calls of a
 //! desk of it that are on their way to success.
 
-ghost use Rattle.std.specs.Prelude.{◌≡◌, ◌<◌, ◌-◌, IfOk, OnOk};
+ghost use Rattle.std.specs.Prelude.{◌≡◌, ◌<◌, ◌+◌, ◌-◌, [], ◌∷◌, ◌++◌, IfOk, OnOk, length};
 ghost use Rattle.std.specs.Arc.{arc_value};
 ghost use Rattle.dita_doc.specs.Seen as seen_spec;
 ghost use Rattle.facts.specs.Judged as judged_spec;
@@ -74,6 +74,14 @@ fn judge_of(key: &FactKey, snapshot: &Snapshot) -> Result<ToyJudge, AllocError>
     })
 }
 
+/// A judge of a map's builds over nothing, for events that need none.
+pub fn idle_judge(alloc: Global, map: &Name) -> Result<ToyJudge, AllocError> {
+    Ok(ToyJudge {
+        sources: Arc::new(alloc, Sources::new(alloc))?,
+        key: page(map, 0)?,
+    })
+}
+
 /// A name. A text that is none counts as out of memory: no test gives one.
 pub fn name(alloc: Global, text: &str) -> Result<Name, AllocError> {
     Name::parse(alloc, text).map_err(|_| AllocError)
@@ -85,6 +93,15 @@ pub fn page(map: &Name, index: u32) -> Result<FactKey, AllocError> {
         map: map.clone()?,
         val: None,
         part: Part::Page(index),
+    })
+}
+
+/// The plan of the builds of a map without a DITAVAL.
+pub fn plan(map: &Name) -> Result<FactKey, AllocError> {
+    Ok(FactKey {
+        map: map.clone()?,
+        val: None,
+        part: Part::Plan,
     })
 }
 
@@ -134,6 +151,7 @@ pub fn part_of(alloc: Global, key: &FactKey) -> Result<FactPair, AllocError>
 /// A new desk with its first pass.
 pub fn started(alloc: Global, limits: Limits) -> Result<(ToyDesk, ToyPass), AllocError>
     ensures pass { IfOk result (λ started. tokens_spec.IsPassOf started.0 started.1) }
+    ensures mine { IfOk result (λ started. (tokens_spec.pass_view started.1).mine ≡ []) }
     ensures parts { IfOk result
         (λ started. (tokens_spec.pass_view started.1).parts ≡ knows_spec.all_parts) }
 {
@@ -158,6 +176,10 @@ pub fn edit<R: Wait>(
     ensures pass { tokens_spec.IsPassOf desk.now pass.new }
     ensures parts { OnOk result ((tokens_spec.pass_view pass.new).parts
         ≡ (tokens_spec.pass_view pass.old).parts) }
+    ensures place { IfOk result (λ placed. (tokens_spec.pass_view pass.new).mine
+        ≡ (tokens_spec.pass_view pass.old).mine ++ placed.0 ∷ []) }
+    ensures seen { IfOk result
+        (λ placed. length (tokens_spec.pass_view pass.new).seen ≡ placed.0 + 1) }
 {
     match desk.edit(rt, alloc, pass, number, request) {
         Ok(placed) => Ok(placed),
@@ -251,4 +273,23 @@ pub fn publish<R: Wait>(
         (core_seen_spec.snapshot_seen snapshot.now) }
 {
     desk.publish(rt, hand, ticket, part)
+}
+
+/// Releases a claim. The hand may claim again for a snapshot for which it might.
+pub fn release<R: Wait>(
+    rt: &R,
+    desk: &ToyDesk,
+    hand: &mut ToyHand,
+    ticket: Ticket,
+    snapshot: &Snapshot,
+)
+    requires hand { tokens_spec.IsHandOf desk.now hand.old }
+    requires may { calls_spec.MayEnd (tokens_spec.hand_view hand.old) ticket }
+    requires of { core_steps_spec.IsSnapshotOf (tokens_spec.hand_view hand.old).seen
+        (core_seen_spec.snapshot_seen snapshot.now) }
+    ensures hand { tokens_spec.IsHandOf desk.now hand.new }
+    ensures of { core_steps_spec.IsSnapshotOf (tokens_spec.hand_view hand.new).seen
+        (core_seen_spec.snapshot_seen snapshot.now) }
+{
+    desk.release(rt, hand, ticket)
 }
