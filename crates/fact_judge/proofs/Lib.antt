@@ -1,2 +1,8 @@
 pub mod AnswerLaws
 pub mod FoundedLaws
+pub mod EqLaws
+pub mod StoodLaws
+pub mod EachLaws
+pub mod PlanLaws
+pub mod TableLaws
+pub mod OwnLaws

@@ -1,12 +1,11 @@
 -- For which documents as a whole the parts of a build may ask (own), each rule by itself.
-use Rattle.std.specs.Prelude.{◌≡◌, ◌++◌, ◌||◌, ◌⊎◌, ℕ, Bool, List, [], ◌∷◌, All, IsSomeAnd, IsTrue, Option, Result, Ok, Err, codes, option_map, slice_get, if◌then◌else◌}
+use Rattle.std.specs.Prelude.{◌≡◌, ◌||◌, ◌⊎◌, ℕ, Bool, List, [], ◌∷◌, All, IsSomeAnd, IsTrue, Option, Result, Ok, Err, codes, option_map, slice_get, if◌then◌else◌}
 use Rattle.std.specs.Arc.{arc_value}
 use Rattle.std.specs.List.{flat_map}
 use Rattle.std.specs.Option.{option_map_or}
 use Rattle.conref_spec.specs.PageDocuments.{IsPageDocument}
 use Rattle.dita_doc.specs.declared.fact.Part.{Part}
 use Rattle.dita_doc.specs.declared.fact.Part.TheVariants as parts
-use Rattle.dita_doc.specs.declared.plan.PagePlan.{PagePlan}
 use Rattle.dita_doc.specs.declared.plan.Plan.{Plan}
 use Rattle.dita_doc.specs.declared.plan.PlanStop.{PlanStop}
 use Rattle.dita_doc.specs.declared.question.Answered.{Answered}

@@ -4,3 +4,4 @@ pub mod Order
 pub mod Founded
 pub mod Asks
 pub mod Sound
+pub mod Judging

@@ -1,0 +1,72 @@
+-- The nodes of the plan of a map, whatever its map: they stand as those of a tree, and carry their values and scopes.
+use Rattle.std.specs.Prelude.{◌≡◌, ◌++◌, ℕ, List, Option, Some, None, Ok}
+use Rattle.std.proofs.Common.{refl, ap, subst, ◌∙◌}
+use Rattle.dita_doc.specs.declared.fault.Fault.{Fault}
+use Rattle.dita_doc.specs.declared.plan.Plan.{Plan}
+use Rattle.dita_doc.specs.declared.plan.PlanNode.{PlanNode}
+use Rattle.ditaval_rules.specs.declared.rules.RulesRead.{RulesRead}
+use Rattle.map_spec.specs.Branches.{branched}
+use Rattle.map_spec.specs.Cascade.{cascaded}
+use Rattle.map_spec.specs.Included.{included_from, is_map, root_in}
+use Rattle.map_spec.specs.Judged.{filtered}
+use Rattle.map_spec.specs.MapTree.{Grown, plan_nodes}
+use Rattle.map_spec.specs.PlanOf.{build_rules, grown_from, limits, plan_of, plan_of_map, plan_of_root, plan_of_tree, plan_with, then_plan}
+use Rattle.map_spec.specs.Scopes.{scoped}
+use Rattle.map_spec.specs.Written.{Whole}
+use Rattle.map_lemmas.proofs.CarriedLaws.{made_shapes, made_values}
+use Rattle.map_lemmas.proofs.GrownLaws.{within}
+use Rattle.plan_nodes.specs.Carried.{CarryScopes, CarryValues}
+use Rattle.plan_nodes.specs.Preorder.{IsTree}
+use Rattle.reader_spec.specs.World.{World}
+use Rattle.build_plan.specs.Stages.{IsMapTree}
+use Rattle.build_plan.proofs.CarryLaws.{scopes_scoped}
+use Rattle.build_plan.proofs.PlanPagesLaws.{if_done, steps_from}
+use Rattle.build_plan.proofs.TreeLaws.{copied_tree, filtered_tree, included_tree, one_root}
+
+pub record AreReady (world : World) (nodes : List PlanNode) : Type 0 where
+  pub tree : IsTree nodes
+  pub values : CarryValues world nodes
+  pub scopes : CarryScopes nodes
+
+of_tree : (world : World) (before : List Fault) (grown : Grown) (plan : Plan) → IsMapTree grown.tree
+    → plan_of_tree limits world before grown ≡ Ok plan → AreReady world plan.nodes
+of_tree world before grown plan tree is =
+    let nodes = cascaded world (plan_nodes grown.tree) in
+    let made = plan_with world (before ++ grown.faults) nodes in
+    let given = if_done _ (Ok made) _ plan is in
+    let same : made ≡ plan = cc in
+    subst (λ (p : Plan). AreReady world p.nodes) same (record {
+      tree = record {
+        tree = grown.tree;
+        one = one_root grown.tree tree;
+        is = made_shapes world (plan_nodes grown.tree);
+      };
+      values = record { each = made_values world (plan_nodes grown.tree) };
+      scopes = scopes_scoped nodes (scoped nodes) refl;
+    })
+
+of_map : (world : World) (read : RulesRead) (grown : Grown) (plan : Plan) → IsMapTree grown.tree
+    → plan_of_map limits world read grown ≡ Ok plan → AreReady world plan.nodes
+of_map world read grown plan tree is =
+    let judged = filtered world read.rules grown.tree in
+    let step = steps_from (branched limits.nodes world judged.tree)
+    (plan_of_tree limits world (read.faults ++ grown.faults ++ judged.faults)) plan is in
+    of_tree world (read.faults ++ grown.faults ++ judged.faults) step.from plan
+    (subst (λ (g : Grown). IsMapTree g.tree) (within limits.nodes _ step.from step.was)
+    (copied_tree world judged.tree (filtered_tree world read.rules grown.tree tree))) step.gave
+
+of_root : (world : World) (name : List ℕ) (val : Option (List ℕ)) (root : Option Whole) (plan : Plan)
+    → root_in world name ≡ root → plan_of_root limits world name val root ≡ Ok plan → AreReady world plan.nodes
+of_root world name val None plan there is = absurd (cc)
+of_root world name val (Some root) plan there is =
+    let given = if_done (is_map root) _ _ plan is in
+    let read = steps_from (build_rules world val)
+    (λ read. then_plan (grown_from limits world name root) (plan_of_map limits world read)) plan given in
+    let grown = steps_from (grown_from limits world name root) (plan_of_map limits world read.from) plan read.gave in
+    of_map world read.from grown.from plan (included_tree limits.nodes world name grown.from
+    (ap (included_from limits.nodes world name) there ∙ grown.was)) grown.gave
+
+pub nodes_ready : (world : World) (name : List ℕ) (val : Option (List ℕ)) (plan : Plan)
+    → plan_of limits world name val ≡ Ok plan → AreReady world plan.nodes
+unfolding plan_of
+nodes_ready world name val plan is = of_root world name val (root_in world name) plan refl is
