@@ -1,5 +1,5 @@
--- What is known of the plan of a map, whatever its map: its nodes are those of a tree and carry their values, each page
--- is the first for its own context and that of a document of topics, and no document stands in it twice.
+-- What is known of the plan of a map, whatever its map: its nodes are those of a tree and carry their values and their
+-- scopes, each page is the first for its own context and that of a document of topics, and no document stands in it twice.
 use Rattle.std.specs.Prelude.{◌≡◌, ◌++◌, ℕ, List, Option, Some, None, Ok}
 use Rattle.std.specs.List.{filter_map}
 use Rattle.std.proofs.Common.{refl, ap, subst, ◌∙◌}
@@ -15,9 +15,9 @@ use Rattle.map_spec.specs.Pages.{documents_of, pages_of, node_targets, used_at}
 use Rattle.map_spec.specs.PlanOf.{build_rules, grown_from, limits, plan_of, plan_of_map, plan_of_root, plan_of_tree, plan_with, then_plan}
 use Rattle.map_spec.specs.Scopes.{places}
 use Rattle.map_spec.specs.Written.{Whole}
-use Rattle.map_lemmas.proofs.CarriedLaws.{made_shapes, made_values, plan_made}
+use Rattle.map_lemmas.proofs.CarriedLaws.{made_shapes, made_values, plan_made, scoped_carry}
 use Rattle.map_lemmas.proofs.GrownLaws.{within}
-use Rattle.plan_nodes.specs.Carried.{CarryValues}
+use Rattle.plan_nodes.specs.Carried.{CarryScopes, CarryValues}
 use Rattle.plan_nodes.specs.Preorder.{IsTree}
 use Rattle.reader_spec.specs.World.{World}
 use Rattle.build_plan.specs.Stages.{IsMapTree}
@@ -37,6 +37,7 @@ pub record IsOfNodes (world : World) (plan : Plan) : Type 0 where
 pub record IsPlanIn (world : World) (plan : Plan) : Type 0 where
   pub tree : IsTree plan.nodes
   pub values : CarryValues world plan.nodes
+  pub scopes : CarryScopes plan.nodes
   pub own : IsItsOwn plan.pages
   pub topics : AreOfTopics world plan.pages
   pub once : AreOnce plan.documents
@@ -57,6 +58,7 @@ of_tree world before grown plan tree is =
         is = made_shapes world (plan_nodes grown.tree);
       };
       values = record { each = made_values world (plan_nodes grown.tree) };
+      scopes = record { each = scoped_carry nodes };
       own = pages_own world nodes;
       topics = pages_of_topics world nodes;
       once = record { all = filter_map (used_at world nodes) (places nodes); is = refl };

@@ -4,5 +4,6 @@ pub mod Gathering
 pub mod BuildInput
 pub mod Made
 pub mod Names
+pub mod Reads
 pub mod Tables
 pub mod Terms

@@ -10,6 +10,7 @@ use Rattle.dita_doc.specs.declared.plan.Plan.{Plan}
 use Rattle.map_spec.specs.Included.{root_in}
 use Rattle.map_spec.specs.Titles.{title_in}
 use Rattle.map_spec.specs.Written.{Whole}
+use Rattle.link_groups.specs.Asked.{is_of_links}
 use Rattle.node_links.specs.NodeTable.{AreNodeLinks}
 use Rattle.node_links.specs.declared.table.NodeLinks.{NodeLinks}
 use Rattle.html_spec.specs.Anchors.{element_links}
@@ -17,9 +18,13 @@ use Rattle.conref_spec.specs.Content.{Made}
 use Rattle.html_spec.specs.PageHtml.{page_within}
 use Rattle.part_spec.specs.Parts.{Rooms, content_of_page, content_of_root, contents_part, here_of, all_page_links, no_html, page_rules, rooms}
 use Rattle.reader_spec.specs.World.{World}
+use Rattle.readers.specs.Only.{TellsOnly}
 use Rattle.readers.specs.Setting.{Setting}
+use Rattle.readers.specs.Told.{Told}
+use Rattle.toc_page.specs.Made.{is_of_contents}
 use Rattle.clean_build.specs.Bodies.{AreKnown, body_of, content_of, rules_for, terms_wanted}
 use Rattle.clean_build.specs.BuildInput.{IsReady, context_for}
+use Rattle.clean_build.specs.Reads.{MayReadFor, ReadsOnly}
 use Rattle.clean_build.specs.declared.works.ContentsWork.{ContentsWork}
 use Rattle.clean_build.specs.declared.works.LinksWork.{LinksWork}
 use Rattle.clean_build.specs.declared.works.PageMade.{PageMade}
@@ -30,11 +35,18 @@ use Rattle.clean_build.specs.declared.works.PageWork.{PageWork}
 abbrev pub MakesLinks : LinksWork → World → Setting → NodeLinks → Type 0
 MakesLinks work world setting made = IsReady world work.ground setting → AreNodeLinks world work.ground.plan.now made
 
+-- the documents in which nodes stand, and pages of those that they lead to
+abbrev pub TellsLinks : LinksWork → World → Setting → List Told → List Told → Type 0
+TellsLinks work world setting old new = TellsOnly (is_of_links work.ground.plan.now) old new
+
 -- The contents page
 
 abbrev pub MakesContents : ContentsWork → World → Setting → Html → Type 0
 MakesContents work world setting made =
     IsReady world work.ground setting → made ≡ contents_part world work.ground.plan.now
+
+abbrev pub TellsContents : ContentsWork → World → Setting → List Told → List Told → Type 0
+TellsContents work world setting old new = TellsOnly (is_of_contents work.ground.plan.now) old new
 
 -- The root of a document, by its line
 
@@ -109,3 +121,8 @@ MakesPage work world setting made = IsReady world work.ground setting
     → slice_get work.ground.plan.now.pages work.index ≡ Some work.page.now
     → AreNodeLinks world work.ground.plan.now work.links.now → AreKnown world work.ground.plan.now work.content
     → IsPageMade world work made
+
+-- it asks for documents of the page and for its DITAVALs alone as a whole
+abbrev pub TellsPage : PageWork → World → Setting → List Told → List Told → Type 0
+TellsPage work world setting old new =
+    ReadsOnly (MayReadFor world setting (context_for work.ground work.page.now)) old new

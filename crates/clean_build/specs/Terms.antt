@@ -12,9 +12,11 @@ pub use Rattle.part_spec.specs.Parts.{titles_in}
 use Rattle.part_spec.specs.Parts.{clean_terms, page_content, page_titles, parts_of, rooms, terms_of_parts, terms_part, total_limit}
 use Rattle.reader_spec.specs.World.{World}
 use Rattle.readers.specs.Setting.{Setting}
+use Rattle.readers.specs.Told.{Told}
 use Rattle.clean_build.specs.Bodies.{terms_wanted}
 use Rattle.clean_build.specs.Made.{number_wanted}
 use Rattle.clean_build.specs.Names.{names_of_build}
+use Rattle.clean_build.specs.Reads.{ReadsOnly}
 use Rattle.clean_build.specs.declared.terms.TermsWork.{TermsWork}
 
 -- Terms, if they are wanted
@@ -57,3 +59,7 @@ MakesTerms work world setting made =
 
 abbrev pub about_terms : TermsWork → List (List ℕ)
 about_terms work = names_of_build work.ground
+
+-- it asks for no document as a whole
+abbrev pub TellsTerms : TermsWork → World → Setting → List Told → List Told → Type 0
+TellsTerms work world setting old new = ReadsOnly (λ name. ⊥) old new

@@ -1,9 +1,10 @@
 //! The body of a page, with the terms of its content.
 
 ghost use Rattle.std.specs.Arc.{arc_value};
-ghost use Rattle.std.specs.Prelude.{◌≡◌, ◌++◌, ◌∷◌, ℕ, [], IfOk, map};
+ghost use Rattle.std.specs.Prelude.{◌≡◌, ◌++◌, ◌∷◌, ℕ, [], IfOk, OnOk, map};
 ghost use Rattle.clean_build.specs.Bodies as bodies_spec;
 ghost use Rattle.clean_build.specs.Bodies.{AreKnown, IsBodyMade};
+ghost use Rattle.clean_build.specs.Reads.{MayReadFor, ReadsOnly};
 ghost use Rattle.clean_build.specs.Tables.{made_for};
 ghost use Rattle.conref_targets.specs.Asking as asking_spec;
 ghost use Rattle.conref_targets.specs.Rules.{all_kept, ditavals};
@@ -67,6 +68,9 @@ pub(crate) fn page_body<A: Asker>(
     ensures asks { AsksOnly asking_spec.of_content ((arc_value context.now).page.doc
         ∷ ditavals (arc_value context.now).val (arc_value context.now).page.filters)
         (A.told asker.old) (A.told asker.new) }
+    ensures only { (world : World) → Agrees world (A.told asker.new)
+        → OnOk result (ReadsOnly (MayReadFor world (A.stand asker.old).setting
+        (arc_value context.now)) (A.told asker.old) (A.told asker.new)) }
     ensures stand { A.stand asker.new ≡ A.stand asker.old }
     ensures grows { Grows (A.told asker.old) (A.told asker.new) }
 {

@@ -7,6 +7,7 @@ ghost use Rattle.clean_build.specs.Bodies.{AreKnown};
 ghost use Rattle.clean_build.specs.Tables.{made_for};
 ghost use Rattle.conref_targets.specs.Asking as asking_spec;
 ghost use Rattle.conref_pull.specs.Resolved.{IsResolved};
+ghost use Rattle.conref_targets.specs.PageAsking.{AsksPage, page_at};
 ghost use Rattle.conref_targets.specs.Rules.{AreRules, HasAll, ditavals};
 ghost use Rattle.conref_targets.specs.ResolveInput.{documents_in};
 ghost use Rattle.conref_targets.specs.Tables.{AreTables};
@@ -51,6 +52,10 @@ pub fn resolved_for<A: Asker>(
     ensures asks { AsksOnly asking_spec.of_content ((arc_value context.now).page.doc
         ∷ ditavals (arc_value context.now).val (arc_value context.now).page.filters)
         (A.told asker.old) (A.told asker.new) }
+    ensures only { (world : World) → Agrees world (A.told asker.new)
+        → OnOk result (AsksPage (page_at world (A.stand asker.old).setting
+        (arc_value context.now).val (arc_value context.now).page) (A.told asker.old)
+        (A.told asker.new)) }
     ensures given { IfOk result (λ resolved. (roots : List (List ℕ)) → AreAllowed roots
         (A.told asker.new) (named_spec.linked_in (resolved_spec.resolved_tree resolved))) }
     ensures grows { Grows (A.told asker.old) (A.told asker.new) }

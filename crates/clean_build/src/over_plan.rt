@@ -1,6 +1,6 @@
 //! What is done over a reader that knows a plan.
 
-ghost use Rattle.std.specs.Prelude.{◌≡◌, ◌++◌, [], ℕ, List, IfOk};
+ghost use Rattle.std.specs.Prelude.{◌≡◌, ◌++◌, [], ℕ, List, IfOk, OnOk};
 ghost use Rattle.clean_build.specs.Tables.{AreTables};
 ghost use Rattle.plan_layer.specs.Carried as carried_spec;
 ghost use Rattle.pushed_docs.specs.Made.{AreKept};
@@ -9,7 +9,7 @@ ghost use Rattle.readers.specs.Documents.{AsksOnly, Follows};
 ghost use Rattle.readers.specs.Founded as founded_spec;
 ghost use Rattle.readers.specs.Founded.{Grows, StaysFounded};
 ghost use Rattle.readers.specs.Setting.{Setting};
-ghost use Rattle.readers.specs.Told.{Agrees};
+ghost use Rattle.readers.specs.Told.{Told, Agrees};
 
 use crate::build_tables::BuildTables;
 use dita_doc::{NoMemory, Plan};
@@ -35,6 +35,10 @@ pub trait PlanTask {
     /// The documents that follow from an answer.
     ghost follows: { Self → Follows };
 
+    /// What it asks in a world that agrees with what was told, by a reader that was made for this:
+    /// what was told before and behind it.
+    ghost tells: { Self → World → Setting → List Told → List Told → Type 0 };
+
     fn run<A: Asker>(self, alloc: Global, asker: &mut A) -> Result<Self::Made, NoMemory>
         ensures known { (world : World) → Agrees world (A.told asker.new)
             → IfOk result (makes self world (A.stand asker.old).setting) }
@@ -43,6 +47,9 @@ pub trait PlanTask {
             (A.told asker.old) (A.told asker.new) }
         ensures asks { AsksOnly (follows self) (documents self) (A.told asker.old)
             (A.told asker.new) }
+        ensures only { (world : World) → Agrees world (A.told asker.new)
+            → OnOk result (tells self world (A.stand asker.old).setting (A.told asker.old)
+            (A.told asker.new)) }
         ensures stand { A.stand asker.new ≡ A.stand asker.old }
         ensures grows { Grows (A.told asker.old) (A.told asker.new) };
 }

@@ -81,6 +81,8 @@ impl<'p, 't> PlanTask for TermsWork<'p, 't> {
 
     ghost follows = { λ work. documents_spec.nothing };
 
+    ghost tells = { terms_spec.TellsTerms };
+
     fn run<A: Asker>(self, alloc: Global, asker: &mut A) -> Result<Option<Html>, NoMemory> {
         let titles = titles_of(alloc, asker, self.ground.plan.pages.as_slice())?;
         terms_html(alloc, self.terms, self.ground.plan, &titles)

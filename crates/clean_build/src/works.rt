@@ -1,11 +1,12 @@
 //! What is made of a plan over a reader that knows it: its links, a page and the contents page.
 
-ghost use Rattle.std.specs.Prelude.{◌≡◌, ◌++◌, ◌∷◌, ℕ, List, [], Some, IfOk, slice_get};
+ghost use Rattle.std.specs.Prelude.{◌≡◌, ◌++◌, ◌∷◌, ℕ, List, [], Some, IfOk, OnOk, slice_get};
 ghost use Rattle.std.specs.Option.{option_copied};
 ghost use Rattle.clean_build.specs.Made as made_spec;
 ghost use Rattle.clean_build.specs.Names as names_spec;
 ghost use Rattle.clean_build.specs.Bodies.{AreKnown, IsBodyMade};
 ghost use Rattle.clean_build.specs.BuildInput.{IsReady, context_for};
+ghost use Rattle.clean_build.specs.Reads.{MayReadFor, ReadsOnly};
 ghost use Rattle.conref_targets.specs.Asking as asking_spec;
 ghost use Rattle.conref_targets.specs.Rules.{ditavals};
 ghost use Rattle.map_spec.specs.Titles.{title_in};
@@ -53,6 +54,8 @@ impl<'p> PlanTask for LinksWork<'p> {
 
     ghost follows = { λ work. documents_spec.nothing };
 
+    ghost tells = { made_spec.TellsLinks };
+
     fn run<A: Asker>(self, alloc: Global, asker: &mut A) -> Result<NodeLinks, NoMemory> {
         NodeLinks::of(alloc, asker, self.ground.plan)
     }
@@ -78,6 +81,8 @@ impl<'p> PlanTask for ContentsWork<'p> {
     ghost documents = { names_spec.documents_of_contents };
 
     ghost follows = { λ work. documents_spec.nothing };
+
+    ghost tells = { made_spec.TellsContents };
 
     fn run<A: Asker>(self, alloc: Global, asker: &mut A) -> Result<Html, NoMemory> {
         contents(alloc, asker, self.ground.plan)
@@ -120,6 +125,8 @@ impl<'p, 'b> PlanTask for PageWork<'p, 'b> {
 
     ghost follows = { λ work. asking_spec.of_content };
 
+    ghost tells = { made_spec.TellsPage };
+
     fn run<A: Asker>(self, alloc: Global, asker: &mut A) -> Result<PageMade, NoMemory> {
         let Some(line) = root_line(alloc, asker, &self.page.id.doc)? else {
             return Ok(nothing(alloc, self.content));
@@ -156,6 +163,9 @@ fn rooted<A: Asker>(
         ++ names_spec.about_page work.entry) (A.told asker.old) (A.told asker.new) }
     ensures asks { AsksOnly asking_spec.of_content (names_spec.documents_of_page work.entry)
         (A.told asker.old) (A.told asker.new) }
+    ensures only { (world : World) → Agrees world (A.told asker.new)
+        → OnOk result (made_spec.TellsPage work.entry world (A.stand asker.old).setting
+        (A.told asker.old) (A.told asker.new)) }
     ensures stand { A.stand asker.new ≡ A.stand asker.old }
     ensures grows { Grows (A.told asker.old) (A.told asker.new) }
 {
@@ -213,6 +223,9 @@ fn body_on_ground<A: Asker>(
         (A.told asker.old) (A.told asker.new) }
     ensures asks { AsksOnly asking_spec.of_content
         (names_spec.names_of_content ground.entry page.now) (A.told asker.old) (A.told asker.new) }
+    ensures only { (world : World) → Agrees world (A.told asker.new)
+        → OnOk result (ReadsOnly (MayReadFor world (A.stand asker.old).setting
+        (context_for ground.entry page.now)) (A.told asker.old) (A.told asker.new)) }
     ensures stand { A.stand asker.new ≡ A.stand asker.old }
     ensures grows { Grows (A.told asker.old) (A.told asker.new) }
 {

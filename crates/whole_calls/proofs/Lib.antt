@@ -1,5 +1,3 @@
 pub mod AskLaws
 pub mod Calling
-pub mod FoundLaws
-pub mod GivenLaws
 pub mod SingleLaws

@@ -144,6 +144,7 @@ struct ContentWork<'p> {
 }
 
 impl<'p> PlanTask for ContentWork<'p> {
+    ghost use Rattle.readers.specs.Founded.{Grows};
     ghost use Rattle.conref_targets.specs.Asking as asking_spec;
     ghost use Rattle.whole_calls.specs.Single as single_spec;
 
@@ -156,6 +157,8 @@ impl<'p> PlanTask for ContentWork<'p> {
     ghost documents = { single_spec.documents_of_content };
 
     ghost follows = { λ work. asking_spec.of_content };
+
+    ghost tells = { λ work world setting old new. Grows old new };
 
     fn run<A: Asker>(self, alloc: Global, asker: &mut A) -> Result<Resolved, NoMemory> {
         let Some(page) = self.ground.plan.pages.as_slice().get(self.index as usize) else {

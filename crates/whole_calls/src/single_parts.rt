@@ -203,6 +203,7 @@ struct PartWork<'p> {
 }
 
 impl<'p> PlanTask for PartWork<'p> {
+    ghost use Rattle.readers.specs.Founded.{Grows};
     ghost use Rattle.whole_calls.specs.Single as single_spec;
     ghost use Rattle.conref_targets.specs.Asking as asking_spec;
 
@@ -215,6 +216,8 @@ impl<'p> PlanTask for PartWork<'p> {
     ghost documents = { single_spec.documents_of_part };
 
     ghost follows = { λ work. asking_spec.of_content };
+
+    ghost tells = { λ work world setting old new. Grows old new };
 
     fn run<A: Asker>(self, alloc: Global, asker: &mut A) -> Result<Html, NoMemory> {
         match self.part {

@@ -10,6 +10,8 @@ use Rattle.readers.specs.Setting.{Setting, Stand}
 use Rattle.clean_build.specs.Bodies.{content_of, rules_for}
 use Rattle.clean_build.proofs.BodyLaws.{body_is, body_links, marks_are, stays_body, terms_are}
 use Rattle.clean_build.proofs.AskLaws.{asks_behind}
+use Rattle.conref_targets.specs.PageAsking.{page_at}
+use Rattle.clean_build.proofs.ReadLaws.{reads_after, reads_none, reads_page}
 use Rattle.clean_build.proofs.body.page_body.Goals as goal
 
 pub returns-clause-known : goal.returns-clause-known
@@ -83,3 +85,11 @@ returns-in_err-body-clause-asks g c = asks_behind _ _ _ _ c.resolved_for.ensures
 pub returns-clause-asks : goal.returns-clause-asks
 returns-clause-asks g c = asks_behind _ _ _ _ c.resolved_for.ensures.grows
     c.resolved_for.ensures.asks c.anchors.ensures.asks
+
+pub returns-clause-only : goal.returns-clause-only
+returns-clause-only g c = λ world agrees.
+    let before = agrees_before world _ _ c.in_ok-anchors.ensures.grows agrees in
+    let page = page_at world (g.A.Reader.stand c.args.asker.now).setting (arc_value c.args.context.now).val
+    (arc_value c.args.context.now).page in
+    reads_after _ _ _ _ (reads_page page _ _ (c.in_ok-resolved.ensures.only world before))
+    (reads_none _ _ _ c.in_ok-anchors.ensures.asks)

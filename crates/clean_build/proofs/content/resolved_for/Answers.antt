@@ -11,6 +11,7 @@ use Rattle.readers.specs.Documents.{AsksOnly}
 use Rattle.readers.specs.Founded.{StaysFounded, homes}
 use Rattle.readers.specs.Setting.{Setting}
 use Rattle.clean_build.specs.Bodies.{content_of}
+use Rattle.conref_targets.specs.PageAsking.{AsksPage, page_at}
 use Rattle.clean_build.proofs.content.resolved_for.Goals as goal
 
 pub returns-clause-known : goal.returns-clause-known
@@ -45,3 +46,9 @@ pub returns-clause-asks : goal.returns-clause-asks
 returns-clause-asks g c = subst (λ (of : Context).
     AsksOnly of_content (of.page.doc ∷ ditavals of.val of.page.filters) (g.A.Reader.told c.args.asker.now)
     (g.A.Reader.told c.resolve_page_with.new.asker)) c.deref.ensures c.resolve_page_with.ensures.asks
+
+pub returns-clause-only : goal.returns-clause-only
+returns-clause-only g c = λ world agrees. subst (λ (of : Context). OnOk c.resolve_page_with.result
+    (AsksPage (page_at world (g.A.Reader.stand c.args.asker.now).setting of.val of.page)
+    (g.A.Reader.told c.args.asker.now) (g.A.Reader.told c.resolve_page_with.new.asker))) c.deref.ensures
+    (c.resolve_page_with.ensures.only world agrees)

@@ -1,4 +1,4 @@
-use Rattle.std.specs.Prelude.{◌++◌, ◌∷◌, IfOk}
+use Rattle.std.specs.Prelude.{◌++◌, ◌∷◌, IfOk, OnOk}
 use Rattle.std.proofs.Common.{refl, sym, subst}
 use Rattle.conref_targets.specs.Rules.{ditavals}
 use Rattle.dita_doc.specs.declared.plan.Context.{Context}
@@ -10,6 +10,7 @@ use Rattle.clean_build.proofs.ReadyLaws.{is_page}
 use Rattle.conref_targets.specs.Asking.{of_content}
 use Rattle.readers.proofs.DocumentLaws.{asks_same}
 use Rattle.readers.specs.Documents.{AsksOnly}
+use Rattle.clean_build.specs.Reads.{MayReadFor, ReadsOnly}
 use Rattle.clean_build.proofs.works.body_on_ground.Goals as goal
 
 pub returns-clause-known : goal.returns-clause-known
@@ -41,3 +42,9 @@ returns-clause-asks g c = subst (λ (context : Context).
     AsksOnly of_content (context.page.doc ∷ ditavals context.val context.page.filters)
     (g.A.Reader.told c.args.asker.now) (g.A.Reader.told c.page_body.new.asker)) c.in_ok-context.ensures
     c.page_body.ensures.asks
+
+pub returns-clause-only : goal.returns-clause-only
+returns-clause-only g c = λ world agrees. subst (λ (context : Context). OnOk c.page_body.result
+    (ReadsOnly (MayReadFor world (g.A.Reader.stand c.args.asker.now).setting context)
+    (g.A.Reader.told c.args.asker.now) (g.A.Reader.told c.page_body.new.asker))) c.in_ok-context.ensures
+    (c.page_body.ensures.only world agrees)

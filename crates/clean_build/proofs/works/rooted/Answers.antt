@@ -6,6 +6,7 @@ use Rattle.clean_build.proofs.NameLaws.{stays_content, stays_linked, stays_title
 use Rattle.clean_build.proofs.PageLaws.{page_shown}
 use Rattle.readers.proofs.GrowthLaws.{agrees_before, grows_trans}
 use Rattle.clean_build.proofs.AskLaws.{asks_behind}
+use Rattle.clean_build.proofs.ReadLaws.{reads_after, reads_none}
 use Rattle.clean_build.proofs.works.rooted.Goals as goal
 
 pub returns-clause-known : goal.returns-clause-known
@@ -81,3 +82,10 @@ returns-clause-asks g c = asks_behind _ _ _ _
     (grows_trans _ _ _ c.body_on_ground.ensures.grows c.of_page.ensures.grows)
     (asks_behind _ _ _ _ c.body_on_ground.ensures.grows c.body_on_ground.ensures.asks c.of_page.ensures.asks)
     c.titled.ensures.asks
+
+pub returns-clause-only : goal.returns-clause-only
+returns-clause-only g c = λ world agrees.
+    let at_links = agrees_before world _ _ c.in_ok-html.ensures.grows agrees in
+    let at_body = agrees_before world _ _ c.in_ok-of_nodes.ensures.grows at_links in
+    reads_after _ _ _ _ (c.in_ok-body.ensures.only world at_body) (reads_after _ _ _ _
+    (reads_none _ _ _ c.in_ok-of_nodes.ensures.asks) (reads_none _ _ _ c.in_ok-html.ensures.asks))

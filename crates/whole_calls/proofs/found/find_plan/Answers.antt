@@ -6,7 +6,7 @@ use Rattle.clean_build.proofs.PartLaws.{stop_given}
 use Rattle.map_spec.specs.PlanOf.{limits, plan_of}
 use Rattle.readers.specs.Setting.{Stand}
 use Rattle.readers.proofs.GrowthLaws.{agrees_before, are_allowed_before, grows_trans}
-use Rattle.whole_calls.proofs.FoundLaws.{documents_may, parts_may, plan_may}
+use Rattle.clean_build.proofs.FoundLaws.{documents_may, parts_may, plan_may}
 use Rattle.whole_calls.proofs.SingleLaws.{ok_same}
 use Rattle.whole_calls.proofs.found.find_plan.Goals as goal
 use Rattle.readers.proofs.FoundedLaws.{stays_by, stays_when}

@@ -5,6 +5,7 @@ use Rattle.dita_doc.specs.declared.fact.Html.{Html}
 use Rattle.html_spec.specs.Terms.{terms_html}
 use Rattle.clean_build.specs.Terms.{documents_of, titles_in}
 use Rattle.clean_build.proofs.NameLaws.{stays_listed, stays_titles}
+use Rattle.clean_build.proofs.ReadLaws.{reads_held, reads_none}
 use Rattle.clean_build.proofs.terms.TermsWorkPlanTask.run.Goals as goal
 
 pub returns-clause-known : goal.returns-clause-known
@@ -28,3 +29,7 @@ returns-in_err-titles-clause-asks g c = c.titles_of.ensures.asks
 
 pub returns-clause-asks : goal.returns-clause-asks
 returns-clause-asks g c = c.titles_of.ensures.asks
+
+pub returns-clause-only : goal.returns-clause-only
+returns-clause-only g c = λ world agrees. reads_held (λ name. ⊥) c.terms_html.result _ _
+    (reads_none (λ name. ⊥) _ _ c.in_ok-titles.ensures.asks)

@@ -20,3 +20,6 @@ returns-clause-founded g c = stays_contents _ _ _ c.args.self.ground c.contents.
 
 pub returns-clause-asks : goal.returns-clause-asks
 returns-clause-asks g c = c.contents.ensures.asks
+
+pub returns-clause-only : goal.returns-clause-only
+returns-clause-only g c = λ world agrees. c.contents.ensures.only

@@ -14,3 +14,6 @@ returns-clause-founded g c = stays_links _ _ _ c.args.self.ground c.of.ensures.f
 
 pub returns-clause-asks : goal.returns-clause-asks
 returns-clause-asks g c = c.of.ensures.asks
+
+pub returns-clause-only : goal.returns-clause-only
+returns-clause-only g c = λ world agrees. c.of.ensures.only

@@ -1,15 +1,19 @@
+use Rattle.std.specs.Prelude.{OnOk}
 use Rattle.std.proofs.Common.{sym, ap, subst}
 use Rattle.std.proofs.lemmas.Result.{IfOk-weaker}
 use Rattle.readers.proofs.FoundedLaws.{stays_after}
 use Rattle.readers.proofs.GrowthLaws.{agrees_before, grows_trans}
+use Rattle.conref_targets.specs.PageAsking.{page_at}
 use Rattle.readers.specs.Setting.{Stand}
-use Rattle.clean_build.specs.BuildInput.{IsReady}
+use Rattle.clean_build.specs.BuildInput.{IsReady, context_for}
 use Rattle.clean_build.specs.Made.{IsMadeAt, IsPageMade, IsRootLine}
 use Rattle.clean_build.specs.Names.{about_page}
+use Rattle.clean_build.specs.Reads.{MayReadFor, ReadsOnly}
 use Rattle.clean_build.proofs.NameLaws.{stays_doc, stays_with}
 use Rattle.clean_build.proofs.PageLaws.{made_rooted, made_rootless}
 use Rattle.clean_build.proofs.ReadyLaws.{ok_under}
 use Rattle.clean_build.proofs.AskLaws.{asks_first, asks_page}
+use Rattle.clean_build.proofs.ReadLaws.{reads_own, reads_then}
 use Rattle.clean_build.proofs.works.PageWorkPlanTask.run.Goals as goal
 
 pub returns-clause-known : goal.returns-clause-known
@@ -55,3 +59,19 @@ returns-in_default-clause-asks g c = asks_first _ _ _ _ c.root_line.ensures.asks
 pub returns-clause-asks : goal.returns-clause-asks
 returns-clause-asks g c =
     asks_page _ _ _ _ _ c.root_line.ensures.grows c.root_line.ensures.asks c.rooted.ensures.asks
+
+pub returns-in_default-clause-only : goal.returns-in_default-clause-only
+returns-in_default-clause-only g c = λ world agrees.
+    let context = context_for c.args.self.ground c.args.self.page.now in
+    let setting = (g.A.Reader.stand c.args.asker.now).setting in
+    reads_own (page_at world setting context.val context.page) _ _ c.in_ok-line.ensures.asks
+
+pub returns-clause-only : goal.returns-clause-only
+returns-clause-only g c = λ world agrees.
+    let context = context_for c.args.self.ground c.args.self.page.now in
+    let setting = (g.A.Reader.stand c.args.asker.now).setting in
+    reads_then (MayReadFor world setting context) c.rooted.result _ _ _
+    (reads_own (page_at world setting context.val context.page) _ _ c.in_ok-line.ensures.asks)
+    (subst (λ (s : Stand). OnOk c.rooted.result (ReadsOnly (MayReadFor world s.setting context)
+    (g.A.Reader.told c.root_line.new.reader) (g.A.Reader.told c.rooted.new.asker)))
+    c.in_ok-line.ensures.stand (c.rooted.ensures.only world agrees))

@@ -15,7 +15,7 @@ use Rattle.readers.specs.Founded.{AreAllowed, homes, is_allowed}
 use Rattle.readers.specs.Told.{Told}
 use Rattle.readers.proofs.AmongLaws.{among_back, among_either, among_front}
 use Rattle.clean_build.specs.Names.{names_of_page, names_of_plan}
-use Rattle.whole_calls.proofs.GivenLaws.{documents_allowed, pages_allowed, targets_allowed}
+use Rattle.clean_build.proofs.GivenLaws.{documents_allowed, pages_allowed, targets_allowed}
 use Rattle.clean_build.proofs.PlanLaws.{IsOfNodes, plan_facts}
 
 allowed_both : (roots : List (List ℕ)) (told : List Told) (a b : List (List ℕ)) → AreAllowed roots told a
