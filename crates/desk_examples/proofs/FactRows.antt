@@ -1,6 +1,6 @@
 -- When facts agree and when they are sound, on small facts: a build without a map, whose plan is why there is none.
 use Rattle.std.proofs.Common.{◌≡◌, ◌⊎◌, ℕ, zero, suc, true, false, List, [], ◌∷◌, Option, Some, None, Ok, Err, inl, inr, refl, sym, ap, subst, arith, ◌∙◌}
-use Rattle.std.proofs.Math.Logic.{⊎_elim}
+use Rattle.std.proofs.Math.Logic.{∥∥₁_elim, ⊎_elim}
 use Rattle.std.proofs.lemmas.Option.{none-some}
 use Rattle.std.specs.Prelude.{All, Contains, IfSome, Result, bytes_eq, codes, slice_get}
 use Rattle.std.specs.Arc.{arc_with_value}
@@ -160,10 +160,10 @@ page_fact any asked = record {
 
 own_document : (any : Share) → PageAsks (page_fact any (absent m ∷ absent (codes "t.dita") ∷ [])) 0
 own_document any = record { each = λ world planned answered. each world } where
-  each : (world : World) → All (λ name. IsPlanned two_pages name
-      ⊎ IsPageDocumentAt world two_pages.value None 0 name) (m ∷ codes "t.dita" ∷ [])
-  each world zero d less = inl refl
-  each world (suc zero) d less = inr own
+  each : (world : World) → All (λ name. ∥ IsPlanned two_pages name
+      ⊎ IsPageDocumentAt world two_pages.value None 0 name ∥₁) (m ∷ codes "t.dita" ∷ [])
+  each world zero d less = ∣ inl refl ∣₁
+  each world (suc zero) d less = ∣ inr own ∣₁
   each world (suc (suc k)) d less = absurd (omega (arith, less))
 
 -- nothing is stored: so nothing is pushed, and a page has no document but its own
@@ -186,7 +186,7 @@ own_alone (pushing {doc} {push} before among) =
     absurd (nothing_in push (subst (λ (all : List Push). Contains all push) (nothing_pushed doc) among))
 
 other_page : (any : Share) → PageAsks (page_fact any (absent (codes "u.dita") ∷ [])) 0 → ⊥
-other_page any asks = ⊎_elim (λ planned. false_is_true planned) (λ document. other_name (own_alone document))
-    (asks.each none_stored (refl, tt) (refl, tt) 0 [] (omega arith)) where
+other_page any asks = ∥∥₁_elim (asks.each none_stored (refl, tt) (refl, tt) 0 [] (omega arith)) (hlevel)
+    (⊎_elim (λ planned. false_is_true planned) (λ document. other_name (own_alone document))) where
       other_name : codes "u.dita" ≡ codes "t.dita" → ⊥
       other_name same = false_is_true (sym (ap (bytes_eq (codes "u.dita")) same))

@@ -48,11 +48,11 @@ beside_one : (planned : List (List ℕ)) (name m : List ℕ) → IsTrue (is_amon
     → IsTrue (is_among (name ∷ []) m)
 beside_one planned name m is = left_if name (not (is_among planned name)) m is
 
-abbrev Known : List (List ℕ) → List (List ℕ) → List Told → Type 0
+abbrev pub Known : List (List ℕ) → List (List ℕ) → List Told → Type 0
 Known known roots ts = (m : List ℕ) → IsTrue (is_allowed roots ts m) → IsTrue (is_among known m)
 
 -- the names in one question
-among_known : (setting : Setting) (planned known roots : List (List ℕ)) (ts : List Told) (question : Question)
+pub among_known : (setting : Setting) (planned known roots : List (List ℕ)) (ts : List Told) (question : Question)
     (answered : Answered) → Known known roots ts → IsOfNoPage question answered
     → AreAllowed roots ts (names_asked (told_by setting question answered))
     → AreAmong (names_in_question planned question) known
@@ -76,7 +76,7 @@ known_if : (known given : List (List ℕ)) (m : List ℕ) (b c : Bool) → is_am
 known_if known given m true c gives is or = among_back known given m gives
 known_if known given m false c gives is or = among_front known given m (is or)
 
-known_more : (setting : Setting) (known roots : List (List ℕ)) (ts : List Told) (one : Asked) → Known known roots ts
+pub known_more : (setting : Setting) (known roots : List (List ℕ)) (ts : List Told) (one : Asked) → Known known roots ts
     → Known (known ++ names_of_answer one) roots (told_asked setting one ∷ ts)
 known_more setting known roots ts one is m allowed =
     known_if known (names_of_answer one) m (is_among (names_of_answer one) m) (is_allowed roots ts m) refl (is m)

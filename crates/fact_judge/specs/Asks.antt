@@ -88,8 +88,8 @@ IsPlanned plan name = IsTrue (is_among (whole_documents plan.asked) name)
 
 pub record PageAsks (fact : Fact) (index : ℕ) : Type 0 where
   pub each : (world : World) → PlanAnswers (arc_value fact.plan) world → OwnAnswers fact world
-      → All (λ name. IsPlanned (arc_value fact.plan) name
-      ⊎ IsPageDocumentAt world (arc_value fact.plan).value fact.key.val index name) (whole_documents fact.asked)
+      → All (λ name. ∥ IsPlanned (arc_value fact.plan) name
+      ⊎ IsPageDocumentAt world (arc_value fact.plan).value fact.key.val index name ∥₁) (whole_documents fact.asked)
 
 -- The contents page asks for what the plan asks for
 
