@@ -1,0 +1,8 @@
+pub mod Alone
+pub mod Made
+pub mod Own
+pub mod Parts
+pub mod Planned
+pub mod Ready
+pub mod Right
+pub mod Told
