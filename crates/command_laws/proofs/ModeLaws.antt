@@ -17,7 +17,7 @@ use Rattle.clap.specs.declared.builder.action.ArgAction.TheVariants as actions
 use Rattle.clap.specs.declared.builder.value_parser.Reading.{Reading}
 use Rattle.clap.specs.declared.parser.matches.ValueSource.{ValueSource}
 use Rattle.clap.specs.declared.parser.matches.ValueSource.TheVariants.{CommandLine, DefaultValue}
-use Rattle.command_line.specs.Command.{command, is_read, mode, mode_called, mode_in, mode_of, modes, one_of_these, project_in}
+use Rattle.command_line.specs.Command.{command, is_read, mode, mode_called, mode_in, mode_of, modes, one_of_these, project_in, workers_in}
 use Rattle.command_laws.specs.Words.{NamesMode}
 use Rattle.command_laws.proofs.StayLaws.{Each, IsLeft, Stays, StaysByDefault, level_stays}
 
@@ -269,40 +269,47 @@ has_mode : (rows : List Row) (found : Option Row) → find of_mode rows ≡ foun
 has_mode rows None found given all = absurd (true≢false (sym given))
 has_mode rows (Some row) found given all = first_given rows row row.values found refl (found_fine rows row found all)
 
--- the name of a mode is one of the three
-abbrev IsModeName : Text → Type 0
-IsModeName text = (text ≡ codes "clean") ⊎ ((text ≡ codes "terms") ⊎ (text ≡ codes "gen"))
+-- the text is one of these names
+abbrev IsOneOf : List Text → Text → Type 0
+IsOneOf [] text = ⊥
+IsOneOf (name ∷ names) text = (text ≡ name) ⊎ IsOneOf names text
 
-which : (text : Text) → is_mode text ≡ true → IsModeName text
-which text named = by_first (bytes_eq (codes "clean") text) refl named
+abbrev is_one_of : List Text → Text → Bool
+is_one_of [] text = false
+is_one_of (name ∷ names) text = bytes_eq name text || is_one_of names text
+
+which : (names : List Text) (text : Text) → is_one_of names text ≡ true → IsOneOf names text
+which [] text named = absurd (true≢false (sym named))
+which (name ∷ names) text named = by_test (bytes_eq name text) refl named (which names text)
   where
-    by_third : (same : Bool) → bytes_eq (codes "gen") text ≡ same → (same || false) ≡ true → text ≡ codes "gen"
-    by_third true e named = sym (same_text (codes "gen") text e)
-    by_third false e named = absurd (true≢false (sym named))
+    by_test : (same : Bool) → bytes_eq name text ≡ same → (same || is_one_of names text) ≡ true
+        → (is_one_of names text ≡ true → IsOneOf names text) → (text ≡ name) ⊎ IsOneOf names text
+    by_test true e named rest = inl (sym (same_text name text e))
+    by_test false e named rest = inr (rest named)
 
-    by_second : (same : Bool) → bytes_eq (codes "terms") text ≡ same
-        → (same || (bytes_eq (codes "gen") text || false)) ≡ true → (text ≡ codes "terms") ⊎ (text ≡ codes "gen")
-    by_second true e named = inl (sym (same_text (codes "terms") text e))
-    by_second false e named = inr (by_third (bytes_eq (codes "gen") text) refl named)
-
-    by_first : (same : Bool) → bytes_eq (codes "clean") text ≡ same
-        → (same || (bytes_eq (codes "terms") text || (bytes_eq (codes "gen") text || false))) ≡ true → IsModeName text
-    by_first true e named = inl (sym (same_text (codes "clean") text e))
-    by_first false e named = inr (by_second (bytes_eq (codes "terms") text) refl named)
-
-mode_is : (words : List Text) (text : Text) → is_read words ≡ true → first_of (codes "mode") (matches_of command words) ≡ Some text
-    → mode_of words ≡ Some (mode_called (project_in (matches_of command words)) text)
-mode_is words text read first =
-    ap (λ (is : Bool). if is then Some (mode_in (matches_of command words)) else None) read
-    ∙ ap (λ (found : Option Text). Some (mode_called (project_in (matches_of command words)) (unwrap_or found []))) first
+-- the mode of words that are read is that of its name
+mode_is : (words : List Text) (text name : Text) → is_read words ≡ true
+    → first_of (codes "mode") (matches_of command words) ≡ Some text → text ≡ name
+    → (first_of (codes "mode") (matches_of command words) ≡ Some name)
+    × (mode_of words ≡ Some (mode_called (project_in (matches_of command words)) (workers_in (matches_of command words)) name))
+mode_is words text name read first same =
+    let here = first ∙ ap Some same in
+    let rows = matches_of command words in (
+      here,
+      ap (λ (is : Bool). if is then Some (mode_in (matches_of command words)) else None) read
+          ∙ ap (λ (found : Option Text). Some (mode_called (project_in rows) (workers_in rows) (unwrap_or found []))) here,
+    )
 
 pub names_mode : NamesMode
 names_mode words read =
     let rows = left words read in
     let mode = has_mode (matches_of command words) (find of_mode (matches_of command words)) refl
     (mode_given (matches_of command words) (has_entered words) rows.valid) rows.is in
-    elim (which mode.text mode.named) [
-      | inl clean ↦ (let first = mode.first ∙ ap Some clean in inl (first, mode_is words (codes "clean") read first))
-      | inr (inl terms) ↦ (let first = mode.first ∙ ap Some terms in inr (inl (first, mode_is words (codes "terms") read first)))
-      | inr (inr gen) ↦ (let first = mode.first ∙ ap Some gen in inr (inr (first, mode_is words (codes "gen") read first)))
+    elim (which modes mode.text mode.named) [
+      | inl clean ↦ inl (mode_is words mode.text (codes "clean") read mode.first clean)
+      | inr (inl terms) ↦ inr (inl (mode_is words mode.text (codes "terms") read mode.first terms))
+      | inr (inr (inl gen)) ↦ inr (inr (inl (mode_is words mode.text (codes "gen") read mode.first gen)))
+      | inr (inr (inr (inl batch))) ↦ inr (inr (inr (inl (mode_is words mode.text (codes "batch") read mode.first batch))))
+      | inr (inr (inr (inr (inl trial)))) ↦ inr (inr (inr (inr (mode_is words mode.text (codes "trial") read mode.first trial))))
+      | inr (inr (inr (inr (inr none)))) ↦ absurd none
     ]

@@ -10,8 +10,8 @@ use Rattle.clap.specs.declared.builder.action.ArgAction.TheVariants.{Set}
 use Rattle.clap.specs.declared.builder.value_parser.ValueParser.{ValueParser}
 use Rattle.clap.specs.declared.builder.value_parser.ValueParser.TheVariants as values
 use Rattle.command_line.specs.declared.modes.Mode.{Mode}
-use Rattle.command_line.specs.declared.modes.Mode.TheVariants.{Clean, Terms, Gen}
-use Rattle.command_line.specs.Project.{ProjectAsked, most_number, least_topics, most_topics}
+use Rattle.command_line.specs.declared.modes.Mode.TheVariants.{Clean, Terms, Gen, Batch, Trial}
+use Rattle.command_line.specs.Project.{ProjectAsked, most_number, least_topics, most_topics, least_workers, most_workers}
 
 -- texts as references, at no address: what a command reads does not depend on where its own texts lie
 abbrev pub at_no_address : {X : Type 0} → X → Bor X
@@ -22,7 +22,7 @@ one_of_these texts = values.Names (at_no_address (map at_no_address texts))
 
 -- the modes of the program
 abbrev pub modes : List Text
-modes = codes "clean" ∷ codes "terms" ∷ codes "gen" ∷ []
+modes = codes "clean" ∷ codes "terms" ∷ codes "gen" ∷ codes "batch" ∷ codes "trial" ∷ []
 
 -- an argument of one value
 abbrev pub valued : Text → ValueParser → Rule
@@ -43,7 +43,7 @@ default_folder = codes "out"
 -- how many threads work, the number from which a project is made and its topics, where sessions connect and how many, and
 -- the folder of the pages
 abbrev pub options : List Rule
-options = option (codes "workers") (values.Unsigned 1 16) (codes "4")
+options = option (codes "workers") (values.Unsigned least_workers most_workers) (codes "4")
     ∷ option (codes "number") (values.Unsigned 0 most_number) (codes "1")
     ∷ option (codes "topics") (values.Unsigned least_topics most_topics) (codes "40")
     ∷ option (codes "port") (values.Unsigned 0 65535) (codes "7070")
@@ -92,13 +92,21 @@ project_in rows = record {
   topics = number_in least_topics most_topics (value_in (codes "topics") rows);
 }
 
--- the mode of a name: of those that the command reads, the one that is neither `terms` nor `gen` is `clean`
-abbrev pub mode_called : ProjectAsked → Text → Mode
-mode_called asked text =
-    if bytes_eq text (codes "terms") then Terms else if bytes_eq text (codes "gen") then Gen asked else Clean
+-- how many threads work on one build
+abbrev pub workers_in : List Row → ℕ
+workers_in rows = number_in least_workers most_workers (value_in (codes "workers") rows)
+
+-- the mode of a name: of those that the command reads, the one that is none of the others is `clean`
+abbrev pub mode_called : ProjectAsked → ℕ → Text → Mode
+mode_called asked workers text =
+    if bytes_eq text (codes "terms") then Terms
+    else if bytes_eq text (codes "gen") then Gen asked
+    else if bytes_eq text (codes "batch") then Batch workers
+    else if bytes_eq text (codes "trial") then Trial asked workers
+    else Clean
 
 abbrev pub mode_in : List Row → Mode
-mode_in rows = mode_called (project_in rows) (value_in (codes "mode") rows)
+mode_in rows = mode_called (project_in rows) (workers_in rows) (value_in (codes "mode") rows)
 
 -- the mode that the words name, if the command reads them
 abbrev pub mode_of : List Text → Option Mode

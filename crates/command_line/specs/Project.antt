@@ -1,4 +1,4 @@
--- What the words ask of the mode `gen`.
+-- What the words ask of the modes `gen`, `batch` and `trial`.
 use Rattle.std.specs.Prelude.{◌≤◌, ℕ}
 
 -- the greatest number from which a project is made
@@ -20,3 +20,14 @@ pub record IsWithinBounds (number topics : ℕ) : Type 0 where
   pub number_most : number ≤ most_number
   pub topics_least : least_topics ≤ topics
   pub topics_most : topics ≤ most_topics
+
+abbrev pub least_workers : ℕ
+least_workers = 1
+
+abbrev pub most_workers : ℕ
+most_workers = 16
+
+-- how many threads may work on one build
+pub record IsTeam (count : ℕ) : Type 0 where
+  pub least : least_workers ≤ count
+  pub most : count ≤ most_workers

@@ -12,7 +12,7 @@ use std::alloc::{AllocError, Global};
 
 const VERSION: &str = "0.1.0";
 
-static MODES: [&str; 3] = ["clean", "terms", "gen"];
+static MODES: [&str; 5] = ["clean", "terms", "gen", "batch", "trial"];
 
 /// The command of the program: a mode, and the options of all modes. A mode ignores the options that
 /// are not its own.
@@ -21,7 +21,7 @@ pub fn command<'a>(alloc: Global) -> Result<Command<'a>, AllocError>
 {
     let with_mode = named(alloc).arg(mode(alloc))?;
     let workers = number(alloc, "workers", 1, 16, "4").help(
-        "No mode uses it yet: threads that work on one build",
+        "batch and trial: threads that work on one build",
     );
     let start = with_mode.arg(workers)?;
     let made = with_project(alloc, start)?;
@@ -45,11 +45,11 @@ fn with_project<'a>(alloc: Global, command: Command<'a>) -> Result<Command<'a>, 
         (spec.option (codes "topics") (value_parsers.Unsigned 2 4000) (codes "40"))) }
 {
     let seed = number(alloc, "number", 0, i64::MAX as u64, "1").help(
-        "gen: the number from which a project is made",
+        "gen and trial: the number from which a project is made",
     );
     let numbered = command.arg(seed)?;
     let topics = number(alloc, "topics", 2, 4000, "40").help(
-        "gen: topics of the project that is made",
+        "gen and trial: topics of the project that is made",
     );
     numbered.arg(topics)
 }
@@ -92,7 +92,7 @@ fn mode<'a>(alloc: Global) -> Arg<'a>
         .value_name("MODE")
         .value_parser(MODES.as_slice())
         .help(
-            "clean: answers the script on standard input, on one thread; terms: does the same, and adds a page that lists the index terms of each build; gen: writes the script of a project",
+            "clean: answers the script on standard input, on one thread; terms: does the same, and adds a page that lists the index terms of each build; gen: writes the script of a project; batch: answers the script on standard input, each session in a thread of its own; trial: answers the script of a project as one session, and writes how much there was",
         )
 }
 

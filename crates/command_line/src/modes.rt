@@ -15,6 +15,12 @@ pub enum Mode {
     Terms,
     /// It writes the script of a project, and reads nothing.
     Gen(Project),
+    /// It answers the script on its standard input, each session beside the others, with so many
+    /// workers for each build.
+    Batch(Workers),
+    /// It answers the script of a project as one session, with so many workers for each build, and
+    /// writes how much there was; it reads nothing.
+    Trial(Project, Workers),
 }
 
 /// What a project is made of: a number of at most 2^63 - 1, and 2 to 4,000 topics.
@@ -56,5 +62,40 @@ impl Project {
         ensures within { project_spec.IsWithinBounds self.now.number self.now.topics }
     {
         self.topics
+    }
+}
+
+/// How many threads work on one build: 1 to 16.
+#[derive(Clone, Copy, Debug, PartialEq, Eq)]
+pub struct Workers {
+    count: u32,
+}
+
+impl Model for Workers {
+    ghost use Rattle.std.specs.Prelude.{ℕ};
+    ghost use Rattle.command_line.specs.Project.{IsTeam};
+
+    ghost Value = { ℕ };
+
+    ghost view = { λ w. w.count };
+
+    ghost invariant = { λ w. IsTeam w.count };
+
+    ghost inverse = { λ count. record { count = count } };
+}
+
+impl Workers {
+    pub(crate) fn new(count: u32) -> Workers
+        requires { project_spec.IsTeam count }
+        ensures { result ≡ count }
+    {
+        Workers { count }
+    }
+
+    pub fn count(&self) -> u32
+        ensures count { result ≡ self.now }
+        ensures within { project_spec.IsTeam self.now }
+    {
+        self.count
     }
 }

@@ -7,7 +7,7 @@ ghost use Rattle.clap.specs.Walk.{rows_of};
 ghost use Rattle.command_line.specs.Command as spec;
 
 use crate::arguments::command;
-use crate::modes::{Mode, Project};
+use crate::modes::{Mode, Project, Workers};
 use clap::ArgMatches;
 use clap::error::ErrorKind;
 use dita_doc::{NoMemory, Text};
@@ -18,6 +18,10 @@ const DEFAULT_FOLDER: &str = "out";
 const TERMS: &str = "terms";
 
 const GEN: &str = "gen";
+
+const BATCH: &str = "batch";
+
+const TRIAL: &str = "trial";
 
 /// The mode that the words name, of which the first is the program's name, if the command reads
 /// them. It does not read `--help` and `--version`: these ask for a text.
@@ -39,6 +43,10 @@ fn mode_in(matches: &ArgMatches) -> Mode
         Mode::Terms
     } else if name == GEN {
         Mode::Gen(project_in(matches))
+    } else if name == BATCH {
+        Mode::Batch(workers_in(matches))
+    } else if name == TRIAL {
+        Mode::Trial(project_in(matches), workers_in(matches))
     } else {
         Mode::Clean
     }
@@ -50,6 +58,12 @@ fn project_in(matches: &ArgMatches) -> Project
     let number = number_in(0, i64::MAX as u64, value_in(matches, "number"));
     let topics = number_in(2, 4000, value_in(matches, "topics"));
     Project::new(number, topics as u32)
+}
+
+fn workers_in(matches: &ArgMatches) -> Workers
+    ensures { result ≡ spec.workers_in (rows_of (found_of matches.now)) }
+{
+    Workers::new(number_in(1, 16, value_in(matches, "workers")) as u32)
 }
 
 // The first value of an argument.

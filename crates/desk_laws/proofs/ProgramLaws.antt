@@ -11,35 +11,47 @@ use Rattle.desk_top.specs.Ends.{EndsMode, EndsProgram}
 use Rattle.desk_top.specs.Outside.{Change}
 use Rattle.desk_laws.specs.SureRun.{IsSureProgram, NoneFailed, ReadsScript}
 
-module _ (beside untouched : Type 0) (source sink : Change Bytes) (outlet : Change Pages)
+module _ (source_left outlet_left untouched : Type 0) (source sink : Change Bytes) (outlet : Change Pages)
     (none : NoneFailed source sink outlet) where
-  reads_script : (mode : Mode) → EndsMode mode beside source sink outlet statuses.Script → ReadsScript mode
+  reads_script : (mode : Mode) → EndsMode mode source_left outlet_left source sink outlet statuses.Script
+      → ReadsScript mode
   reads_script modes.Clean ends = tt
   reads_script modes.Terms ends = tt
   reads_script (modes.Gen asked) ends = absurd ends.0
+  reads_script (modes.Batch workers) ends = tt
+  reads_script (modes.Trial asked workers) ends = absurd ends.0
 
-  no_read_fault : (mode : Mode) → EndsMode mode beside source sink outlet statuses.ReadFault → ⊥
+  no_read_fault : (mode : Mode) → EndsMode mode source_left outlet_left source sink outlet statuses.ReadFault → ⊥
   no_read_fault modes.Clean ends = none.of_source ends.0
   no_read_fault modes.Terms ends = none.of_source ends.0
   no_read_fault (modes.Gen asked) ends = ends.0
+  no_read_fault (modes.Batch workers) ends = none.of_source ends.0.0
+  no_read_fault (modes.Trial asked workers) ends = ends.0
 
-  no_outlet_fault : (mode : Mode) → EndsMode mode beside source sink outlet statuses.OutletFault → ⊥
+  no_outlet_fault : (mode : Mode) → EndsMode mode source_left outlet_left source sink outlet statuses.OutletFault → ⊥
   no_outlet_fault modes.Clean ends = none.of_outlet ends.rose
   no_outlet_fault modes.Terms ends = none.of_outlet ends.rose
   no_outlet_fault (modes.Gen asked) ends = ends.0
+  no_outlet_fault (modes.Batch workers) ends = ends.0
+  no_outlet_fault (modes.Trial asked workers) ends = ends.0
 
-  no_write_fault : (mode : Mode) → EndsMode mode beside source sink outlet statuses.WriteFault → ⊥
+  no_write_fault : (mode : Mode) → EndsMode mode source_left outlet_left source sink outlet statuses.WriteFault → ⊥
   no_write_fault modes.Clean ends = none.of_sink ends.rose
   no_write_fault modes.Terms ends = none.of_sink ends.rose
   no_write_fault (modes.Gen asked) ends = none.of_sink ends.0.1
+  no_write_fault (modes.Batch workers) ends = none.of_sink ends.0.0
+  no_write_fault (modes.Trial asked workers) ends = none.of_sink ends.0.1
 
-  no_port : (mode : Mode) → EndsMode mode beside source sink outlet statuses.Port → ⊥
+  no_port : (mode : Mode) → EndsMode mode source_left outlet_left source sink outlet statuses.Port → ⊥
   no_port modes.Clean ends = ends
   no_port modes.Terms ends = ends
   no_port (modes.Gen asked) ends = ends.0
+  no_port (modes.Batch workers) ends = ends.0
+  no_port (modes.Trial asked workers) ends = ends.0
 
   pub sure_program : (mode : Option Mode) (status : Status)
-      → EndsProgram mode (λ named. EndsMode named beside source sink outlet) untouched status → IsSureProgram mode status
+      → EndsProgram mode (λ named. EndsMode named source_left outlet_left source sink outlet) untouched status
+      → IsSureProgram mode status
   sure_program None statuses.Done ends = absurd ends
   sure_program (Some mode) statuses.Done ends = refl
   sure_program None statuses.Script ends = absurd ends

@@ -31,6 +31,8 @@ abbrev pub ReadsScript : Mode → Type 0
 ReadsScript modes.Clean = Unit {0}
 ReadsScript modes.Terms = Unit {0}
 ReadsScript (modes.Gen asked) = ⊥
+ReadsScript (modes.Batch workers) = Unit {0}
+ReadsScript (modes.Trial asked workers) = ⊥
 
 -- the statuses of the program over such objects, by the mode that its words name, if they name one
 abbrev pub IsSureProgram : Option Mode → Status → Type 0

@@ -43,7 +43,7 @@ pub fn sure_program<S: Source, K: Sink, O: Outlet>()
         (mode : Option Mode) (source source' : S) (sink sink' : K) (outlet outlet' : O)
         (status : Status) → sure_run_spec.NoneFailed (of_source source source')
         (of_sink sink sink') (of_outlet outlet outlet') → ends_spec.EndsProgram mode
-        (λ named. ends_spec.EndsMode named ((source' ≡ source) × (outlet' ≡ outlet))
+        (λ named. ends_spec.EndsMode named (source' ≡ source) (outlet' ≡ outlet)
         (of_source source source') (of_sink sink sink') (of_outlet outlet outlet'))
         ((source' ≡ source) × (sink' ≡ sink) × (outlet' ≡ outlet)) status →
         sure_run_spec.IsSureProgram mode status }

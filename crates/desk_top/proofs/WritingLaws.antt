@@ -1,8 +1,8 @@
 -- How a run ends that takes a sink alone.
-use Rattle.std.proofs.Common.{◌≡◌, [], ◌++◌, Option, Some, None, refl, sym, ◌∙◌, inl, inr, append-nil}
+use Rattle.std.proofs.Common.{◌≡◌, [], Option, Some, None, refl, sym, inl, inr, append-nil}
 use Rattle.std.specs.Io.KnownBytes.{Appends}
 use Rattle.dita_doc.specs.Bytes.{Bytes}
-use Rattle.run_spec.specs.Written.{AppendsFront, EndsWriting, Sunk}
+use Rattle.run_spec.specs.Written.{EndsWriting, Sunk}
 use Rattle.run_spec.specs.declared.status.Status.{Status}
 use Rattle.run_spec.specs.declared.status.Status.TheVariants as statuses
 use Rattle.desk_top.specs.Ends.{WritesLast}

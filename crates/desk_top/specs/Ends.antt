@@ -10,11 +10,12 @@ use Rattle.dita_outside.specs.Pages.{Pages, TakesPages, TakesPagesFront}
 use Rattle.run_spec.specs.declared.status.Status.{Status}
 use Rattle.run_spec.specs.declared.status.Status.TheVariants as statuses
 use Rattle.run_spec.specs.CleanRun.{HasForm, read_limit, run_over}
-use Rattle.run_spec.specs.EndsTrial.{EndsGen}
+use Rattle.run_spec.specs.EndsTrial.{EndsGen, EndsTrial}
 use Rattle.run_spec.specs.Reads.{Reads}
 use Rattle.run_spec.specs.Written.{AppendsFront}
 use Rattle.script_text.specs.Script.{script_of}
-use Rattle.desk_top.specs.Outside.{Change, sunk_after, sunk_before}
+use Rattle.desk_top.specs.Beside.{EndsBeside}
+use Rattle.desk_top.specs.Outside.{Change, streams_after, streams_before, sunk_after, sunk_before}
 
 -- nothing reached the sink and the outlet
 abbrev pub TakesNothing : Change Bytes → Change Pages → Type 0
@@ -90,11 +91,18 @@ EndsTerms source sink outlet status = EndsRun true source sink outlet status
 abbrev pub EndsProject : (number topics : ℕ) → (sink : Change Bytes) → Status → Type 0
 EndsProject number topics sink status = EndsGen number topics (sunk_before sink) (sunk_after sink) status
 
--- the run of a mode; for `gen`, `beside` says that the source and the outlet are as they were
-abbrev pub EndsMode : Mode → (beside : Type 0) → (source sink : Change Bytes) → (outlet : Change Pages) → Status → Type 0
-EndsMode modes.Clean beside source sink outlet status = EndsClean source sink outlet status
-EndsMode modes.Terms beside source sink outlet status = EndsTerms source sink outlet status
-EndsMode (modes.Gen asked) beside source sink outlet status = EndsProject asked.number asked.topics sink status × beside
+-- the run of a mode; `gen` and `trial` take the sink alone, and `batch` takes no outlet: what they do not take is as it
+-- was, which is said by what is left of the source and of the outlet
+abbrev pub EndsMode : Mode → (source_left outlet_left : Type 0) → (source sink : Change Bytes) → (outlet : Change Pages)
+    → Status → Type 0
+EndsMode modes.Clean source_left outlet_left source sink outlet status = EndsClean source sink outlet status
+EndsMode modes.Terms source_left outlet_left source sink outlet status = EndsTerms source sink outlet status
+EndsMode (modes.Gen asked) source_left outlet_left source sink outlet status =
+    EndsProject asked.number asked.topics sink status × source_left × outlet_left
+EndsMode (modes.Batch workers) source_left outlet_left source sink outlet status =
+    EndsBeside (streams_before source sink) (streams_after source sink) status × outlet_left
+EndsMode (modes.Trial asked workers) source_left outlet_left source sink outlet status =
+    EndsTrial asked.number asked.topics (sunk_before sink) (sunk_after sink) status × source_left × outlet_left
 
 -- an output was written: whole, by a sink that has not failed, and then the status is that of the run; or its beginning,
 -- because the sink failed or memory ran out

@@ -1,4 +1,12 @@
+pub mod Asked
+pub mod Beside
 pub mod Builds
+pub mod Cited
+pub mod Counts
 pub mod Ends
+pub mod Given
+pub mod OneHistory
 pub mod Outside
 pub mod Runs
+pub mod Served
+pub mod Told

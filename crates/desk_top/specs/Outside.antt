@@ -1,5 +1,6 @@
 -- What an object of a run tells before the run and after it.
 use Rattle.std.specs.Prelude.{ℕ, Option}
+use Rattle.run_spec.specs.EndsBatch.{Streams}
 use Rattle.run_spec.specs.Written.{Sunk}
 use Rattle.dita_doc.specs.Bytes.{Bytes}
 
@@ -25,3 +26,20 @@ sunk_before sink = record { taken = sink.before; faults = sink.faults_before }
 
 abbrev pub sunk_after : Change Bytes → Sunk
 sunk_after sink = record { taken = sink.after; faults = sink.faults_after }
+
+-- what the source and the sink tell, of that
+abbrev pub streams_before : (source sink : Change Bytes) → Streams
+streams_before source sink = record {
+  left = source.before;
+  read_faults = source.faults_before;
+  taken = sink.before;
+  write_faults = sink.faults_before;
+}
+
+abbrev pub streams_after : (source sink : Change Bytes) → Streams
+streams_after source sink = record {
+  left = source.after;
+  read_faults = source.faults_after;
+  taken = sink.after;
+  write_faults = sink.faults_after;
+}

@@ -2,21 +2,28 @@
 //! out.
 //!
 //! What is used above it: `desk_top` answers the status of the run that its words name, which is
-//! `run_clean`, `run_terms` or `run_gen`. The status says what the source, the sink and the outlet
-//! tell afterwards.
+//! `run_clean`, `run_terms`, `run_gen`, `run_batch` or `run_trial`. The status says what the source,
+//! the sink and the outlet tell afterwards.
 #![tactic(auto)]
 
+mod batch;
 mod build;
+mod callers;
 mod deliver;
 mod generate;
+mod makers;
 mod modes;
 mod outside;
 mod path;
 mod run;
+mod told;
 mod top;
+mod trial;
 
+pub use batch::run_batch;
 pub use command_line::out_folder;
 pub use generate::run_gen;
 pub use modes::{run_clean, run_terms};
 pub use run_spec::Status;
 pub use top::desk_top;
+pub use trial::run_trial;

@@ -17,7 +17,7 @@ use script_text::{SCRIPT_LIMIT, ScriptFault, read_script};
 use std::alloc::{AllocError, Global};
 
 // One byte more than the longest script has.
-const READ_LIMIT: usize = SCRIPT_LIMIT + 1;
+pub(crate) const READ_LIMIT: usize = SCRIPT_LIMIT + 1;
 
 /// Reads a script, answers its requests in order, puts the pages of each build into the outlet and
 /// writes the transcript.
@@ -98,7 +98,7 @@ fn answered<O: Outlet>(
 }
 
 // The one line of output if a script is rejected.
-fn rejection(alloc: Global, fault: ScriptFault) -> Result<List<u8>, AllocError>
+pub(crate) fn rejection(alloc: Global, fault: ScriptFault) -> Result<List<u8>, AllocError>
     ensures { IfOk result (λ text. text ≡ clean_run_spec.rejection_line fault) }
 {
     let code = fault.code.text();

@@ -6,7 +6,7 @@
 use command_line::command;
 use desk_top::{Status, desk_top, out_folder};
 use dita_doc::NoMemory;
-use dita_outside::{FolderOutlet, StdSink, StdSource};
+use dita_outside::{FolderOutlet, NoGate, StdSink, StdSource};
 use std::io::ErrorKind;
 use std::process::ExitCode;
 use std::{env, io};
@@ -28,47 +28,76 @@ enum Ended<'a> {
 }
 
 fn main(rt: HostRuntime) -> ExitCode {
-    match run(&rt) {
-        Ok(code) => code,
-        Err(NoMemory) => end(&rt, Status::NoMemory),
+    let (words, mut outlet) = match prepared(&rt) {
+        Ok(prepared) => prepared,
+        Err(status) => return end(&rt, status),
+    };
+    let alloc = rt.alloc();
+    let words = words.as_slice();
+    let mut source = StdSource::new(rt.stdin());
+    let mut sink = StdSink::new(rt.stdout());
+    let status = desk_top(
+        &rt,
+        alloc,
+        words,
+        &mut source,
+        &mut sink,
+        &mut outlet,
+        &NoGate,
+    );
+    match status {
+        Status::Words => refuse(&rt, words),
+        Status::ReadFault => end_by(&rt, status, "standard input", source.last_error()),
+        Status::Script => end_by_script(&rt, source.first_byte()),
+        Status::WriteFault => end_by(&rt, status, "standard output", sink.last_error()),
+        Status::OutletFault => match outlet.last_error() {
+            Some(page) => end_by(&rt, status, page.path.as_str(), Some(page.error)),
+            None => end(&rt, status),
+        },
+        _ => end(&rt, status),
     }
 }
 
-fn run(rt: &HostRuntime) -> Result<ExitCode, NoMemory> {
-    let alloc = rt.alloc();
-    let mut words = Vec::new(alloc);
+// The words of the command, and the outlet of pages: the folder that they name.
+fn prepared(rt: &HostRuntime) -> Result<(Vec<String>, FolderOutlet<HostRuntime>), Status> {
+    let words = words_of(rt)?;
+    let Ok(folder) = out_folder(rt.alloc(), words.as_slice()) else {
+        return Err(Status::NoMemory);
+    };
+    match rt.clone() {
+        Ok(rt) => Ok((words, FolderOutlet::new(rt, folder))),
+        Err(_) => Err(Status::NoMemory),
+    }
+}
+
+fn words_of(rt: &HostRuntime) -> Result<Vec<String>, Status> {
+    let mut words = Vec::new(rt.alloc());
     let given = match env::args(rt) {
         Ok(given) => given,
         Err(error) if error.kind() == ErrorKind::InvalidData => {
             // If standard error can't be written, the exit status alone tells.
             let _ = rt.eprintln("error: a word of the command is not UTF-8");
-            return Ok(end(rt, Status::Words));
+            return Err(Status::Words);
         }
-        Err(_) => return Err(NoMemory),
+        Err(_) => return Err(Status::NoMemory),
     };
     for word in given {
-        words.push(word)?;
+        if words.push(word).is_err() {
+            return Err(Status::NoMemory);
+        }
     }
-    let folder = out_folder(alloc, words.as_slice())?;
-    let mut source = StdSource::new(rt.stdin());
-    let mut sink = StdSink::new(rt.stdout());
-    let mut outlet = FolderOutlet::new(rt.clone()?, folder);
-    let status = desk_top(alloc, words.as_slice(), &mut source, &mut sink, &mut outlet);
-    match status {
-        Status::Words => refuse(rt, words.as_slice()),
-        Status::ReadFault => Ok(end_by(rt, status, "standard input", source.last_error())),
-        Status::Script => Ok(end_by_script(rt, source.first_byte())),
-        Status::WriteFault => Ok(end_by(rt, status, "standard output", sink.last_error())),
-        Status::OutletFault => match outlet.last_error() {
-            Some(page) => Ok(end_by(rt, status, page.path.as_str(), Some(page.error))),
-            None => Ok(end(rt, status)),
-        },
-        _ => Ok(end(rt, status)),
-    }
+    Ok(words)
 }
 
 // Words that the command does not read: they ask for its help or its version, or are wrong.
-fn refuse(rt: &HostRuntime, words: &[String]) -> Result<ExitCode, NoMemory> {
+fn refuse(rt: &HostRuntime, words: &[String]) -> ExitCode {
+    match explained(rt, words) {
+        Ok(code) => code,
+        Err(NoMemory) => end(rt, Status::NoMemory),
+    }
+}
+
+fn explained(rt: &HostRuntime, words: &[String]) -> Result<ExitCode, NoMemory> {
     if let Err(error) = command(rt.alloc())?.try_get_matches_from(words) {
         let printed = error.print(rt);
         if !error.use_stderr() {

@@ -2,9 +2,11 @@
 
 use desk_top::{Status, desk_top, run_clean};
 use dita_doc::List;
-use dita_outside::{MemOutlet, MemSink, MemSource, SureOutlet, SureSink, SureSource};
+use dita_outside::{MemOutlet, MemSink, MemSource, NoGate, SureOutlet, SureSink, SureSource};
 use std::alloc::{AllocError, Global};
+use std::sync::Wait;
 use std::test::Fail;
+use std::thread::Threads;
 
 // A map with one topic, and its build.
 const SCRIPT: &[u8] =
@@ -89,7 +91,12 @@ fn a_failed_outlet_has_the_pages_before(rt: HostRuntime) -> Result<(), Fail> {
 }
 
 // The status of the program over words that are separated by spaces, and what it wrote.
-fn run_words(alloc: Global, line: &str, script: &[u8]) -> Result<(Status, List<u8>), Fail> {
+fn run_words<R: Threads + Wait + Sync>(
+    rt: &R,
+    alloc: Global,
+    line: &str,
+    script: &[u8],
+) -> Result<(Status, List<u8>), Fail> {
     let mut words = Vec::new(alloc);
     for word in line.split(' ') {
         words.push(String::from_str(alloc, word)?)?;
@@ -97,7 +104,15 @@ fn run_words(alloc: Global, line: &str, script: &[u8]) -> Result<(Status, List<u
     let mut sink = SureSink::new(alloc);
     let mut outlet = SureOutlet::new(alloc);
     let mut source = source(alloc, script)?;
-    let status = desk_top(alloc, &words, &mut source, &mut sink, &mut outlet);
+    let status = desk_top(
+        rt,
+        alloc,
+        &words,
+        &mut source,
+        &mut sink,
+        &mut outlet,
+        &NoGate,
+    );
     Ok((status, List::from_slice(alloc, sink.bytes().as_slice())?))
 }
 
@@ -105,7 +120,7 @@ fn run_words(alloc: Global, line: &str, script: &[u8]) -> Result<(Status, List<u
 fn words_that_are_not_read_touch_nothing(rt: HostRuntime) -> Result<(), Fail> {
     let alloc = rt.alloc();
     for line in ["dita_desk fly", "dita_desk clean --topics 1"] {
-        let (status, written) = run_words(alloc, line, SCRIPT)?;
+        let (status, written) = run_words(&rt, alloc, line, SCRIPT)?;
         assert_eq!(rt; status, Status::Words, "{line}");
         assert!(rt; written.is_empty(), "{line}");
     }
@@ -116,7 +131,7 @@ fn words_that_are_not_read_touch_nothing(rt: HostRuntime) -> Result<(), Fail> {
 fn options_of_other_modes_are_read(rt: HostRuntime) -> Result<(), Fail> {
     let alloc = rt.alloc();
     for line in ["dita_desk clean --topics 2", "dita_desk terms --topics 2"] {
-        let (status, written) = run_words(alloc, line, b"")?;
+        let (status, written) = run_words(&rt, alloc, line, b"")?;
         assert_eq!(rt; status, Status::Done, "{line}");
         assert!(rt;
             written.as_slice() == b"dita transcript 1\nend 0 0 0\n".as_slice(),

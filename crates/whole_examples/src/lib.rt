@@ -6,9 +6,13 @@
 #[cfg(test)]
 mod asked;
 #[cfg(test)]
+mod batches;
+#[cfg(test)]
 mod documents;
 #[cfg(test)]
 mod faults;
+#[cfg(test)]
+mod gates;
 #[cfg(test)]
 mod generated;
 #[cfg(test)]

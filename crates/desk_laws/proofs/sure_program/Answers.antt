@@ -3,4 +3,4 @@ use Rattle.desk_laws.proofs.sure_program.Goals as goal
 
 pub returns : goal.returns
 returns g c = λ mode source source' sink sink' outlet outlet' status none.
-    sure_program _ _ _ _ _ none mode status
+    sure_program _ _ _ _ _ _ none mode status
