@@ -1,1 +1,3 @@
 pub mod Toy
+pub mod LineLanguage
+pub mod LineLaws

@@ -1,5 +1,5 @@
 //! The definitions of the lock and of builds by workers, computed on small histories (in
-//! `proofs/`); and tests of the lock, by one thread and by many. Nothing stands on this crate.
+//! `proofs/`); and tests of both, by one thread and by many. Nothing stands on this crate.
 #![tactic(auto)]
 
 #[cfg(test)]
@@ -16,3 +16,9 @@ mod rush;
 mod tally;
 #[cfg(test)]
 mod toy;
+
+// Builds by workers, in a language of their own.
+#[cfg(test)]
+mod builds;
+#[cfg(test)]
+mod line_language;
