@@ -1,1 +1,4 @@
+pub mod KeyReachLaws
+pub mod PushReachLaws
+pub mod ReachLaws
 pub mod UnreadLaws

@@ -1,5 +1,5 @@
 -- Questions about other documents have the same answers where one document alone differs.
-use Rattle.std.proofs.Common.{◌≡◌, ◌≢◌, ◌++◌, ◌||◌, ℕ, false, not, List, [], ◌∷◌, Option, Some, None, IsTrue, bytes_eq, ap, sym, subst, ◌∙◌, append_assoc}
+use Rattle.std.proofs.Common.{◌≡◌, ◌≢◌, ◌++◌, ℕ, false, List, [], ◌∷◌, Option, Some, None, bytes_eq, ap, sym, subst, ◌∙◌, append_assoc}
 use Rattle.std.specs.Arc.{arc_value}
 use Rattle.std.specs.Option.{option_map_or}
 use Rattle.std.specs.Prelude.{option_map}
@@ -23,7 +23,6 @@ use Rattle.map_spec.specs.Titles.{first_of_document, kind_of_document, title_of_
 use Rattle.map_spec.specs.Written.{written_in}
 use Rattle.reader_spec.specs.World.{World, world_of}
 use Rattle.readers.proofs.AmongLaws.{among_front}
-use Rattle.readers.specs.Founded.{is_among}
 use Rattle.readers.specs.Setting.{Setting}
 
 module _ (name : List ℕ) (world other : World)

@@ -1,5 +1,4 @@
-//! Laws of facts, whatever they are of. Each function does nothing: its contract is the law. Nothing
-//! stands on this crate.
+//! Laws of facts. Each function does nothing: its contract is the law. Nothing stands on this crate.
 #![tactic(auto)]
 
 ghost use Rattle.std.specs.Arc.{arc_value};
@@ -7,6 +6,8 @@ ghost use Rattle.dita_doc.specs.Bytes.{Bytes};
 ghost use Rattle.dita_doc.specs.Desk as desk_spec;
 ghost use Rattle.fact_judge.specs.Agreed as agreed_spec;
 ghost use Rattle.fact_judge.specs.Founded as founded_spec;
+ghost use Rattle.fact_judge.specs.Sound.{IsSound};
+ghost use Rattle.fact_laws.specs.Reached as reached_spec;
 ghost use Rattle.fact_laws.specs.Unread as unread_spec;
 ghost use Rattle.facts.specs.declared.fact.Fact.{Fact};
 
@@ -25,4 +26,16 @@ pub fn unread_documents()
         → unread_spec.IsUnknown (unread_spec.known_to_fact fact) name
         → unread_spec.DifferAt name old new → unread_spec.KeysAndPushesStay fact new
         → agreed_spec.own_agrees fact old → agreed_spec.own_agrees fact new }
+{}
+
+/// A build finds again what another made: a sound fact agrees with some sources exactly if it agrees
+/// with others that have the same documents under all names that a build of its map and DITAVAL
+/// reaches in the first.
+pub fn reached_documents()
+    ensures forth { (fact : Fact) (first second : desk_spec.State) → IsSound fact
+        → reached_spec.AreSameReached fact first second → reached_spec.AgreesWith fact first
+        → reached_spec.AgreesWith fact second }
+    ensures back { (fact : Fact) (first second : desk_spec.State) → IsSound fact
+        → reached_spec.AreSameReached fact first second → reached_spec.AgreesWith fact second
+        → reached_spec.AgreesWith fact first }
 {}
