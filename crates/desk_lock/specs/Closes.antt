@@ -1,5 +1,5 @@
--- What closing a desk gives (own): the book of its one history. No row of it was made where an older row would have
--- done.
+-- What closing a desk gives (own): the book of its one history, with the limits of the desk. No row of it was made where
+-- an older row would have done.
 use Rattle.std.specs.Prelude.{◌≡◌, ◌<◌, List}
 use Rattle.dita_doc.specs.History.{Entry, IsLegal, sources}
 use Rattle.facts.specs.Rows.{RowData, Stands}
@@ -8,6 +8,7 @@ use Rattle.desk_lock.specs.Knows.{all_parts}
 use Rattle.desk_lock.specs.Learns.{KnowsAll}
 use Rattle.desk_lock.specs.Lists.{StartsWith}
 use Rattle.desk_lock.specs.Meaning.{Meaning}
+use Rattle.desk_lock.specs.Past.{limits_of}
 use Rattle.desk_lock.specs.declared.view.View.{View}
 
 -- of two rows of one part, of which the first was published before the second was claimed, the first does not agree
@@ -20,4 +21,5 @@ pub record Closes (means : Meaning) (v : View) (book : BookData) : Type 0 where
   pub begins : StartsWith book.store.history v.seen
   pub legal : IsLegal book.store.history
   pub never_twice : IsNeverTwice means book.store.history book.table.rows
+  pub limits : limits_of book ≡ v.limits
   pub all : v.parts ≡ all_parts → KnowsAll v book

@@ -233,6 +233,7 @@ closes means = record {
   begins = ([], refl);
   legal = legal;
   never_twice = λ row later stands stands_later same below. absurd (none-some row stands.1);
+  limits = refl;
   all = λ all. knows_all;
 }
 
