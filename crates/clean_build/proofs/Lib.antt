@@ -8,6 +8,7 @@ pub mod LinkLaws
 pub mod MarkLaws
 pub mod NameLaws
 pub mod OnceLaws
+mod OverLaws
 pub mod PageLaws
 pub mod PartLaws
 pub mod PlanLaws
@@ -16,7 +17,6 @@ pub mod ReadLaws
 pub mod ReadyLaws
 pub mod RootLaws
 pub mod RowLaws
-pub mod StandLaws
-pub mod TableLaws
+mod TableLaws
 pub mod TermLaws
 pub mod TopicLaws

@@ -29,7 +29,7 @@ use Rattle.part_spec.specs.Parts.{content_of_root, here_of, hrefs_once, no_html,
 use Rattle.reader_spec.specs.World.{World}
 use Rattle.clean_build.specs.Bodies.{AreKnown, IsBodyMade, body_of, content_of, rules_for, terms_wanted}
 use Rattle.clean_build.specs.Made.{IsMadeAt, IsPageMade, IsRootAt, nothing, number_wanted, page_at, page_behind, page_content_of, page_of_root}
-use Rattle.clean_build.specs.Tables.{made_for}
+use Rattle.clean_build.specs.Told.{made_for}
 use Rattle.clean_build.specs.declared.body.BodyMade.{BodyMade}
 use Rattle.clean_build.specs.declared.works.PageMade.{PageMade}
 use Rattle.clean_build.specs.declared.works.PageWork.{PageWork}

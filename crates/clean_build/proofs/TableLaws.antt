@@ -1,44 +1,19 @@
--- The tables of a build as they are made, and how they go on to be known.
-use Rattle.std.specs.Prelude.{◌≡◌, ◌++◌, ℕ, List, []}
-use Rattle.std.proofs.Common.{sym, subst}
-use Rattle.build_plan.proofs.CarryLaws.{ready_later}
-use Rattle.conref_push.specs.Table.{IsPushTable}
+-- The tables of a plan that were made by a reader over the same world.
+use Rattle.std.specs.Prelude.{◌≡◌, ℕ, List, Option}
+use Rattle.std.proofs.Common.{subst}
 use Rattle.dita_doc.specs.declared.plan.PagePlan.{PagePlan}
-use Rattle.dita_doc.specs.declared.plan.Plan.{Plan}
-use Rattle.key_layer.specs.Ready.{AreReady}
-use Rattle.key_scopes.specs.Made.{IsTableOf}
-use Rattle.page_table.specs.Pages.{IsPageTable}
-use Rattle.readers.specs.Founded.{AreAllowed, Grows, IsFounded}
-use Rattle.readers.specs.Noted.{told_onto}
-use Rattle.readers.specs.Setting.{Setting}
-use Rattle.readers.specs.Told.{Told, Knows}
-use Rattle.readers.specs.declared.questions.Note.{Note}
-use Rattle.readers.proofs.GrowthLaws.{agrees_before}
-use Rattle.clean_build.specs.Tables.{AreTables}
-use Rattle.clean_build.specs.declared.build_tables.BuildTables.{BuildTables}
+use Rattle.dita_doc.specs.declared.plan.PlanNode.{PlanNode}
+use Rattle.key_scopes.specs.Table.{Table}
+use Rattle.map_spec.specs.Written.{Whole}
+use Rattle.plan_reader.specs.Keyed.{AreKeyed}
+use Rattle.plan_reader.specs.Tables.{AreTables}
+use Rattle.plan_reader.specs.declared.tables.PlanTables.{PlanTables}
+use Rattle.reader_spec.specs.World.{World}
 
--- what a record of it takes, by the lists that were read
-pub tables_made : (old told : List Told) (plan : Plan) (asked : List (List ℕ)) (listed : List PagePlan)
-    (tables : BuildTables) → asked ≡ plan.documents → listed ≡ plan.pages → Grows old told
-    → AreReady old plan.nodes tables.homes → Knows old (λ world. ∥ IsTableOf world plan.nodes tables.scopes ∥₁)
-    → Knows told (λ world. IsPushTable world asked tables.pushes)
-    → ((roots : List (List ℕ)) → IsFounded roots told → AreAllowed roots told asked)
-    → IsPageTable listed tables.pages → AreTables told plan tables
-tables_made old told plan asked listed tables same listing grows ready scoped pushed allowed paged = record {
-  ready = ready_later old told plan.nodes tables.homes grows ready;
-  scoped = λ world agrees. scoped world (agrees_before world old told grows agrees);
-  pushed = λ world agrees. subst (λ names. IsPushTable world names tables.pushes) same (pushed world agrees);
-  paged = subst (λ all. IsPageTable all tables.pages) listing paged;
-  given = record { by = λ roots founded. subst (AreAllowed roots told) same (allowed roots founded) };
-}
-
--- nothing was told since
-pub tables_behind : (later told : List Told) (plan : Plan) (tables : BuildTables) → later ≡ []
-    → AreTables told plan tables → AreTables (later ++ told) plan tables
-tables_behind later told plan tables none are = subst (λ ts. AreTables (ts ++ told) plan tables) (sym none) are
-
--- nothing was noted since
-pub tables_noted : (setting : Setting) (told : List Told) (notes : List Note) (plan : Plan) (tables : BuildTables)
-    → notes ≡ [] → AreTables told plan tables → AreTables (told_onto setting told notes) plan tables
-tables_noted setting told notes plan tables none are =
-    subst (λ all. AreTables (told_onto setting told all) plan tables) (sym none) are
+pub tables_here : (own world : World) (nodes : List PlanNode) (documents : List (List ℕ)) (pages : List PagePlan)
+    (homes : List (Option Whole)) (scopes : Table) (tables : PlanTables) → own ≡ world
+    → AreKeyed world nodes homes scopes
+    → (AreKeyed own nodes homes scopes → AreTables own nodes documents pages tables)
+    → AreTables world nodes documents pages tables
+tables_here own world nodes documents pages homes scopes tables same keyed made =
+    subst (λ (w : World). AreKeyed w nodes homes scopes → AreTables w nodes documents pages tables) same made keyed

@@ -20,7 +20,7 @@ use Rattle.map_spec.specs.Pushes.{pushed}
 use Rattle.map_spec.specs.Written.{Written}
 use Rattle.part_spec.specs.Parts.{here_of, marks_in}
 use Rattle.reader_spec.specs.World.{World}
-use Rattle.clean_build.specs.Tables.{made_for}
+use Rattle.clean_build.specs.Told.{made_for}
 use Rattle.clean_build.specs.declared.body.BodyMade.{BodyMade}
 
 -- the tables of content are right in the world, for the documents of the plan with their pushes

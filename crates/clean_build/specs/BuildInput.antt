@@ -6,7 +6,7 @@ use Rattle.dita_doc.specs.declared.plan.PagePlan.{PagePlan}
 use Rattle.map_spec.specs.PlanOf.{limits, plan_of}
 use Rattle.reader_spec.specs.World.{World}
 use Rattle.readers.specs.Setting.{Setting}
-use Rattle.clean_build.specs.Tables.{made_for}
+use Rattle.clean_build.specs.Told.{made_for}
 use Rattle.clean_build.specs.declared.build_input.BuildInput.{BuildInput}
 
 abbrev pub context_for : BuildInput → PagePlan → Context

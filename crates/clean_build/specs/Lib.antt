@@ -5,5 +5,5 @@ pub mod BuildInput
 pub mod Made
 pub mod Names
 pub mod Reads
-pub mod Tables
+pub mod Told
 pub mod Terms

@@ -5,7 +5,7 @@ ghost use Rattle.std.specs.Prelude.{◌≡◌, ◌++◌, ◌∷◌, ℕ, [], IfO
 ghost use Rattle.clean_build.specs.Bodies as bodies_spec;
 ghost use Rattle.clean_build.specs.Bodies.{AreKnown, IsBodyMade};
 ghost use Rattle.clean_build.specs.Reads.{MayReadFor, ReadsOnly};
-ghost use Rattle.clean_build.specs.Tables.{made_for};
+ghost use Rattle.clean_build.specs.Told.{made_for};
 ghost use Rattle.conref_targets.specs.Asking as asking_spec;
 ghost use Rattle.conref_targets.specs.Rules.{all_kept, ditavals};
 ghost use Rattle.dita_doc.specs.declared.plan.PagePlan.{PagePlan};

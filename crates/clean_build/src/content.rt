@@ -4,7 +4,7 @@ ghost use Rattle.std.specs.Arc.{arc_value};
 ghost use Rattle.std.specs.Prelude.{◌≡◌, ◌++◌, ◌∷◌, List, ℕ, IfOk, OnOk};
 ghost use Rattle.clean_build.specs.Bodies as bodies_spec;
 ghost use Rattle.clean_build.specs.Bodies.{AreKnown};
-ghost use Rattle.clean_build.specs.Tables.{made_for};
+ghost use Rattle.clean_build.specs.Told.{made_for};
 ghost use Rattle.conref_targets.specs.Asking as asking_spec;
 ghost use Rattle.conref_pull.specs.Resolved.{IsResolved};
 ghost use Rattle.conref_targets.specs.PageAsking.{AsksPage, page_at};

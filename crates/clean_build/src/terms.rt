@@ -3,44 +3,45 @@
 ghost use Rattle.std.specs.Prelude.{◌≡◌, ◌++◌, [], IfOk, OnOk};
 ghost use Rattle.std.specs.Option.{option_copied};
 ghost use Rattle.clean_build.specs.Gathering as gathering_spec;
-ghost use Rattle.clean_build.specs.Tables.{AreTables, GoesOn};
 ghost use Rattle.clean_build.specs.Terms as terms_spec;
-ghost use Rattle.reader_spec.specs.World.{World};
+ghost use Rattle.plan_reader.specs.Tables.{AreTables, GoesOn};
+ghost use Rattle.reader_spec.specs.World.{World, world_of};
 ghost use Rattle.readers.specs.Documents as documents_spec;
 ghost use Rattle.readers.specs.Documents.{AsksOnly};
 ghost use Rattle.readers.specs.Founded.{Grows, StaysFounded};
 ghost use Rattle.readers.specs.Told.{Agrees};
 
 use crate::build_input::BuildInput;
-use crate::build_tables::BuildTables;
 use crate::gathered::Gathered;
-use crate::over_plan::PlanTask;
-use crate::over_sources::{BuildCache, over_sources};
-use dita_doc::{Html, List, NoMemory, PagePlan, TermEntry, Text};
+use crate::plan_task::PlanTask;
+use crate::work_done::made_over;
+use dita_doc::{Html, List, NoMemory, PagePlan, Sources, TermEntry, Text};
 use index_page::terms_html;
-use readers::{Asker, LogStart, Titles};
+use plan_reader::{PlanCache, PlanTables};
+use readers::{Asker, Titles};
 use std::alloc::Global;
 
 /// The page of terms of a build whose pages were all gathered, with these terms, if it is wanted.
 /// Pages that are too large together have none.
-pub(crate) fn terms_page<S: LogStart>(
+pub(crate) fn terms_page(
     alloc: Global,
-    lasting: BuildCache<'_>,
+    sources: &Sources,
+    cache: PlanCache,
     ground: BuildInput<'_>,
-    tables: &BuildTables,
+    tables: &PlanTables,
     gathered: &Gathered,
     terms: &List<TermEntry>,
     with_terms: bool,
 ) -> Result<Option<Html>, NoMemory>
-    requires agreed { Agrees S.stand.world S.told }
-    requires tables { AreTables S.told ground.plan.now tables.now }
-    requires goes_on { GoesOn S.stand.world ground.plan.now.documents lasting }
-    requires gathered { gathering_spec.HasPartsOf S.stand.world ground.plan.now
+    requires goes_on { GoesOn (world_of sources.now) ground.plan.now.documents cache }
+    requires tables { AreTables (world_of sources.now) ground.plan.now.nodes
+        ground.plan.now.documents ground.plan.now.pages tables.now }
+    requires gathered { gathering_spec.HasPartsOf (world_of sources.now) ground.plan.now
         (option_copied ground.val) gathered.now }
-    requires terms { terms.now ≡ terms_spec.terms_of_all with_terms S.stand.world
+    requires terms { terms.now ≡ terms_spec.terms_of_all with_terms (world_of sources.now)
         ground.plan.now (option_copied ground.val) }
-    ensures { IfOk result (λ page. page ≡ terms_spec.page_of_plan with_terms S.stand.world
-        ground.entry.plan.now (option_copied ground.entry.val)) }
+    ensures { IfOk result (λ page. page ≡ terms_spec.page_of_plan with_terms
+        (world_of sources.now) ground.entry.plan.now (option_copied ground.entry.val)) }
 {
     if !with_terms {
         return Ok(None);
@@ -49,13 +50,7 @@ pub(crate) fn terms_page<S: LogStart>(
         return Ok(None);
     }
     let work = TermsWork { ground, terms };
-    let (page, _) = over_sources::<S, TermsWork<'_, '_>>(
-        alloc,
-        lasting,
-        ground.plan,
-        tables,
-        work,
-    )?;
+    let (page, _) = made_over(alloc, sources, cache, ground.plan, tables, work)?;
     Ok(page)
 }
 

@@ -23,7 +23,7 @@ ghost use Rattle.readers.specs.Told.{Agrees};
 use crate::body::{BodyMade, no_html, page_body};
 use crate::build_input::BuildInput;
 use crate::hrefs::hrefs_once;
-use crate::over_plan::PlanTask;
+use crate::plan_task::PlanTask;
 use crate::root::root_line;
 use conref_pull::Tables;
 use dita_doc::{Fault, Html, List, Name, NoMemory, PageLink, PagePlan, TermEntry, Text};

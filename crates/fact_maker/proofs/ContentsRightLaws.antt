@@ -7,7 +7,7 @@ use Rattle.std.proofs.Math.Logic.{∥∥₁_elim}
 use Rattle.std.proofs.lemmas.Bool.{false≢true}
 use Rattle.build_plan.specs.Documents.{build_names}
 use Rattle.clean_build.specs.BuildInput.{IsReady}
-use Rattle.clean_build.specs.Tables.{made_for}
+use Rattle.clean_build.specs.Told.{made_for, told_by_plan}
 use Rattle.clean_build.specs.declared.build_input.BuildInput.{BuildInput}
 use Rattle.dita_doc.specs.Desk.{State}
 use Rattle.dita_doc.specs.declared.content.KeyAnswer.{KeyAnswer}
@@ -38,7 +38,6 @@ use Rattle.fact_maker.proofs.RightLaws.{each_asked, own_agrees, own_founded, wor
 use Rattle.fact_maker.specs.Own.{own_asked}
 use Rattle.fact_maker.specs.Planned.{IsPlanned}
 use Rattle.fact_maker.specs.Right.{HtmlAsks, IsRight, with_plan}
-use Rattle.fact_maker.specs.Told.{told_by_plan}
 
 -- What no test of a page lets through
 

@@ -10,7 +10,6 @@ pub mod MadeLaws
 mod MakeLaws
 pub mod MovedLaws
 pub mod NameLaws
-mod OverLaws
 mod OwnAskLaws
 mod OwnLaws
 mod OwnOrderLaws

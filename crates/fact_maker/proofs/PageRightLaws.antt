@@ -8,7 +8,7 @@ use Rattle.std.proofs.lemmas.List.Elements.{All-from_recursion}
 use Rattle.build_plan.specs.Documents.{build_names}
 use Rattle.clean_build.specs.BuildInput.{IsReady, context_for}
 use Rattle.clean_build.specs.Reads.{MayReadFor, ReadsOnly}
-use Rattle.clean_build.specs.Tables.{made_for}
+use Rattle.clean_build.specs.Told.{made_for, told_by_plan}
 use Rattle.clean_build.specs.declared.build_input.BuildInput.{BuildInput}
 use Rattle.conref_targets.specs.ResolveInput as resolve
 use Rattle.conref_targets.specs.Rules.{ditavals}
@@ -39,7 +39,6 @@ use Rattle.fact_maker.proofs.RightLaws.{each_asked, own_agrees, own_founded, wit
 use Rattle.fact_maker.specs.Own.{own_asked}
 use Rattle.fact_maker.specs.Planned.{IsPlanned}
 use Rattle.fact_maker.specs.Right.{IsRight, with_plan}
-use Rattle.fact_maker.specs.Told.{told_by_plan}
 
 module _ {sources : State} (ground : BuildInput) {plan_asked : List Asked} {index : ℕ} {page : PagePlan}
     (planned : IsPlanned sources ground.map.now (option_copied ground.val) (with_plan plan_asked ground.plan.now))

@@ -9,7 +9,7 @@ use Rattle.build_plan.specs.Documents.{build_names}
 use Rattle.clean_build.specs.BuildInput.{IsReady, context_for}
 use Rattle.clean_build.specs.Names.{names_of_build, names_of_page, names_of_plan}
 use Rattle.clean_build.specs.Reads.{MayReadFor, ReadsOnly}
-use Rattle.clean_build.specs.Tables.{made_for}
+use Rattle.clean_build.specs.Told.{made_for, told_by_plan}
 use Rattle.clean_build.specs.declared.build_input.BuildInput.{BuildInput}
 use Rattle.conref_targets.specs.Rules.{ditavals}
 use Rattle.dita_doc.specs.Desk.{State}
@@ -45,7 +45,6 @@ use Rattle.fact_maker.proofs.PropLaws.{right_prop}
 use Rattle.fact_maker.specs.Made.{IsRightOf}
 use Rattle.fact_maker.specs.Own.{own_asked}
 use Rattle.fact_maker.specs.Ready.{IsGround}
-use Rattle.fact_maker.specs.Told.{told_by_plan}
 
 -- the table has the scopes of the plan
 pub scopes_counted : (world : World) (nodes : List PlanNode) (documents : List (List ℕ)) (pages : List PagePlan)

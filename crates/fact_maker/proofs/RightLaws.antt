@@ -3,7 +3,7 @@ use Rattle.std.specs.Prelude.{◌≡◌, ◌++◌, ℕ, List, [], IsTrue, Option
 use Rattle.std.specs.List.{AllByRecursion}
 use Rattle.build_plan.specs.Documents.{build_names}
 use Rattle.clean_build.proofs.PlanLaws.{IsPlanIn, plan_facts}
-use Rattle.clean_build.specs.Tables.{made_for}
+use Rattle.clean_build.specs.Told.{made_for, told_by_plan}
 use Rattle.conref_spec.specs.Content.{ResolveInput}
 use Rattle.conref_spec.specs.PageDocuments.{IsPageDocument, own, by_conref, by_key, pushing}
 use Rattle.dita_doc.specs.Desk.{State}
@@ -32,7 +32,6 @@ use Rattle.fact_maker.proofs.OwnOrderLaws.{own_order}
 use Rattle.fact_maker.specs.Own.{own_asked}
 use Rattle.fact_maker.specs.Planned.{IsPlanned}
 use Rattle.fact_maker.specs.Right.{with_plan}
-use Rattle.fact_maker.specs.Told.{told_by_plan}
 
 module _ {sources : State} {map : List ℕ} {val : Option (List ℕ)} {plan : Plan} {plan_asked : List Asked}
     (planned : IsPlanned sources map val (with_plan plan_asked plan)) where

@@ -5,4 +5,3 @@ pub mod Parts
 pub mod Planned
 pub mod Ready
 pub mod Right
-pub mod Told

@@ -11,9 +11,8 @@ ghost use Rattle.plan_reader.specs.Tables.{AreTables, GoesOn};
 ghost use Rattle.reader_spec.specs.World.{world_of};
 ghost use Rattle.readers.specs.Noted as noted_spec;
 
-use crate::over_tables::{WorkDone, over_tables};
 use crate::own_asked::own_asked;
-use clean_build::{BuildInput, ContentsWork, PageMade, PageWork};
+use clean_build::{BuildInput, ContentsWork, PageMade, PageWork, WorkDone, over_tables};
 use conref_pull::Tables;
 use dita_doc::{Asked, Html, List, NoMemory, PagePlan, Plan, Sources};
 use node_links::NodeLinks;

@@ -7,7 +7,6 @@
 
 mod html_made;
 mod maker;
-mod over_tables;
 mod own_asked;
 mod plain_call;
 mod plan_facts;

@@ -1,3 +1,4 @@
 pub mod AskLaws
 pub mod Calling
 pub mod SingleLaws
+pub mod TableLaws

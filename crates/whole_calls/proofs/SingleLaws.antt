@@ -7,7 +7,7 @@ use Rattle.std.proofs.lemmas.Option.{slice_get_past}
 use Rattle.std.proofs.lemmas.Result.{IfOk-weaker}
 use Rattle.clean_build.specs.BuildInput.{IsReady}
 use Rattle.clean_build.specs.Made.{page_behind, page_content_of}
-use Rattle.clean_build.specs.Tables.{made_for}
+use Rattle.clean_build.specs.Told.{made_for}
 use Rattle.clean_build.specs.declared.build_input.BuildInput.{BuildInput}
 use Rattle.conref_pull.specs.Resolved.{IsResolved}
 use Rattle.conref_spec.specs.Content.{nothing_made}

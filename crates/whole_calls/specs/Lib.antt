@@ -1,2 +1,3 @@
 pub mod PageLinks
 pub mod Single
+pub mod Tables

@@ -14,7 +14,7 @@ use Rattle.readers.specs.Told.{Told}
 use Rattle.build_plan.specs.Documents.{build_names}
 use Rattle.clean_build.specs.BuildInput.{IsReady}
 use Rattle.clean_build.specs.Names.{names_of_build, names_of_content, names_of_plan}
-use Rattle.clean_build.specs.Tables.{AreTables}
+use Rattle.whole_calls.specs.Tables.{AreTables}
 use Rattle.clean_build.specs.declared.build_input.BuildInput.{BuildInput}
 use Rattle.whole_calls.specs.declared.found.Found.{Found}
 use Rattle.whole_calls.specs.declared.resolved.ContentCall.{ContentCall}

@@ -10,8 +10,8 @@ ghost use Rattle.reader_spec.specs.World.{World};
 ghost use Rattle.readers.specs.Founded.{Grows, StaysFounded};
 ghost use Rattle.readers.specs.Told.{Agrees};
 
+use crate::build_tables::BuildTables;
 use build_plan::{Planned, planned};
-use clean_build::BuildTables;
 use dita_doc::{Name, NoMemory, Plan, Stop};
 use readers::Titles;
 use std::alloc::Global;

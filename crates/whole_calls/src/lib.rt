@@ -6,12 +6,15 @@
 //! `by_families` give what the definitions say, in each world that agrees with what was told.
 #![tactic(auto, using(crate::proofs::Calling::calling))]
 
+mod build_tables;
 mod found;
+mod over_plan;
 mod over_reader;
 mod page_links;
 mod resolved;
 mod single_parts;
 mod whole_plan;
+mod with_keys;
 
 pub use page_links::{LinksMade, by_families, by_rows};
 pub use resolved::resolved_page;

@@ -21,7 +21,8 @@ ghost use Rattle.whole_calls.specs.Single as single_spec;
 
 use crate::found::{Found, find_plan};
 use crate::over_reader::{TitleWork, over_reader};
-use clean_build::{BuildInput, PlanTask, over_titles, resolved_for, root_line};
+use crate::with_keys::over_titles;
+use clean_build::{BuildInput, PlanTask, resolved_for, root_line};
 use conref_pull::Tables;
 use dita_doc::{Doc, List, Name, NoMemory, PagePlan, Plan, Resolved};
 use pushed_docs::PushedDocs;

@@ -17,7 +17,8 @@ ghost use Rattle.readers.specs.Told.{Agrees};
 
 use crate::found::{Found, find_plan};
 use crate::over_reader::{TitleWork, over_reader};
-use clean_build::{BuildInput, PageMade, PageWork, PlanTask, no_html, over_titles};
+use crate::with_keys::over_titles;
+use clean_build::{BuildInput, PageMade, PageWork, PlanTask, no_html};
 use conref_pull::Tables;
 use dita_doc::{Html, Name, NoMemory, Plan};
 use node_links::NodeLinks;

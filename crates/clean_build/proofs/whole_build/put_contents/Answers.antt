@@ -4,12 +4,13 @@ use Rattle.std.proofs.Common.{refl, sym, ap}
 use Rattle.dita_doc.specs.declared.fact.Html.{Html}
 use Rattle.dita_doc.specs.declared.plan.PagePlan.{PagePlan}
 use Rattle.part_spec.specs.Parts.{contents_part, page_parts, rooms}
+use Rattle.reader_spec.specs.World.{world_of}
 use Rattle.clean_build.proofs.PartLaws.{contents_put}
 use Rattle.clean_build.proofs.whole_build.put_contents.Goals as goal
 
 pub returns-clause-put : goal.returns-clause-put
-returns-clause-put g c =
-    let world = g.S.LogStart.stand.world in
+returns-clause-put c =
+    let world = world_of c.args.sources.now in
     let plan = c.args.ground.plan.now in
     let val = option_copied c.args.ground.val in
     let has = c.requires.put in

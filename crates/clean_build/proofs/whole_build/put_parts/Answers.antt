@@ -6,6 +6,7 @@ use Rattle.dita_doc.specs.declared.fault.Fault.{Fault}
 use Rattle.dita_doc.specs.declared.plan.PagePlan.{PagePlan}
 use Rattle.map_spec.specs.Pushes.{pushed}
 use Rattle.part_spec.specs.Parts.{page_part, page_parts, rooms}
+use Rattle.reader_spec.specs.World.{world_of}
 use Rattle.clean_build.specs.Bodies.{terms_wanted}
 use Rattle.clean_build.specs.Made.{number_wanted, page_behind, page_content_of}
 use Rattle.clean_build.proofs.PartLaws.{all_put, next_put, none_put, page_at, without_rows}
@@ -14,8 +15,8 @@ use Rattle.clean_build.proofs.TermLaws.{all_terms, next_terms}
 use Rattle.clean_build.proofs.whole_build.put_parts.Goals as goal
 
 pub loop-index-init : goal.loop-index-init
-loop-index-init g c =
-    let world = g.S.LogStart.stand.world in
+loop-index-init c =
+    let world = world_of c.args.sources.now in
     let plan = c.args.ground.plan.now in record {
       goes_on = c.requires.goes_on;
       content = record {
@@ -27,8 +28,8 @@ loop-index-init g c =
     }
 
 pub loop-index-preserved : goal.loop-index-preserved
-loop-index-preserved g c =
-    let world = g.S.LogStart.stand.world in
+loop-index-preserved c =
+    let world = world_of c.args.sources.now in
     let ground = c.args.ground in
     let plan = ground.plan.now in
     let val = option_copied ground.val in
@@ -60,15 +61,15 @@ loop-index-preserved g c =
     }
 
 pub put_contents-requires-clause-put : goal.put_contents-requires-clause-put
-put_contents-requires-clause-put g c =
+put_contents-requires-clause-put c =
     let enough = subst (λ (pages : List PagePlan). length pages ≤ c.loop-index.index) c.as_slice-page-items.ensures
     c.loop-index-test.false in
-    all_put g.S.LogStart.stand.world c.args.ground.plan.now (option_copied c.args.ground.val) c.loop-index.index
+    all_put (world_of c.args.sources.now) c.args.ground.plan.now (option_copied c.args.ground.val) c.loop-index.index
     c.loop-index.gathered enough c.loop-index.invariant.put
 
 pub returns-clause-terms : goal.returns-clause-terms
-returns-clause-terms g c =
+returns-clause-terms c =
     let enough = subst (λ (pages : List PagePlan). length pages ≤ c.loop-index.index) c.as_slice-page-items.ensures
     c.loop-index-test.false in
-    all_terms c.args.with_terms g.S.LogStart.stand.world c.args.ground.plan.now (option_copied c.args.ground.val)
+    all_terms c.args.with_terms (world_of c.args.sources.now) c.args.ground.plan.now (option_copied c.args.ground.val)
     c.loop-index.index c.loop-index.terms enough c.loop-index.invariant.terms
