@@ -125,7 +125,7 @@ outcome_shown rows root val (TooLarge total) of have lines = refl
 abbrev serial_of : PageRow → ℕ
 serial_of page = page.row.serial
 
-pages_serials : (pages : List PageRow)
+pub pages_serials : (pages : List PageRow)
     → filter_map (λ (page : PageShown). serial_in page.mark) (map page_shown (map page_marked pages))
     ≡ map serial_of pages
 pages_serials [] = refl

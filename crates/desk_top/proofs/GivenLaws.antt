@@ -40,7 +40,7 @@ use Rattle.desk_top.proofs.PlaceLaws.{all_at}
 
 -- Longer histories
 
-sources_later : (log first : List Entry) (place : ℕ) → StartsWith log first → place ≤ length first
+pub sources_later : (log first : List Entry) (place : ℕ) → StartsWith log first → place ≤ length first
     → sources log place ≡ sources first place
 sources_later log first place starts within = ap (λ list. replay [] 0 (take place list)) starts.1
     ∙ ap (replay [] 0) (take-append-le place first starts.0 within)

@@ -121,7 +121,7 @@ abbrev pub pile_of : Caller → Pile
 pile_of caller = caller.asked
 
 -- what a caller that found memory has asked
-asks_at : (before after : List Caller) (k : ℕ) (caller : Caller) → HaveAskedAll before after → length after ≡ length before
+pub asks_at : (before after : List Caller) (k : ℕ) (caller : Caller) → HaveAskedAll before after → length after ≡ length before
     → All IsWell after → slice_get after k ≡ Some caller → (k < length before)
     × AsksAll (view_of (get_or before k caller)) (all_asked (get_or before k caller).asked.items) (view_of caller)
 asks_at before after k caller asked as_many well e =

@@ -10,13 +10,12 @@ use Rattle.dita_doc.specs.Desk.{State, next}
 use Rattle.dita_doc.specs.History.{Entry, IsLegal, replay}
 use Rattle.dita_doc.specs.Request.{Build, Get, Group, Names, Request, Single}
 use Rattle.run_spec.specs.Cites.{ShowsBuilt}
-use Rattle.run_spec.specs.Faithful.{HavePlaces, IsInOrder, IsOfSession, ShowsBuild, ShowsReply, TakesEachOnce}
+use Rattle.run_spec.specs.Faithful.{CitesEachRow, HasEntries, HavePlaces, IsInOrder, IsOfSession, ShowsBuild, ShowsBuilds, ShowsReplies, ShowsReply, TakesEachOnce}
 use Rattle.run_spec.specs.HistoryTold.{Moment, moment_with, moments_from, next_with, step_of}
 use Rattle.run_spec.specs.Language.{dita}
 use Rattle.script_text.specs.Script.{Step}
-use Rattle.transcript_text.specs.Transcript.{BuildShown, EntryShown, RowShown, Shown, entry_with, reply_shown}
+use Rattle.transcript_text.specs.Transcript.{BuildShown, EntryShown, RowShown, Shown, Transcript, entry_with, reply_shown}
 use Rattle.version_store.proofs.HistoryLaws.{legal_at}
-use Rattle.desk_top.specs.Beside.{TellsScript}
 use Rattle.desk_top.specs.OneHistory.{IsBehind, IsOneHistory, step_in}
 use Rattle.desk_top.specs.Told.{AreTold, IsTold, TellsHistory}
 use Rattle.desk_top.proofs.PlaceLaws.{all_at, all_by, pair_at}
@@ -30,7 +29,7 @@ shown_as place entry None told is = absurd (none-some told is)
 shown_as place entry (Some shown) told is = (shown, refl, same_Some (entry_with place entry shown) told is)
 
 -- the place, the session and the number are those of the entry, and it shows the entry's reply
-record Shows (place : ℕ) (entry : Entry) (told : EntryShown) : Type 0 where
+pub record Shows (place : ℕ) (entry : Entry) (told : EntryShown) : Type 0 where
   pub at : told.place ≡ place
   pub session : told.session ≡ entry.session
   pub number : told.number ≡ entry.number
@@ -51,17 +50,17 @@ shows log place entry told is stands =
     })
 
 -- an entry that is told stands in the history, with a request of the script
-record Stands (steps : List Step) (log : List Entry) (place : ℕ) (told : EntryShown) : Type 0 where
+pub record Stands (steps : List Step) (log : List Entry) (place : ℕ) (told : EntryShown) : Type 0 where
   pub entry : Entry
   pub stands : slice_get log place ≡ Some entry
   pub shows : Shows place entry told
   pub named : step_of steps told.number ≡ Some (step_in entry)
 
-abbrev AllStand : List Step → List Entry → List EntryShown → Type 0
+abbrev pub AllStand : List Step → List Entry → List EntryShown → Type 0
 AllStand steps log told = (place : ℕ) (shown : EntryShown) → slice_get told place ≡ Some shown
     → Stands steps log place shown
 
-all_stand : (steps : List Step) (log : List Entry) (told : List EntryShown) → IsOneHistory steps log
+pub all_stand : (steps : List Step) (log : List Entry) (told : List EntryShown) → IsOneHistory steps log
     → AreTold log told → AllStand steps log told
 all_stand steps log told one are place shown at =
     let is = are place shown at in
@@ -184,6 +183,15 @@ build_at rows moment (Group edits) is = tt
 
 -- The whole
 
+-- what a faithful transcript says of its script, but for what it says of the rows that were made
+pub record TellsScript (steps : List Step) (text : Bytes) : Type 0 where
+  pub transcript : Transcript
+  pub entries : HasEntries steps transcript text
+  pub requests : TakesEachOnce steps transcript.entries
+  pub replies : ShowsReplies steps transcript.entries
+  pub builds : ShowsBuilds dita steps transcript
+  pub rows : CitesEachRow transcript
+
 pub told_script : (steps : List Step) (log : List Entry) (text : Bytes) → IsOneHistory steps log
     → TellsHistory log text → TellsScript steps text
 told_script steps log text one tells =
@@ -209,5 +217,10 @@ told_script steps log text one tells =
           (λ n entry shown stands at. build_at tells.transcript.rows (moment_at [] 0 log n entry shown) entry.request
           (λ root val is. tells.builds n entry shown root val stands at is));
       rows = tells.rows;
-      counted = tells.entries ∙ one.count;
     }
+
+-- its transcript is that of the history
+pub told_same : (steps : List Step) (log : List Entry) (text : Bytes) (one : IsOneHistory steps log)
+    (tells : TellsHistory log text) → (told_script steps log text one tells).transcript ≡ tells.transcript
+unfolding told_script
+told_same steps log text one tells = refl

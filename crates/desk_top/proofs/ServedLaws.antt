@@ -14,6 +14,7 @@ use Rattle.dita_doc.specs.Request.{Build, Get, Group, IsUtf8Request, Names, Requ
 use Rattle.dita_doc.specs.declared.request.Request as given
 use Rattle.dita_outside.specs.Pages.{Pages}
 use Rattle.facts.specs.Rows.{RowData, Stands}
+use Rattle.map_makers.specs.PlanTells.{meaning}
 use Rattle.run_spec.specs.Language.{dita}
 use Rattle.desk_core.specs.Book.{BookData, SnapshotData}
 use Rattle.desk_core.specs.Steps.{IsNoBuild}
@@ -34,12 +35,14 @@ use Rattle.desk_work.proofs.Lists.{at_left, stands_left, stands_right, starts_th
 use Rattle.desk_top.specs.Asked.{AsksOne, HasNone}
 use Rattle.desk_top.specs.Given.{IsGiven, rows_cited, rows_of}
 use Rattle.desk_top.specs.Served.{HasBuilt, HasGiven, HasItsPages, HasServed, IsAnswered, IsOfBuild, IsReady, IsServed, MayBeAsked, is_build, places_of, together}
+use Rattle.desk_top.specs.SessionMade.{HasMade}
 use Rattle.desk_top.specs.declared.callers.BuiltAt.{BuiltAt}
 use Rattle.desk_top.specs.declared.callers.Caller.{Caller}
 use Rattle.desk_top.proofs.AskedLaws.{at_start}
 use Rattle.desk_top.proofs.GivenLaws.{all_given_later, build_cites, build_given, cited_both, cited_push, one_row, rows_later}
 use Rattle.desk_top.proofs.HistoryLaws.{heavy_place}
 use Rattle.desk_top.proofs.OnceLaws.{built_none}
+use Rattle.desk_top.proofs.SessionMadeLaws.{made_none}
 
 -- Longer histories, and more builds
 
@@ -66,17 +69,23 @@ builds_later log first built starts all =
 abbrev AtPlace : List Entry → List ℕ → ℕ × ℕ → Type 0
 AtPlace log built place = IsAnswered log built place.0
 
+-- a party that gave parts away is at a desk of the same limits
+pub same_limits : (v w new : View) (session parts : ℕ) → Splits v session parts w new → w.limits ≡ v.limits
+same_limits v w new session parts splits = ap (λ (u : View). u.limits) splits.gave
+
 -- a party that has asked nothing
 pub none_parted : (v w new : View) (session parts : ℕ) → Splits v session parts w new → HasNone v → HasNone w
 none_parted v w new session parts splits none = record {
   mine = ap (λ (u : View). u.mine) splits.gave ∙ none.mine;
   theirs = ap (λ (u : View). u.theirs) splits.gave ∙ none.theirs;
+  published = ap (λ (u : View). u.published) splits.gave ∙ none.published;
 }
 
 pub none_new : (v w new : View) (session parts : ℕ) → Splits v session parts w new → HasNone new
 none_new v w new session parts splits = record {
   mine = ap (λ (u : View). u.mine) splits.got;
   theirs = ap (λ (u : View). u.theirs) splits.got;
+  published = ap (λ (u : View). u.published) splits.got;
 }
 
 pub given_none : (w : View) → HasNone w → HasGiven w []
@@ -334,6 +343,8 @@ caller_ready desk v w number caller pass splits none asked well = record {
     given = subst (HasGiven (pass_view caller.session.pass)) (sym none) (given_none (pass_view caller.session.pass) new);
     built = subst (λ built. HasBuilt (pass_view caller.session.pass) (places_of built)) (sym none)
         (built_none (pass_view caller.session.pass));
+    made = subst (HasMade meaning dita (pass_view caller.session.pass)) (sym none)
+        (made_none meaning dita (pass_view caller.session.pass) new.published);
   };
   none = new;
   asked = asked;

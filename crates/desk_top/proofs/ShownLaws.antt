@@ -179,7 +179,7 @@ data_in pages row is =
     subst (λ (one : Row). Contains (map (λ (page : PageRow). row_data page.row) pages) (row_data one)) found.is
     (mapped (λ (page : PageRow). row_data page.row) pages found.one found.among)
 
-data_of : (outcome : Outcome) (row : Row) → Contains (rows_in outcome) row → Contains (rows_of outcome) (row_data row)
+pub data_of : (outcome : Outcome) (row : Row) → Contains (rows_in outcome) row → Contains (rows_of outcome) (row_data row)
 data_of (Done pages faults) row is = data_in pages row is
 data_of (Stopped stop) row is = absurd (none_of row is)
 data_of (TooLarge total) row is = absurd (none_of row is)

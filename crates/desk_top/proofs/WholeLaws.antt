@@ -81,7 +81,7 @@ module _ (log : List Entry) (built : List BuiltAt) (shown : List (Option BuiltTe
 
     module _ (told : List EntryShown) (tells : AreToldOf log shown told) where
       -- what is shown of a build is what it gave
-      shows_outcome : (one : BuiltAt) (entry : EntryShown) → Contains built one → slice_get told one.place ≡ Some entry
+      pub shows_outcome : (one : BuiltAt) (entry : EntryShown) → Contains built one → slice_get told one.place ≡ Some entry
           → entry.shown ≡ shown_of one.outcome
       shows_outcome one entry among there =
           let here = tells one.place entry there in
@@ -164,25 +164,29 @@ module _ (log : List Entry) (built : List BuiltAt) (shown : List (Option BuiltTe
         told.count (get_or lines.shown k row) (Contains-get_or lines.shown k row within);
   }
 
-  -- the head, all entries, rows and the end
+  -- the head, all entries, rows and the end tell the history, by this transcript
   pub whole_history : Fits64 totals.entries → Fits64 totals.made → Fits64 totals.dropped → first ≡ head_text
-      → totals.entries ≡ length log → text ≡ rows ++ (end_head totals ++ 10 ∷ []) → TellsHistory log text
-  whole_history counted made dropped head count end = record {
-    transcript = transcript;
-    form = record {
-      entries = entries_shown;
-      rows = lines.form;
-      rising = serials.rising;
-      counted = counted;
-      made = made;
-      dropped = dropped;
-    };
-    are = λ place entry there. (told.are place entry there).is;
-    count = told.count;
-    builds = show_builds log built shown served are lines.shown are_lines told.told told.are;
-    rows = cites_rows;
-    entries = count;
-    is = end ∙ ap (λ front. front ++ (end_head totals ++ 10 ∷ []))
-        (lines.text ∙ ap (λ front. front ++ flat_map row_text lines.shown)
-        (told.text ∙ ap (λ front. front ++ flat_map entry_text told.told) head));
-  }
+      → totals.entries ≡ length log → text ≡ rows ++ (end_head totals ++ 10 ∷ [])
+      → (tells : TellsHistory log text) × (tells.transcript ≡ transcript)
+  whole_history counted made dropped head count end = (
+    record {
+      transcript = transcript;
+      form = record {
+        entries = entries_shown;
+        rows = lines.form;
+        rising = serials.rising;
+        counted = counted;
+        made = made;
+        dropped = dropped;
+      };
+      are = λ place entry there. (told.are place entry there).is;
+      count = told.count;
+      builds = show_builds log built shown served are lines.shown are_lines told.told told.are;
+      rows = cites_rows;
+      entries = count;
+      is = end ∙ ap (λ front. front ++ (end_head totals ++ 10 ∷ []))
+          (lines.text ∙ ap (λ front. front ++ flat_map row_text lines.shown)
+          (told.text ∙ ap (λ front. front ++ flat_map entry_text told.told) head));
+    },
+    refl,
+  )

@@ -68,10 +68,11 @@ pub record AsksAll (v : View) (asked : List Asked) (w : View) : Type 0 where
 
 -- All sessions
 
--- nothing stands in the history of its own, or of another that it took in
+-- nothing stands in the history of its own, or of another that it took in, and neither published a row
 pub record HasNone (v : View) : Type 0 where
   pub mine : v.mine ≡ []
   pub theirs : v.theirs ≡ []
+  pub published : v.published ≡ []
 
 -- the entries of a party, and of those that it took in
 abbrev pub brought : View → List (ℕ × ℕ)

@@ -10,11 +10,11 @@ use Rattle.dita_outside.specs.Pages.{Pages, TakesPages, TakesPagesFront}
 use Rattle.run_spec.specs.declared.status.Status.{Status}
 use Rattle.run_spec.specs.declared.status.Status.TheVariants as statuses
 use Rattle.run_spec.specs.CleanRun.{HasForm, read_limit, run_over}
+use Rattle.run_spec.specs.EndsBatch.{EndsBatch}
 use Rattle.run_spec.specs.EndsTrial.{EndsGen, EndsTrial}
 use Rattle.run_spec.specs.Reads.{Reads}
 use Rattle.run_spec.specs.Written.{AppendsFront}
 use Rattle.script_text.specs.Script.{script_of}
-use Rattle.desk_top.specs.Beside.{EndsBeside}
 use Rattle.desk_top.specs.Outside.{Change, streams_after, streams_before, sunk_after, sunk_before}
 
 -- nothing reached the sink and the outlet
@@ -100,7 +100,7 @@ EndsMode modes.Terms source_left outlet_left source sink outlet status = EndsTer
 EndsMode (modes.Gen asked) source_left outlet_left source sink outlet status =
     EndsProject asked.number asked.topics sink status × source_left × outlet_left
 EndsMode (modes.Batch workers) source_left outlet_left source sink outlet status =
-    EndsBeside (streams_before source sink) (streams_after source sink) status × outlet_left
+    EndsBatch (streams_before source sink) (streams_after source sink) status × outlet_left
 EndsMode (modes.Trial asked workers) source_left outlet_left source sink outlet status =
     EndsTrial asked.number asked.topics (sunk_before sink) (sunk_after sink) status × source_left × outlet_left
 

@@ -1,12 +1,16 @@
+pub mod Again
 pub mod Asked
-pub mod Beside
+pub mod BatchMade
 pub mod Builds
 pub mod Cited
 pub mod Counts
 pub mod Ends
 pub mod Given
+pub mod Made
 pub mod OneHistory
 pub mod Outside
 pub mod Runs
 pub mod Served
+pub mod SessionMade
+pub mod TextMade
 pub mod Told

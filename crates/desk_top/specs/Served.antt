@@ -20,8 +20,11 @@ use Rattle.desk_lock.specs.declared.view.View.{View}
 use Rattle.desk_work.specs.declared.built.Outcome.{Outcome}
 use Rattle.desk_work.specs.declared.built.Outcome.TheVariants.{Done, Stopped, TooLarge}
 use Rattle.desk_work.specs.declared.built.PageRow.{PageRow}
+use Rattle.map_makers.specs.PlanTells.{meaning}
+use Rattle.run_spec.specs.Language.{dita}
 use Rattle.desk_top.specs.Asked.{Asked, AsksAll, AsksOne, HasNone, IsBefore, all_asked, asked_by}
 use Rattle.desk_top.specs.Given.{HaveOneRow, IsGiven, rows_cited}
+use Rattle.desk_top.specs.SessionMade.{HasMade}
 use Rattle.desk_top.specs.declared.callers.BuiltAt.{BuiltAt}
 use Rattle.desk_top.specs.declared.callers.Caller.{Caller}
 use Rattle.desk_top.specs.declared.callers.Session.{Session}
@@ -130,10 +133,11 @@ pub record IsAtDesk (desk : Desk BookData) (session : Session) : Type 0 where
 abbrev pub known_by : Session → View
 known_by session = pass_view session.pass
 
--- so far as it knows, all that was asked was answered, and its builds are those that it asked itself
+-- so far as it knows, all that was asked was answered; its builds are those that it asked itself, and made what it published
 pub record HasAnswered (session : Session) : Type 0 where
   pub given : HasGiven (known_by session) session.built.items
   pub built : HasBuilt (known_by session) (places_of session.built.items)
+  pub made : HasMade meaning dita (known_by session) session.built.items
 
 -- this request was answered too
 pub record Answers (before : Session) (one : Asked) (after : Session) : Type 0 where

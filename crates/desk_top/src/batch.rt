@@ -1,9 +1,11 @@
 //! The mode `batch`: a script, its sessions beside each other, from bytes to the transcript.
 
 ghost use Rattle.std.specs.Prelude.{◌≤◌, IfOk};
+ghost use Rattle.run_spec.specs.EndsBatch as batch_spec;
+ghost use Rattle.run_spec.specs.Faithful as faithful_spec;
+ghost use Rattle.run_spec.specs.Language.{dita};
 ghost use Rattle.script_text.specs.Read as read_spec;
 ghost use Rattle.script_text.specs.Script as script_spec;
-ghost use Rattle.desk_top.specs.Beside as beside_spec;
 ghost use Rattle.desk_top.specs.Outside as outside_spec;
 
 use crate::callers::answer_beside;
@@ -32,7 +34,7 @@ pub fn run_batch<R: Threads + Wait + Sync, S: Source, K: Sink, G: Gate + Sync>(
     requires many { workers ≤ 16 }
     ensures { let read = outside_spec.change S.left S.faults source.old source.new in
         let written = outside_spec.change K.taken K.faults sink.old sink.new in
-        beside_spec.EndsBeside (outside_spec.streams_before read written)
+        batch_spec.EndsBatch (outside_spec.streams_before read written)
         (outside_spec.streams_after read written) result }
 {
     let input = match read_all(alloc, source, READ_LIMIT) {
@@ -57,7 +59,7 @@ fn batch<R: Threads + Wait + Sync, G: Gate + Sync>(
     requires few { 1 ≤ workers }
     requires many { workers ≤ 16 }
     ensures { IfOk result (λ answer.
-        beside_spec.IsOutputOf (script_spec.script_of input.now) answer.0 answer.1) }
+        batch_spec.IsBatchOf (script_spec.script_of input.now) answer.0 answer.1) }
 {
     match read_script(alloc, input) {
         Ok(script) => Ok((Status::Done, transcript(rt, alloc, script, workers, gate)?)),
@@ -76,7 +78,8 @@ fn transcript<R: Threads + Wait + Sync, G: Gate + Sync>(
 ) -> Result<List<u8>, NoMemory>
     requires few { 1 ≤ workers }
     requires many { workers ≤ 16 }
-    ensures { IfOk result (beside_spec.TellsScript (read_spec.steps_seen script.steps)) }
+    ensures { IfOk result
+        (faithful_spec.IsFaithful dita (read_spec.steps_seen script.steps)) }
 {
     let answered = answer_beside(rt, alloc, script.steps, workers, gate)?;
     transcript_of(alloc, answered)

@@ -10,9 +10,14 @@ ghost use Rattle.desk_lock.specs.Tokens as tokens_spec;
 ghost use Rattle.script_text.specs.Facts as script_facts;
 ghost use Rattle.script_text.specs.Read as read_spec;
 ghost use Rattle.script_text.specs.Script as script_spec;
+ghost use Rattle.map_makers.specs.PlanTells.{meaning};
+ghost use Rattle.run_spec.specs.Faithful.{table_limit};
+ghost use Rattle.run_spec.specs.Language.{dita};
 ghost use Rattle.desk_top.specs.Asked as asked_spec;
+ghost use Rattle.desk_top.specs.BatchMade as batch_spec;
 ghost use Rattle.desk_top.specs.OneHistory as history_spec;
 ghost use Rattle.desk_top.specs.Served as spec;
+ghost use Rattle.desk_top.specs.SessionMade as made_spec;
 
 use crate::makers::{MapDesk, MapMakers, MapPass};
 use desk_core::{Book, Limits};
@@ -76,6 +81,9 @@ pub fn answer_beside<R: Threads + Wait + Sync, G: Gate + Sync>(
         (λ answered. spec.IsServed answered.book.store.history answered.built.items) }
     ensures one { IfOk result (λ answered.
         history_spec.IsOneHistory (read_spec.steps_seen steps) answered.book.store.history) }
+    ensures made { IfOk result
+        (λ answered. batch_spec.BatchMade meaning dita answered.book answered.built.items) }
+    ensures limit { IfOk result (λ answered. answered.book.table.limit ≡ table_limit) }
 {
     let piles = by_session(alloc, steps)?;
     let (desk, mut pass) = MapDesk::start(alloc, Limits::standard())?;
@@ -172,6 +180,8 @@ fn callers_of(
     ensures parts { IfOk result (λ callers. (tokens_spec.pass_view pass.new).parts
         + vec_len callers * knows_spec.session_parts ≡ knows_spec.all_parts) }
     ensures none { asked_spec.HasNone (tokens_spec.pass_view pass.new) }
+    ensures limits { (tokens_spec.pass_view pass.new).limits
+        ≡ (tokens_spec.pass_view pass.old).limits }
     ensures count { IfOk result (λ callers. vec_len callers ≡ 16) }
     ensures ready { IfOk result (λ callers. All (spec.IsReady desk.now) callers.items) }
     ensures order { IfOk result (λ callers. spec.AreInOrder callers.items) }
@@ -394,6 +404,8 @@ fn end_all(
     ensures left { left.new.items ≡ map spec.built_by callers.items }
     ensures well { result ≡ false → All spec.IsWell callers.items }
     ensures takes { asked_spec.TakesIn (tokens_spec.pass_view pass.old)
+        (map spec.view_of callers.items) (tokens_spec.pass_view pass.new) }
+    ensures rows { made_spec.TakesRows (tokens_spec.pass_view pass.old)
         (map spec.view_of callers.items) (tokens_spec.pass_view pass.new) }
 {
     let mut failed = false;

@@ -8,6 +8,7 @@ ghost use Rattle.transcript_text.specs.declared.built.BuiltText.TheVariants as t
 ghost use Rattle.desk_top.specs.Cited as cited_spec;
 ghost use Rattle.desk_top.specs.Runs.{IsUtf8Entry};
 ghost use Rattle.desk_top.specs.Served as served_spec;
+ghost use Rattle.desk_top.specs.TextMade as made_spec;
 ghost use Rattle.desk_top.specs.Told as spec;
 
 use crate::callers::{Answered, BuiltAt};
@@ -30,7 +31,7 @@ struct Cited {
 /// The transcript of what was answered.
 pub fn transcript_of(alloc: Global, answered: Answered) -> Result<List<u8>, NoMemory>
     requires { served_spec.IsServed answered.book.store.history answered.built.items }
-    ensures { IfOk result (spec.TellsHistory answered.book.store.history) }
+    ensures { IfOk result (made_spec.TellsBatch answered.book answered.built.items) }
 {
     let Answered { book, built } = answered;
     let store = book.store();

@@ -1,4 +1,4 @@
-//! Laws of facts. Each function does nothing: its contract is the law. Nothing stands on this crate.
+//! Laws of facts. Each function does nothing: its contract is the law.
 #![tactic(auto)]
 
 ghost use Rattle.std.specs.Arc.{arc_value};

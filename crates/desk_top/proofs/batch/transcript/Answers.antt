@@ -1,6 +1,10 @@
 use Rattle.std.proofs.lemmas.Result.{IfOk-weaker}
+use Rattle.fact_judge.specs.Sound.{IsSound}
+use Rattle.fact_laws.proofs.ReachLaws.{back, forth}
 use Rattle.script_text.specs.Read.{steps_seen}
-use Rattle.desk_top.proofs.ScriptToldLaws.{told_script}
+use Rattle.desk_top.specs.TextMade.{TellsBatch}
+use Rattle.desk_top.proofs.FaithfulLaws.{told_faithful}
+use Rattle.desk_top.proofs.VersionLaws.{keeps_right}
 use Rattle.desk_top.proofs.batch.transcript.Goals as goal
 
 pub answer_beside-requires-clause-asked : goal.answer_beside-requires-clause-asked
@@ -11,6 +15,12 @@ answer_beside-requires-clause-asked g c = λ κs lives k d within. record {
 }
 
 pub returns : goal.returns
-returns g c = IfOk-weaker c.transcript_of.result _ _
-    (λ text tells. told_script (steps_seen c.args.script.steps) c.in_ok-answered.answered.book.store.history text
-    c.in_ok-answered.ensures.one tells) c.transcript_of.ensures
+returns g c =
+    let book = c.in_ok-answered.answered.book in
+    let built = c.in_ok-answered.answered.built.items in
+    let answered = c.in_ok-answered.ensures in
+    IfOk-weaker c.transcript_of.result (TellsBatch book built) _
+    (λ text told. told_faithful (steps_seen c.args.script.steps) book built text answered.served answered.one
+    answered.made told.tells told.made
+    (keeps_right IsSound (record { forth = forth; back = back }) book.store.history) answered.limit)
+    c.transcript_of.ensures

@@ -2,6 +2,8 @@ use Rattle.std.proofs.Common.{◌∙◌, sym, subst}
 use Rattle.std.specs.List.{All}
 use Rattle.std.specs.Option.{option_copied}
 use Rattle.std.proofs.lemmas.List.Elements.{All-push}
+use Rattle.map_makers.specs.PlanTells.{meaning}
+use Rattle.run_spec.specs.Language.{dita}
 use Rattle.desk_work.specs.Build.{order_of}
 use Rattle.desk_work.specs.declared.built.Built.{Built}
 use Rattle.desk_top.specs.Served.{HasItsPages, HasPages}
@@ -10,6 +12,7 @@ use Rattle.desk_top.proofs.OnceLaws.{built_more}
 use Rattle.desk_top.proofs.PageFactLaws.{right_have_pages}
 use Rattle.desk_top.proofs.PageLaws.{pages_of_build}
 use Rattle.desk_top.proofs.ServedLaws.{asks_build, given_built}
+use Rattle.desk_top.proofs.SessionMadeLaws.{made_built}
 use Rattle.desk_top.proofs.callers.ask_build.Goals as goal
 
 pub returns-clause-at : goal.returns-clause-at
@@ -30,6 +33,8 @@ returns-clause-ok g c =
       answered = record {
         given = given_built _ _ _ order _ _ _ _ c.push.new.self.items c.in-Ok.ensures.ends c.requires.utf8 pushed c.requires.answered.given;
         built = built_more _ _ _ order _ _ _ _ c.push.new.self.items c.in-Ok.ensures.ends pushed c.requires.answered.built;
+        made = made_built meaning dita _ order _ _ _ _ c.in-Ok.ensures.ends c.args.session.now.built.items
+            c.requires.answered.made c.push.new.self.items pushed;
       };
       asked = asks_build _ _ _ order _ _ _ c.in-Ok.ensures.ends;
     }

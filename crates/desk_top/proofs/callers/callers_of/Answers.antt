@@ -5,7 +5,7 @@ use Rattle.std.proofs.lemmas.List.Elements.{All-push, All-tail}
 use Rattle.desk_lock.specs.declared.view.View.{View}
 use Rattle.desk_top.specs.Served.{AreInOrder, IsReady}
 use Rattle.desk_top.proofs.PileLaws.{order_push, pile_of}
-use Rattle.desk_top.proofs.ServedLaws.{AllMayBeAsked, caller_ready, none_parted}
+use Rattle.desk_top.proofs.ServedLaws.{AllMayBeAsked, caller_ready, none_parted, same_limits}
 use Rattle.desk_top.proofs.callers.callers_of.Goals as goal
 
 pub loop-asked-preserved : goal.loop-asked-preserved
@@ -20,6 +20,7 @@ loop-asked-preserved c =
       of = c.session.ensures.pass;
       parts = search rules;
       none = none_parted _ _ _ _ _ c.session.ensures.splits c.loop-asked.invariant.none;
+      limits = same_limits _ _ _ _ _ c.session.ensures.splits ∙ c.loop-asked.invariant.limits;
       ready = subst (All (IsReady c.args.desk.now)) (sym c.push_reserved.ensures.items)
           (All-push (IsReady c.args.desk.now) _ _ c.loop-asked.invariant.ready
           (caller_ready c.args.desk.now _ _ _ _ c.session.ensures.new c.session.ensures.splits c.new.ensures.items

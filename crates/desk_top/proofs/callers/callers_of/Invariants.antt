@@ -18,6 +18,7 @@ invariant-loop-asked l = record {
   of : IsPassOf l.desk l.pass;
   parts : (pass_view l.pass).parts + l.number * session_parts ≡ all_parts;
   none : HasNone (pass_view l.pass);
+  limits : (pass_view l.pass).limits ≡ (pass_view l.fn.pass).limits;
   ready : All (IsReady l.desk) l.callers.items;
   order : AreInOrder l.callers.items;
   asked : map (λ caller. caller.asked) l.callers.items ≡ l.yielded;

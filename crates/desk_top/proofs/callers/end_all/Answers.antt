@@ -6,6 +6,8 @@ use Rattle.desk_lock.specs.Tokens.{pass_view}
 use Rattle.desk_lock.specs.declared.view.View.{View}
 use Rattle.desk_top.specs.Asked.{TakesIn}
 use Rattle.desk_top.specs.Served.{HasEnded, HasGiven, HasItsPages, IsWell, built_by, together, view_of}
+use Rattle.desk_top.specs.SessionMade.{TakesRows}
+use Rattle.desk_top.proofs.GatherLaws.{rows_more, rows_none}
 use Rattle.desk_top.proofs.HistoryLaws.{takes_more, takes_none}
 use Rattle.desk_top.proofs.PileLaws.{vec_whole}
 use Rattle.desk_top.proofs.ServedLaws.{given_none, given_together, pages_together}
@@ -27,6 +29,7 @@ loop-caller-init c =
       left = none_left;
       well = λ well. All-nil IsWell;
       takes = takes_none (pass_view c.args.pass.now);
+      rows = rows_none (pass_view c.args.pass.now);
     }
 
 pub loop-caller-preserved : goal.loop-caller-preserved
@@ -72,6 +75,9 @@ loop-caller-preserved c =
       takes = subst (λ views. TakesIn (pass_view c.args.pass.now) views (pass_view c.end_session.new.pass))
           (sym (map-append view_of c.loop-caller.yielded (c.in-Some.caller ∷ [])))
           (takes_more _ _ _ _ _ c.loop-caller.invariant.takes c.end_session.ensures.joins);
+      rows = subst (λ views. TakesRows (pass_view c.args.pass.now) views (pass_view c.end_session.new.pass))
+          (sym (map-append view_of c.loop-caller.yielded (c.in-Some.caller ∷ [])))
+          (rows_more _ _ _ _ _ c.loop-caller.invariant.rows c.end_session.ensures.joins);
     }
 
 whole : (c : goal.After-drop-caller-iterator) → c.loop-caller.yielded ≡ c.args.callers.items
@@ -88,3 +94,7 @@ returns-clause-well c = λ well. subst (All IsWell) (whole c) (c.loop-caller.inv
 pub returns-clause-takes : goal.returns-clause-takes
 returns-clause-takes c = subst (λ list. TakesIn (pass_view c.args.pass.now) (map view_of list) (pass_view c.loop-caller.pass))
     (whole c) c.loop-caller.invariant.takes
+
+pub returns-clause-rows : goal.returns-clause-rows
+returns-clause-rows c = subst (λ list. TakesRows (pass_view c.args.pass.now) (map view_of list) (pass_view c.loop-caller.pass))
+    (whole c) c.loop-caller.invariant.rows

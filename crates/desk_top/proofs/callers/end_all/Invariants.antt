@@ -6,6 +6,7 @@ use Rattle.desk_lock.specs.Knows.{session_parts}
 use Rattle.desk_lock.specs.Tokens.{IsPassOf, pass_view}
 use Rattle.desk_top.specs.Asked.{TakesIn}
 use Rattle.desk_top.specs.Served.{HasEnded, HasGiven, HasItsPages, IsWell, built_by, together, view_of}
+use Rattle.desk_top.specs.SessionMade.{TakesRows}
 use Rattle.desk_top.proofs.callers.end_all.Given as goal
 
 abbrev pub invariant-loop-caller : goal.invariant-loop-caller
@@ -21,4 +22,5 @@ invariant-loop-caller l = record {
   left : l.left.items ≡ map built_by l.yielded;
   well : l.failed ≡ false → All IsWell l.yielded;
   takes : TakesIn (pass_view l.fn.pass) (map view_of l.yielded) (pass_view l.pass);
+  rows : TakesRows (pass_view l.fn.pass) (map view_of l.yielded) (pass_view l.pass);
 }
