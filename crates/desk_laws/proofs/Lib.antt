@@ -1,3 +1,4 @@
+pub mod BatchLaws
 pub mod HistoryLaws
-pub mod WholeLaws
 pub mod ProgramLaws
+pub mod WholeLaws

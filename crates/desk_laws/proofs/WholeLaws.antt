@@ -35,7 +35,7 @@ cut_steps limit bytes =
     ∙ ap (λ text. steps_from script_line (nat_lt limit (length bytes)) 0 0 None (lines_of text))
     (take-take (limit + 1) (limit + 1) bytes (omega arith))
 
-cut_script : (bytes : Bytes) → script_of (take (script_limit + 1) bytes) ≡ script_of bytes
+pub cut_script : (bytes : Bytes) → script_of (take (script_limit + 1) bytes) ≡ script_of bytes
 unfolding script_of
 cut_script bytes = cut_steps script_limit bytes
 
@@ -57,7 +57,7 @@ front_by limit held input left false whole within ended l =
     let count : length input ≡ limit = omega arith in
     rw whole (sym (take_at input left limit count))
 
-front_read : (held input : Bytes) (new : Option Bytes) → Reads read_limit (Some held) new input
+pub front_read : (held input : Bytes) (new : Option Bytes) → Reads read_limit (Some held) new input
     → input ≡ take read_limit held
 front_read held input None read = absurd read.gave
 front_read held input (Some left) read = front_by read_limit held input left _ read.gave read.within read.whole refl
@@ -89,11 +89,11 @@ done_steps with_terms (Ok steps) e = (steps, refl)
 done_steps with_terms (Err fault) e = absurd cc
 
 -- a script is read to the end of its source
-record IsReadWhole (held input : Bytes) (new : Option Bytes) : Type 0 where
+pub record IsReadWhole (held input : Bytes) (new : Option Bytes) : Type 0 where
   pub ended : new ≡ Some []
   pub all : input ≡ held
 
-read_whole : (limit : ℕ) (held input : Bytes) (new : Option Bytes) → Reads (limit + 1) (Some held) new input
+pub read_whole : (limit : ℕ) (held input : Bytes) (new : Option Bytes) → Reads (limit + 1) (Some held) new input
     → length held ≤ limit → IsReadWhole held input new
 read_whole limit held input None read short = absurd read.gave
 read_whole limit held input (Some left) read short =

@@ -1,3 +1,4 @@
 pub mod OneHistory
 pub mod SureRun
+pub mod WholeBatch
 pub mod WholeRun

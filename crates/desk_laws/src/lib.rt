@@ -5,19 +5,22 @@
 //! other.
 #![tactic(auto)]
 
-ghost use Rattle.std.specs.Prelude.{◌≡◌, ◌⊎◌, Bool, Option, Some, take};
+ghost use Rattle.std.specs.Prelude.{◌≡◌, ◌⊎◌, Bool, Ok, Option, Some, take};
 ghost use Rattle.command_line.specs.declared.modes.Mode.{Mode};
 ghost use Rattle.dita_doc.specs.Bytes.{Bytes};
 ghost use Rattle.desk_laws.specs.OneHistory as one_history_spec;
 ghost use Rattle.desk_laws.specs.SureRun as sure_run_spec;
+ghost use Rattle.desk_laws.specs.WholeBatch as whole_batch_spec;
 ghost use Rattle.desk_laws.specs.WholeRun as whole_run_spec;
 ghost use Rattle.desk_top.specs.Ends as ends_spec;
 ghost use Rattle.desk_top.specs.Outside as outside_spec;
 ghost use Rattle.desk_top.specs.Outside.{Change};
 ghost use Rattle.dita_outside.specs.Pages.{Pages};
 ghost use Rattle.run_spec.specs.CleanRun as clean_run_spec;
+ghost use Rattle.run_spec.specs.EndsBatch as batch_spec;
 ghost use Rattle.run_spec.specs.declared.status.Status.{Status};
 ghost use Rattle.run_spec.specs.declared.status.Status.TheVariants as statuses;
+ghost use Rattle.script_text.specs.Script as script_spec;
 
 use dita_outside::{Outlet, Sink, Source};
 
@@ -47,6 +50,25 @@ pub fn sure_program<S: Source, K: Sink, O: Outlet>()
         (of_source source source') (of_sink sink sink') (of_outlet outlet outlet'))
         ((source' ≡ source) × (sink' ≡ sink) × (outlet' ≡ outlet)) status →
         sure_run_spec.IsSureProgram mode status }
+{}
+
+/// A batch that is done read its source to the end, what the source held is a script, and the sink
+/// took a faithful transcript of this script and nothing else.
+pub fn done_batch()
+    ensures { (old new : batch_spec.Streams) (held : Bytes) → old.left ≡ Some held →
+        batch_spec.EndsBatch old new statuses.Done → whole_batch_spec.IsDoneBatch held old new }
+{}
+
+/// Over a source and a sink that do not fail a batch is done, rejects its script, or is out of
+/// memory. If its source holds a script and tells it, the batch is done or out of memory.
+pub fn sure_batch()
+    ensures status { (old new : batch_spec.Streams) (status : Status) →
+        whole_batch_spec.NeitherFailed old new → batch_spec.EndsBatch old new status →
+        sure_run_spec.IsSure status }
+    ensures done { (old new : batch_spec.Streams) (held : Bytes) (steps : one_history_spec.Steps)
+        (status : Status) → old.left ≡ Some held → script_spec.script_of held ≡ Ok steps →
+        whole_batch_spec.NeitherFailed old new → batch_spec.EndsBatch old new status →
+        (status ≡ statuses.NoMemory) ⊎ whole_batch_spec.IsDoneBatch held old new }
 {}
 
 /// A run that answered what it read ended as all bytes of its source say, if the source tells them.
