@@ -17,7 +17,7 @@ use Rattle.run_spec.specs.Language.{dita}
 use Rattle.run_spec.proofs.ToldLaws.{HasSession, behind}
 use Rattle.faithful_laws.specs.OneHistory.{IsEarlier, IsOfRequest, KeepsOrder, Steps}
 
-abbrev told_from : List Step → State → ℕ → List EntryShown → List Entry
+abbrev pub told_from : List Step → State → ℕ → List EntryShown → List Entry
 told_from steps state place entries = map entry_told (moments_from steps state place entries)
 
 -- Each entry is a request

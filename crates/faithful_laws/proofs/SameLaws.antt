@@ -69,7 +69,7 @@ shows_nothing (IsGrouped edits) built shown none e = none-some shown e
 shows_nothing (IsStopped number refusal) built shown none e = none-some shown e
 
 -- what is no build shows its reply
-alone_is : (answer : Reply) (built : Option BuildShown) (shown : Shown) → is_begun answer ≡ false
+pub alone_is : (answer : Reply) (built : Option BuildShown) (shown : Shown) → is_begun answer ≡ false
     → reply_shown answer built ≡ Some shown → reply_shown answer None ≡ Some shown
 alone_is answer None shown none e = e
 alone_is answer (Some built) shown none e = absurd (shows_nothing answer built shown none e)
@@ -82,19 +82,19 @@ reply_same answer shown other none is also = same_Some shown other
 
 -- What is shown of a request over what is stored at a place
 
-abbrev Replied : State → ℕ → Request → Shown → Type 0
+abbrev pub Replied : State → ℕ → Request → Shown → Type 0
 Replied state place request shown =
     (built : Option BuildShown) × (reply_shown (reply state place request) built ≡ Some shown)
 
 -- the build of a request that is none has nothing to show
-abbrev Builds : Language → List RowShown → State → Request → Shown → Type 0
+abbrev pub Builds : Language → List RowShown → State → Request → Shown → Type 0
 Builds language rows state (Single edit) shown = Unit {0}
 Builds language rows state (Get name) shown = Unit {0}
 Builds language rows state Names shown = Unit {0}
 Builds language rows state (Build root val) shown = ShowsBuilt rows root val (language.clean state root val) shown
 Builds language rows state (Group edits) shown = Unit {0}
 
-builds_is : (language : Language) (rows : List RowShown) (moment : Moment) (request : Request)
+pub builds_is : (language : Language) (rows : List RowShown) (moment : Moment) (request : Request)
     → ShowsBuild language rows moment request → Builds language rows moment.state request moment.entry.shown
 builds_is language rows moment (Single edit) shows = tt
 builds_is language rows moment (Get name) shows = tt
@@ -140,10 +140,10 @@ same_shown language rows others moment other state place request replied again b
 -- Entries
 
 -- each moment shows the desk's reply, and its build if it is one
-abbrev ShowsBoth : Language → List RowShown → Moment → Type 0
+abbrev pub ShowsBoth : Language → List RowShown → Moment → Type 0
 ShowsBoth language rows moment = ShowsReply moment × ShowsBuild language rows moment moment.step.request
 
-abbrev AllShow : Language → List RowShown → List Moment → Type 0
+abbrev pub AllShow : Language → List RowShown → List Moment → Type 0
 AllShow language rows moments = AllByRecursion (ShowsBoth language rows) moments
 
 abbrev told_from : List Step → State → ℕ → List EntryShown → List Entry
@@ -237,7 +237,7 @@ both_shown language rows [] replied builds = tt
 both_shown language rows (moment ∷ moments) replied builds =
     ((replied.0, builds.0), both_shown language rows moments replied.1 builds.1)
 
-all_show : (steps : List Step) (text : List ℕ) (is : IsFaithful dita steps text)
+pub all_show : (steps : List Step) (text : List ℕ) (is : IsFaithful dita steps text)
     → AllShow dita is.transcript.rows (moments_of steps is.transcript.entries)
 all_show steps text is =
     let moments : List Moment = moments_of steps is.transcript.entries in

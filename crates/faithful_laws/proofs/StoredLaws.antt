@@ -1,15 +1,14 @@
 -- What is stored at each place of the history that a faithful transcript tells.
-use Rattle.std.proofs.Common.{◌≡◌, ◌+◌, ◌<◌, ℕ, zero, suc, List, [], ◌∷◌, ◌++◌, Option, Some, None, All, length, map, option_map, slice_get, take, refl, sym, ap, ◌∙◌, arith}
-use Rattle.std.specs.Option.{option_to_list}
+use Rattle.std.proofs.Common.{◌≡◌, ◌+◌, ℕ, zero, suc, List, [], ◌∷◌, Option, Some, None, All, map, slice_get, take, sym, ap, ◌∙◌, arith}
 use Rattle.std.proofs.lemmas.List.{length-map}
 use Rattle.std.proofs.lemmas.List.Elements.{All-tail}
 use Rattle.std.proofs.lemmas.Option.{none-some, same_Some}
 use Rattle.dita_doc.specs.Desk.{State, next}
 use Rattle.dita_doc.specs.History.{replay}
 use Rattle.script_text.specs.Script.{Step}
-use Rattle.transcript_text.specs.Transcript.{EntryShown, Transcript}
-use Rattle.run_spec.specs.Faithful.{HasEntries, IsFaithful, IsOfSession}
-use Rattle.run_spec.specs.HistoryTold.{Moment, entry_told, history_told, moment_with, moments_from, moments_of, next_with, step_of}
+use Rattle.transcript_text.specs.Transcript.{EntryShown}
+use Rattle.run_spec.specs.Faithful.{IsFaithful, IsOfSession}
+use Rattle.run_spec.specs.HistoryTold.{Moment, entry_told, moment_with, moments_from, moments_of, step_of}
 use Rattle.run_spec.specs.Language.{dita}
 use Rattle.run_spec.proofs.ToldLaws.{behind, HasSession, each_told, legal_told}
 use Rattle.faithful_laws.specs.OneHistory.{Steps, TellsOneHistory}

@@ -32,6 +32,10 @@ pub record KeepsOrder (steps : List Step) (history : List Entry) : Type 0 where
       → count_by (λ (entry : Entry). entry.number == number) history ≡ 1
   pub order : AllPairs IsEarlier history
 
+-- the numbers of entries, in order
+abbrev pub numbers : List EntryShown → List ℕ
+numbers entries = map (λ (entry : EntryShown). entry.number) entries
+
 -- an entry whose page lines have no serials of their own
 
 abbrev pub page_alone : PageShown → PageShown
