@@ -49,14 +49,19 @@ def publish(asked: options.Options) -> int:
     return FAULTY if asked.strict and publication.faults() else PUBLISHED
 
 
-def main(words: Sequence[str]) -> int:
-    """The status of a call."""
+def prepare() -> None:
+    """Has messages hold any text, and interrupts come as KeyboardInterrupt."""
     for stream in (sys.stdout, sys.stderr):
         if stream is not None:
             stream.reconfigure(errors="backslashreplace")
     for number in (signal.SIGINT, signal.SIGTERM, signal.SIGHUP):
         if signal.getsignal(number) != signal.SIG_IGN:
             signal.signal(number, interrupt)
+
+
+def main(words: Sequence[str]) -> int:
+    """The status of a call."""
+    prepare()
     try:
         return publish(options.read(words))
     except options.BadWords as refused:

@@ -3,11 +3,13 @@ from __future__ import annotations
 
 import argparse
 import dataclasses
+import os
 import pathlib
 from collections.abc import Sequence
 
 VERSION = "publish 1.0 (dita_desk 0.1.0)"
 MAP_ENDINGS = (".ditamap", ".bookmap")
+MOST_WORKERS = 16
 
 DESCRIPTION = """Publishes DITA 1.3 documents as HTML.
 
@@ -29,6 +31,7 @@ class Options:
     out: pathlib.Path
     filter: pathlib.Path | None
     index: bool
+    workers: int
     strict: bool
     clean: bool
     style: pathlib.Path | None
@@ -49,6 +52,19 @@ class Parser(argparse.ArgumentParser):
         raise BadWords(f"{message}; `publish --help` says how")
 
 
+def processors() -> int:
+    """How many workers can work at a time here, at most 16."""
+    count = len(os.sched_getaffinity(0)) if hasattr(os, "sched_getaffinity") else os.cpu_count() or 1
+    return min(count, MOST_WORKERS)
+
+
+def workers(word: str) -> int:
+    """The number of workers that a word is."""
+    if not word.isascii() or not word.isdecimal() or not 1 <= int(word) <= MOST_WORKERS:
+        raise argparse.ArgumentTypeError(f"`{word}` is no number from 1 to {MOST_WORKERS}")
+    return int(word)
+
+
 def parser() -> Parser:
     it = Parser(prog="publish", description=DESCRIPTION, epilog=EPILOG, allow_abbrev=False,
                 usage="publish [OPTIONS] [FOLDER MAP OUT [DITAVAL]]", formatter_class=argparse.RawDescriptionHelpFormatter)
@@ -58,6 +74,8 @@ def parser() -> Parser:
     it.add_argument("-o", "--out", type=pathlib.Path, metavar="OUT", help="the folder of the pages; else `out`")
     it.add_argument("--filter", type=pathlib.Path, metavar="DITAVAL", help="filters and flags by this DITAVAL, which may lie anywhere")
     it.add_argument("--index", action="store_true", help="makes an index of the index terms, as the page terms.htm")
+    it.add_argument("--workers", type=workers, default=processors(), metavar="N",
+                    help="makes pages on so many threads, 1 to 16; else on as many as there are processors. An index is made on one")
     it.add_argument("--strict", action="store_true", help="with faults the status is 1")
     it.add_argument("--clean", action="store_true", help="removes from OUT what this tool did not make")
     style = it.add_mutually_exclusive_group()
@@ -111,5 +129,5 @@ def read(words: Sequence[str]) -> Options:
             raise BadWords(f"{folder}: there is no such folder")
         map_path = inside(folder, given.map) if given.map is not None else only_map(folder)
     filter_path = inside(folder, given.filter) if given.filter is not None else None
-    return Options(folder, map_path, given.out or pathlib.Path("out"), filter_path, given.index, given.strict,
+    return Options(folder, map_path, given.out or pathlib.Path("out"), filter_path, given.index, given.workers, given.strict,
                    given.clean, given.style, given.no_style, given.keep, given.quiet, given.verbose)

@@ -50,18 +50,23 @@ class Output:
     """OUT while it is made anew: `desk` is the folder for the desk, and what lies in `pages` takes the place of OUT. `is_put` says whether
     it stands there."""
 
-    def __init__(self, out: pathlib.Path, folder: pathlib.Path, is_clean: bool) -> None:
+    def __init__(self, out: pathlib.Path, folder: pathlib.Path | None, is_clean: bool) -> None:
         self.named, self.out, self.is_clean = out, pathlib.Path(os.path.realpath(out)), is_clean
         self.work = self.out.parent / f".{self.out.name}.publish-{os.getpid()}"
         self.desk, self.pages, self.old = self.work / "desk", self.work / "pages", self.work / "old"
         self.made_parents: list[pathlib.Path] = []
         self.is_put = False
-        self.check(pathlib.Path(os.path.realpath(folder)))
+        if folder is not None:
+            self.check_apart(pathlib.Path(os.path.realpath(folder)))
+        self.check()
 
-    def check(self, folder: pathlib.Path) -> None:
-        """Stops if this OUT is not to be replaced."""
+    def check_apart(self, folder: pathlib.Path) -> None:
+        """Stops if the folder of the documents lies in OUT."""
         if self.out == folder or self.out in folder.parents:
             raise Stop(f"{self.named}: the documents lie in this folder: name another one for the pages")
+
+    def check(self) -> None:
+        """Stops if this OUT is not to be replaced."""
         try:
             if not self.out.is_dir():
                 if os.path.lexists(self.out):

@@ -4,7 +4,9 @@ from __future__ import annotations
 import hashlib
 import os
 import pathlib
+import re
 import shlex
+import subprocess
 from collections.abc import Iterator
 
 from publishing.message import Stop
@@ -13,6 +15,8 @@ TOP = pathlib.Path(__file__).resolve().parent.parent.parent
 VARIABLE = "DITA_DESK"
 NAME = "dita_desk"
 SOURCES = (".rt", ".antt")
+MODES = re.compile(rb"<MODE>[^\[]*\[possible values: ([a-z, ]+)\]")
+HELP_SECONDS = 20
 
 
 def crates_of(text: str) -> dict[str, list[str]]:
@@ -80,3 +84,13 @@ def find(top: pathlib.Path = TOP) -> list[str]:
     if (top / "release" / NAME).is_file():
         return [str(checked_release(top / "release"))]
     raise Stop("there is no program here: release/ has none, and none is built from these sources; `tools/build` proves and builds it")
+
+
+def modes(words: list[str]) -> list[str]:
+    """The modes of the program that these words start, by its help; none if it has no such help."""
+    try:
+        ended = subprocess.run([*words, "--help"], stdin=subprocess.DEVNULL, capture_output=True, timeout=HELP_SECONDS)
+    except (OSError, subprocess.TimeoutExpired):
+        return []
+    found = MODES.search(ended.stdout)
+    return found[1].decode("ascii").split(", ") if found else []

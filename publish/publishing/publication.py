@@ -51,9 +51,7 @@ class Publication:
             self.keep("script", given)
             limits.check(self.sources, len(given))
             self.progress.tell(f"the desk builds from {counted(len(documents), 'document')}")
-            answer = desk.run(words, "terms" if self.asked.index else "clean", given, output.desk)
-            self.keep("transcript", answer.encode("utf-8"))
-            self.judge(documents, roots, transcript.entries_of(answer))
+            self.judge(documents, roots, self.answers(words, given, output.desk))
             self.take_pages(output, len(documents) + 1)
             self.finish(output)
 
@@ -92,6 +90,13 @@ class Publication:
         if self.asked.verbose:
             for name in sorted(self.sources.documents):
                 self.say(f"read {self.sources.place(name)}")
+
+    def answers(self, words: list[str], given: bytes, folder: pathlib.Path) -> list[transcript.Entry]:
+        """The desk's answers to a script, and its pages below a folder."""
+        mode = desk.mode_of(words, self.asked.workers, self.asked.index)
+        answer = desk.run(words, mode, given, folder)
+        self.keep("transcript", answer)
+        return desk.entries(mode, answer, folder)
 
     def judge(self, documents: list[Document], roots: list[str], entries: list[transcript.Entry]) -> None:
         """Takes the messages of a build from its transcript, or stops if nothing was built."""

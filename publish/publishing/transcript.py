@@ -1,4 +1,4 @@
-"""What the desk answered: the replies to the requests of a script, and the faults of a build."""
+"""What the desk answered: the replies to the requests of a script, and the faults of a build. The pages of a batch are read by `rows`."""
 from __future__ import annotations
 
 import dataclasses
@@ -29,8 +29,11 @@ class Request:
 
 @dataclasses.dataclass(frozen=True)
 class Entry:
-    """The words of a reply, and the lines below it without their `|`."""
+    """An entry: its place, its session, the number of its request, the words of its reply, and the lines below it without their `|`."""
 
+    place: int
+    session: int
+    number: int
     reply: list[str]
     below: list[str]
 
@@ -77,14 +80,20 @@ def requests_of(script: str) -> Iterator[Request]:
                 yield Request(words, [edit_of(words, lines)] if words[0] in ("put", "putif", "remove") else [])
 
 
+def entry_of(line: str) -> Entry:
+    """The entry that a line `entry PLACE SESSION NUMBER REPLY` begins."""
+    _, place, session, number, *reply = line.split(" ")
+    return Entry(int(place), int(session), int(number), reply, [])
+
+
 def entries_of(transcript: str) -> list[Entry]:
-    """The entries of a transcript."""
+    """The entries of a transcript, also of one that is cut off."""
     entries: list[Entry] = []
     for line in transcript.split("\n"):
-        if line.startswith("end "):
+        if line.startswith(("row ", "end ")):
             break
         if line.startswith("entry "):
-            entries.append(Entry(line.split(" ")[4:], []))
+            entries.append(entry_of(line))
         elif line.startswith("|") and entries:
             entries[-1].below.append(line[1:])
     return entries
