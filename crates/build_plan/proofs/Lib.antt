@@ -13,6 +13,7 @@ pub mod NameLaws
 pub mod PlanLaws
 pub mod PlanPagesLaws
 pub mod Planning
+pub mod ReadyLaws
 pub mod RefLaws
 pub mod StepLaws
 pub mod TellLaws

@@ -1,44 +1,21 @@
 -- Uses that make pages: none makes the page of an earlier one. So the first page for a page's document and context is that
 -- page.
-use Rattle.std.specs.Prelude.{◌≡◌, ◌+◌, ◌&&◌, ℕ, zero, suc, Bool, true, false, not, List, [], ◌∷◌, Option, Some, Ok, filter, slice_get, bytes_eq}
+use Rattle.std.specs.Prelude.{◌≡◌, ◌+◌, ◌&&◌, ℕ, zero, suc, Bool, true, false, not, List, [], ◌∷◌, Option, Some, Ok, filter, slice_get}
 use Rattle.std.specs.List.{filter_map, list_all}
 use Rattle.std.proofs.Common.{refl, sym, ap, subst, ◌∙◌, arith}
-use Rattle.std.proofs.lemmas.Bool.{cond_both, and_parts, and_from, eq-eqb, not-true}
-use Rattle.std.proofs.lemmas.Slice.Eq.{bytes_eq-Decides}
+use Rattle.std.proofs.lemmas.Bool.{cond_both, and_parts, and_from, not-true}
 use Rattle.std.proofs.lemmas.Option.{same_Some}
-use Rattle.dita_doc.specs.declared.plan.Affix.{Affix}
 use Rattle.dita_doc.specs.declared.plan.PageId.{PageId}
 use Rattle.dita_doc.specs.declared.plan.Plan.{Plan}
 use Rattle.dita_doc.specs.declared.plan.PagePlan.{PagePlan}
 use Rattle.dita_doc.specs.declared.plan.PlanNode.{PlanNode}
 use Rattle.reader_spec.specs.World.{World}
-use Rattle.map_spec.specs.Pages.{Use, are_same_affixes, are_same_texts, base_of, contents_name, first_uses, free_name, good_base, is_page_for, is_same_page, named_from, page_of_use, pages_of, place_of, use_at, uses_of}
+use Rattle.map_spec.specs.Pages.{Use, base_of, contents_name, first_uses, free_name, good_base, is_page_for, is_same_page, named_from, page_of_use, pages_of, place_of, use_at, uses_of}
 use Rattle.map_spec.specs.PlanOf.{Limits, plan_of}
 use Rattle.map_spec.specs.Scopes.{places}
+use Rattle.readers.proofs.OnlyLaws.{page_same}
 use Rattle.build_plan.specs.PageNames.{IsItsOwn}
 use Rattle.build_plan.proofs.PlanPagesLaws.{plan_pages}
-
--- A page is the same page as itself
-
--- bytes are equal to themselves
-bytes_same : (bytes : List ℕ) → bytes_eq bytes bytes ≡ true
-bytes_same bytes = (bytes_eq-Decides bytes bytes).1 refl
-
--- so are texts
-texts_same : (texts : List (List ℕ)) → are_same_texts texts texts ≡ true
-texts_same [] = refl
-texts_same (text ∷ texts) = and_from _ _ (bytes_same text) (texts_same texts)
-
--- and affixes
-affixes_same : (affixes : List Affix) → are_same_affixes affixes affixes ≡ true
-affixes_same [] = refl
-affixes_same (affix ∷ affixes) =
-    and_from _ _ (and_from _ _ (bytes_same affix.prefix) (bytes_same affix.suffix)) (affixes_same affixes)
-
--- and what a page is known by
-page_same : (id : PageId) → is_same_page id id ≡ true
-page_same id = and_from _ _ (bytes_same id.doc)
-    (and_from _ _ (and_from _ _ (eq-eqb id.scope id.scope refl) (texts_same id.filters)) (affixes_same id.affixes))
 
 -- The first uses
 

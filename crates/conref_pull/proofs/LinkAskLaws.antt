@@ -7,11 +7,11 @@ use Rattle.std.proofs.Common.{arith, get_or, subst, sym}
 use Rattle.dita_doc.specs.declared.doc.Doc.{Doc}
 use Rattle.dita_doc.specs.declared.stop.NoMemory.{NoMemory}
 use Rattle.readers.specs.Documents.{IsGiven}
-use Rattle.readers.specs.Founded.{Grows}
+use Rattle.readers.specs.Founded.{AreAmong, Grows}
 use Rattle.readers.specs.Named.{named_tree}
 use Rattle.readers.specs.Told.{Told}
 use Rattle.readers.proofs.GivenLaws.{given_later}
-use Rattle.conref_targets.specs.Asking.{AreAmong, AreGiven, IsGivenIn, reused_of_doc, reused_of_whole}
+use Rattle.conref_targets.specs.Asking.{AreGiven, IsGivenIn, reused_of_doc, reused_of_whole}
 use Rattle.conref_targets.specs.declared.find.Found.{Found}
 use Rattle.conref_targets.specs.declared.origin.Whole.{Whole}
 use Rattle.conref_targets.proofs.AskingLaws.{given_reused, given_some}

@@ -13,13 +13,13 @@ use Rattle.dita_doc.specs.declared.stop.Stop.{Stop}
 use Rattle.doc_elements.specs.Walk.{element_of}
 use Rattle.doc_maker.specs.declared.maker.DocMaker.{DocMaker}
 use Rattle.readers.specs.Documents.{IsGiven}
-use Rattle.readers.specs.Founded.{Grows}
+use Rattle.readers.specs.Founded.{AreAmong, Grows}
 use Rattle.readers.specs.Named.{named_tree, reused_by, reused_in}
 use Rattle.readers.specs.Setting.{Stand}
 use Rattle.readers.specs.Told.{Told}
 pub use Rattle.readers.proofs.GivenLaws.{given_later}
 pub use Rattle.readers.proofs.GrowthLaws.{agrees_before, grows_same, grows_trans}
-use Rattle.conref_targets.specs.Asking.{AreAmong, AreGiven, Asks, reused_of_doc, reused_of_node, reused_of_whole}
+use Rattle.conref_targets.specs.Asking.{AreGiven, Asks, reused_of_doc, reused_of_node, reused_of_whole}
 use Rattle.conref_targets.specs.Origin.{named_content}
 use Rattle.conref_targets.specs.declared.origin.Whole.{Whole}
 use Rattle.conref_targets.proofs.AskingLaws.{about_call, about_next, about_part, given_reused, whole_inside}

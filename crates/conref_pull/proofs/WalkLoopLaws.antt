@@ -10,9 +10,10 @@ use Rattle.dita_doc.specs.declared.siblings.Siblings.{Siblings}
 use Rattle.dita_doc.specs.declared.stop.Stop.{Stop}
 use Rattle.conref_spec.specs.Content.{ContentAround, Made, Place, declared_there}
 use Rattle.reader_spec.specs.World.{World}
+use Rattle.readers.specs.Founded.{AreAmong}
 use Rattle.readers.specs.Named.{under_names, reused_in}
 use Rattle.readers.specs.Setting.{Stand}
-use Rattle.conref_targets.specs.Asking.{AreAmong, element_around, reused_of_node}
+use Rattle.conref_targets.specs.Asking.{element_around, reused_of_node}
 use Rattle.conref_targets.specs.Origin.{named_content}
 use Rattle.conref_targets.specs.Parts.{AreSiblingsAt, has_first, first_alone}
 use Rattle.conref_targets.specs.declared.tables.PlaceTables.{PlaceTables}

@@ -9,10 +9,11 @@ use Rattle.dita_doc.specs.declared.siblings.Siblings.{Siblings}
 use Rattle.dita_doc.specs.declared.stop.Stop.{Stop}
 use Rattle.conref_spec.specs.Content.{ContentAround, Made, nothing_made, text_made}
 use Rattle.reader_spec.specs.World.{World}
+use Rattle.readers.specs.Founded.{AreAmong}
 use Rattle.readers.specs.Named.{name_at, under_names, reused_in}
 use Rattle.readers.specs.Setting.{Stand}
 use Rattle.readers.specs.Told.{Told}
-use Rattle.conref_targets.specs.Asking.{AreAmong, element_around}
+use Rattle.conref_targets.specs.Asking.{element_around}
 use Rattle.conref_targets.specs.Hrefs.{HasNamed, HaveNamed}
 use Rattle.conref_targets.specs.Origin.{named_content}
 use Rattle.conref_targets.specs.Parts.{AreSiblingsAt, has_first, first_alone}

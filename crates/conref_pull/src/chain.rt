@@ -22,6 +22,7 @@ pub(crate) struct TakenTarget {
 impl TakenTarget {
     ghost use Rattle.std.specs.Prelude.{◌≡◌, List, Some, IfOk, IfSome};
     ghost use Rattle.std.specs.Arc.{arc_value};
+    ghost use Rattle.readers.specs.Founded.{AreAmong};
     ghost use Rattle.readers.specs.Told.{Told};
     ghost use Rattle.conref_targets.specs.Each.{OfWhole};
     ghost use Rattle.conref_targets.specs.Hrefs.{WholeNamed};
@@ -36,8 +37,7 @@ impl TakenTarget {
     pub(crate) fn whole(&self) -> Option<Whole<'_>>
         ensures target { (one : Taken) → linked_spec.IsLink self.now one
             → origin_spec.whole_shown result ≡ Some (one.element, one.inside) }
-        ensures names { IfSome result (λ whole. asking_spec.AreAmong
-            (asking_spec.reused_of_whole whole)
+        ensures names { IfSome result (λ whole. AreAmong (asking_spec.reused_of_whole whole)
             (asking_spec.reused_of_doc (arc_value self.now.doc))) }
         ensures hrefs { (told : List Told) → linked_spec.IsGivenTo told self.now
             → IfSome result (WholeNamed told) }

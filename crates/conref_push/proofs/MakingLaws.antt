@@ -18,12 +18,12 @@ use Rattle.map_spec.specs.Written.{Element, Written, End, Node, side_by_side, si
 use Rattle.map_spec.specs.Pushes.{has_conaction, all_side_by_side, pushed_at, copy_beside, is_after, is_before, is_replace, itself_or, pushed_from, pushes_at, without_acting}
 use Rattle.plan_nodes.proofs.HomeLaws.{push_of}
 use Rattle.reader_spec.specs.World.{World}
-use Rattle.readers.specs.Founded.{is_among}
+use Rattle.readers.specs.Founded.{AreAmong, is_among}
 use Rattle.readers.proofs.FoundedLaws.{among_behind, among_first}
 use Rattle.std.proofs.Math.Logic.{⊎_elim}
 use Rattle.std.proofs.lemmas.Bool.{or_cases, or_left, or_right}
 use Rattle.conref_push.specs.Into.{froms}
-use Rattle.conref_push.specs.Making.{AreAmong, IsFrom, at_place_or_none, pushed_copy, copies_of, copy_if, is_kind, of_kind, pushes_to, replacement, some}
+use Rattle.conref_push.specs.Making.{IsFrom, at_place_or_none, pushed_copy, copies_of, copy_if, is_kind, of_kind, pushes_to, replacement, some}
 
 -- One after the other
 
@@ -204,20 +204,22 @@ pub from_first : (pushes : List Push) (names : List (List ℕ)) → AreAmong (fr
     → IsFrom names (replacement pushes)
 from_first [] names within = λ push is. cc
 from_first (one ∷ rest) names within = from_by is_replace one rest names (is_replace one.kind) refl
-    (within one.from (among_first one.from (froms rest)))
-    (from_first rest names (λ m among. within m (among_behind one.from (froms rest) m among)))
+    (within.each one.from (among_first one.from (froms rest)))
+    (from_first rest names (record { each = λ m among. within.each m (among_behind one.from (froms rest) m among) }))
 
 among_by : (place : ℕ) (one : Push) (rest : List Push) (test : Bool) → (one.at == place) ≡ test
     → AreAmong (froms (pushes_to place rest)) (froms rest)
     → AreAmong (froms (pushes_to place (one ∷ rest))) (froms (one ∷ rest))
-among_by place one rest true is within = rw is (λ m among.
-    ⊎_elim (λ here. or_left (bytes_eq one.from m) (is_among (froms rest) m) here)
-    (λ there. or_right (bytes_eq one.from m) (is_among (froms rest) m) (within m there))
-    (or_cases (bytes_eq one.from m) (is_among (froms (pushes_to place rest)) m) among))
-among_by place one rest false is within = rw is (λ m among. among_behind one.from (froms rest) m (within m among))
+among_by place one rest true is within = rw is (record {
+  each = λ m among. ⊎_elim (λ here. or_left (bytes_eq one.from m) (is_among (froms rest) m) here)
+      (λ there. or_right (bytes_eq one.from m) (is_among (froms rest) m) (within.each m there))
+      (or_cases (bytes_eq one.from m) (is_among (froms (pushes_to place rest)) m) among);
+})
+among_by place one rest false is within =
+    rw is (record { each = λ m among. among_behind one.from (froms rest) m (within.each m among) })
 
 pub among_placed : (place : ℕ) (pushes : List Push) → AreAmong (froms (pushes_to place pushes)) (froms pushes)
-among_placed place [] = λ m among. among
+among_placed place [] = record { each = λ m among. among }
 among_placed place (one ∷ rest) = among_by place one rest (one.at == place) refl (among_placed place rest)
 
 -- a copy is the element with other attributes

@@ -69,10 +69,6 @@ pub record IsInto (world : World) (pushes : List Push) (into : PushedInto) : Typ
   pub groups : AreGroups pushes into.by_place
   pub sources : AreSources world (froms pushes) into.sources
 
--- these names are among those
-abbrev pub AreAmong : List (List ℕ) → List (List ℕ) → Type 0
-AreAmong some all = (name : List ℕ) → IsTrue (is_among some name) → IsTrue (is_among all name)
-
 -- what is pushed comes from one of these documents
 abbrev pub IsFrom : List (List ℕ) → Option Push → Type 0
 IsFrom names found = (push : Push) → found ≡ Some push → IsTrue (is_among names push.from)

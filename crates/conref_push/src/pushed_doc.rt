@@ -16,7 +16,7 @@ ghost use Rattle.map_spec.specs.Pushes as pushes_spec;
 ghost use Rattle.reader_spec.specs.World.{World};
 ghost use Rattle.readers.specs.Documents as documents_spec;
 ghost use Rattle.readers.specs.Documents.{AsksOnly, IsGiven};
-ghost use Rattle.readers.specs.Founded.{Grows, StaysFounded};
+ghost use Rattle.readers.specs.Founded.{AreAmong, Grows, StaysFounded};
 ghost use Rattle.readers.specs.Named as named_spec;
 ghost use Rattle.readers.specs.Only as only_spec;
 ghost use Rattle.readers.specs.Only.{TellsOnly};
@@ -342,7 +342,7 @@ impl<'a> PushedInto<'a> {
     ) -> Result<(), NoMemory>
         ensures { (world : World) (names : List (List ℕ))
             → sources_spec.AreSources world names self.now.sources
-            → making_spec.AreAmong (into_spec.froms group.now) names
+            → AreAmong (into_spec.froms group.now) names
             → OnOk result (made_spec.building maker.new
             ≡ building_spec.behind (made_spec.building maker.old)
             (making_spec.copies_of world kind group.now)) }

@@ -9,7 +9,7 @@ use Rattle.dita_doc.specs.declared.doc.Doc.{Doc}
 use Rattle.dita_doc.specs.declared.plan.PlanNode.{PlanNode}
 use Rattle.map_spec.specs.Pages.{local_name}
 use Rattle.readers.specs.Documents.{AsksOnly, Covers, IsGiven, may_ask, nothing, of_documents, of_pushes}
-use Rattle.readers.specs.Founded.{Grows, StaysFounded, homes, is_allowed, is_among}
+use Rattle.readers.specs.Founded.{AreAmong, Grows, StaysFounded, homes, is_allowed, is_among}
 use Rattle.readers.specs.Named.{named_tree, reused_by, reused_in}
 use Rattle.readers.specs.Told.{Told, document, kind, title, first, key, pushes, page_of, pending, pending_document}
 use Rattle.readers.proofs.AmongLaws.{among_back, among_either, among_front}
@@ -17,7 +17,7 @@ use Rattle.readers.proofs.DocumentLaws.{asks_after, asks_among, asks_by, asks_gr
 use Rattle.readers.proofs.FoundedLaws.{given_allowed, stays_after, stays_among, stays_by, stays_grows, stays_same, stays_when}
 use Rattle.readers.proofs.GivenLaws.{reused_allowed, reused_may}
 use Rattle.readers.proofs.GrowthLaws.{growing}
-use Rattle.conref_targets.specs.Asking.{AreAmong, AreGiven, Asks, of_content, reused_of_doc, reused_of_whole}
+use Rattle.conref_targets.specs.Asking.{AreGiven, Asks, of_content, reused_of_doc, reused_of_whole}
 use Rattle.conref_targets.specs.Origin.{whole_of}
 use Rattle.conref_targets.specs.declared.origin.Whole.{Whole}
 

@@ -10,10 +10,10 @@ use Rattle.href_text.specs.declared.fault.RefFault.{RefFault}
 use Rattle.map_spec.specs.Elements.{attribute}
 use Rattle.map_spec.specs.Target.{if_read}
 use Rattle.map_spec.specs.Written.{Element}
-use Rattle.readers.specs.Founded.{is_among}
+use Rattle.readers.specs.Founded.{AreAmong, is_among}
 use Rattle.readers.specs.Named.{name_joined, reused_by}
 use Rattle.readers.proofs.FileLaws.{file_read, not_external}
-use Rattle.conref_targets.specs.Asking.{AreAmong, names_of_value}
+use Rattle.conref_targets.specs.Asking.{names_of_value}
 
 named_by : (doc value : List ℕ) (read : Result Reference RefFault) (reference : Reference) (name : List ℕ)
     → reference_of value ≡ read → if_read read ≡ Some reference → if_read (joined doc reference.file) ≡ Some name

@@ -11,10 +11,10 @@ use Rattle.dita_doc.specs.declared.siblings.Siblings.{Siblings}
 use Rattle.doc_elements.specs.Walk.{element_of}
 use Rattle.map_spec.specs.Written as written
 use Rattle.map_spec.specs.Written.{Whole}
-use Rattle.readers.specs.Founded.{is_among}
+use Rattle.readers.specs.Founded.{AreAmong, is_among}
 use Rattle.readers.specs.Named.{name_at, under_names, reused_by, reused_in}
 use Rattle.readers.proofs.AmongLaws.{among_back, among_either, among_front}
-use Rattle.conref_targets.specs.Asking.{AreAmong, element_around, reused_below, reused_of_doc, reused_of_node}
+use Rattle.conref_targets.specs.Asking.{element_around, reused_below, reused_of_doc, reused_of_node}
 use Rattle.conref_targets.specs.Origin.{begins_element, first_whole, named_content}
 use Rattle.conref_targets.specs.Parts.{AreSiblingsAt}
 use Rattle.conref_targets.proofs.NameLaws.{below_reused}

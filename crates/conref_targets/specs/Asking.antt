@@ -1,6 +1,6 @@
 -- Which documents are asked about where references are followed (own): those of a list, and those that answers name
 -- which were told before. Of the references of a document's elements each `conref` counts, and no `href`.
-use Rattle.std.specs.Prelude.{ℕ, List, [], ◌++◌, Option, Some, None, IsTrue, map, option_map}
+use Rattle.std.specs.Prelude.{ℕ, List, [], ◌++◌, Option, Some, None, map, option_map}
 use Rattle.std.specs.Arc.{arc_value}
 use Rattle.std.specs.Option.{option_and_then, option_to_list}
 use Rattle.dita_doc.specs.Siblings as siblings
@@ -13,7 +13,7 @@ use Rattle.doc_elements.specs.Walk.{element_of}
 use Rattle.map_spec.specs.Pages.{local_name}
 use Rattle.map_spec.specs.Written.{Element, Written, written_in}
 use Rattle.readers.specs.Documents.{AsksOnly, Covers, Follows, IsGiven, MayAsk}
-use Rattle.readers.specs.Founded.{AreAllowed, StaysFounded, homes, is_among}
+use Rattle.readers.specs.Founded.{AreAllowed, StaysFounded, homes}
 use Rattle.readers.specs.Named.{name_at, name_joined, named_tree, reused_by, reused_in, reused_of_found}
 use Rattle.readers.specs.Told.{Told, document, kind, title, first, key, pushes, page_of, pending, pending_document}
 use Rattle.conref_targets.specs.Origin.{named_content, whole_of}
@@ -44,10 +44,6 @@ pub record AreGiven (told : List Told) (names : List (List ℕ)) : Type 0 where
 pub record Asks (nodes : List PlanNode) (names : List (List ℕ)) (old new : List Told) : Type 0 where
   pub founded : StaysFounded (homes nodes ++ names) old new
   pub asks : AsksOnly of_content names old new
-
--- each of some names is one of others
-pub record AreAmong (some names : List (List ℕ)) : Type 0 where
-  pub each : (m : List ℕ) → IsTrue (is_among some m) → IsTrue (is_among names m)
 
 -- what the content references of an element name, and those of all that it holds
 abbrev pub reused_below : Element → Written → List (List ℕ)

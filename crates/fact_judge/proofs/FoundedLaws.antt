@@ -9,9 +9,9 @@ use Rattle.dita_doc.specs.declared.question.Question.{Question}
 use Rattle.dita_doc.specs.declared.question.Question.TheVariants as questions
 use Rattle.fact_judge.specs.Answer.{AreOfKind}
 use Rattle.fact_judge.specs.Founded.{beside, names_in_question, names_of_answer}
-use Rattle.fact_judge.specs.Order.{AreAmong, InOrder}
+use Rattle.fact_judge.specs.Order.{InOrder}
 use Rattle.readers.proofs.AmongLaws.{among_back, among_front}
-use Rattle.readers.specs.Founded.{AreAllowed, IsFounded, is_allowed, is_among, names_asked, names_given}
+use Rattle.readers.specs.Founded.{AreAllowed, AreAmong, IsFounded, is_allowed, is_among, names_asked, names_given}
 use Rattle.readers.specs.Noted.{told_asked, told_by, told_in}
 use Rattle.readers.specs.Setting.{Setting, no_setting}
 use Rattle.readers.specs.Told.{Told}

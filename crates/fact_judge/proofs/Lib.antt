@@ -3,6 +3,5 @@ pub mod FoundedLaws
 pub mod EqLaws
 pub mod StoodLaws
 pub mod EachLaws
-pub mod PlanLaws
 pub mod TableLaws
 pub mod OwnLaws

@@ -1,11 +1,11 @@
 -- The tables of the plan there, and the answers that they give.
-use Rattle.std.proofs.Common.{◌≡◌, ◌<◌, ◌∙◌, ℕ, List, Bool, true, false, Option, Some, Result, Ok, Err, IfOk, length, map, refl, ap, sym, subst}
+use Rattle.std.proofs.Common.{◌≡◌, ◌<◌, ◌∙◌, ℕ, List, Bool, true, false, Option, Some, Result, Ok, length, map, refl, ap, sym, subst}
 use Rattle.std.proofs.Math.Logic.{∥∥₁_elim}
 use Rattle.std.specs.Arc.{arc_value}
 use Rattle.std.specs.Bool.{Decides}
 use Rattle.std.specs.declared.alloc.Global.{Global}
 use Rattle.std.specs.declared.sync.Arc.{Arc}
-use Rattle.std.specs.Coded.{Coded, Coded-set, coded_ℕ, codes}
+use Rattle.std.specs.Coded.{Coded, Coded-set, coded_ℕ}
 use Rattle.std.proofs.lemmas.Bool.Decides.{Decides-like}
 use Rattle.dita_doc.specs.declared.content.KeyAnswer.{KeyAnswer}
 use Rattle.dita_doc.specs.declared.content.Push.{Push}
@@ -14,16 +14,12 @@ use Rattle.dita_doc.specs.declared.fault.Fault.{Fault}
 use Rattle.dita_doc.specs.declared.plan.Plan.{Plan}
 use Rattle.dita_doc.specs.declared.plan.PlanNode.{PlanNode}
 use Rattle.dita_doc.specs.declared.plan.PlanStop.{PlanStop}
-use Rattle.dita_doc.specs.declared.stop.NoMemory.{NoMemory}
 use Rattle.dita_doc.specs.Desk.{State}
+use Rattle.build_plan.proofs.ReadyLaws.{nodes_ready}
 use Rattle.fact_judge.specs.Judging.{AreTablesOf, HasTablesOf}
-use Rattle.fact_judge.proofs.PlanLaws.{nodes_ready}
 use Rattle.fact_judge.proofs.StoodLaws.{tells_value}
 use Rattle.facts.specs.Judged.{Tells}
-use Rattle.key_scopes.specs.Made.{IsTableOf}
 use Rattle.key_scopes.specs.Table.{Table}
-use Rattle.map_spec.specs.Cascade.{whole_at}
-use Rattle.map_spec.specs.Keys.{key_answer}
 use Rattle.map_spec.specs.PlanOf.{limits, plan_of}
 use Rattle.map_spec.specs.Scopes.{scopes}
 use Rattle.map_spec.specs.Written.{Whole}
@@ -33,7 +29,6 @@ use Rattle.plan_reader.specs.Keyed.{AreKeyed}
 use Rattle.plan_reader.specs.Tables.{AreTables}
 use Rattle.plan_reader.specs.declared.tables.PlanTables.{PlanTables}
 use Rattle.reader_spec.specs.World.{World, world_of}
-use Rattle.readers.specs.Told.{Told, Agrees}
 
 -- The tables that were made of the plan there
 
@@ -46,7 +41,7 @@ pub tables_of_plan : (world there : World) (map : List ℕ) (val : Option (List 
     → AreTables there plan.nodes plan.documents plan.pages tables)
     → AreTablesOf world map val tables
 tables_of_plan world there map val plan tables same is made =
-    let ready = nodes_ready world map val plan is in
+    let ready = nodes_ready limits world map val plan is in
     let own : AreTables world plan.nodes plan.documents plan.pages tables =
     subst (λ w. IsTree plan.nodes → CarryValues w plan.nodes → CarryScopes plan.nodes
     → AreTables w plan.nodes plan.documents plan.pages tables) same made ready.tree ready.values ready.scopes in
@@ -70,31 +65,6 @@ tables_there old new here map own_map val own_val tables found plan own same map
     (subst (AreTables (world_of new) plan.nodes plan.documents plan.pages) (sym owned) are)
 
 -- Keys
-
-answer_code : Coded KeyAnswer
-answer_code = hlevel codes
-
--- what a call gives for a key in each world that agrees, in which what is known of the nodes holds
-abbrev Gives : List Told → List PlanNode → List (Option Whole) → Table → ℕ → List ℕ → Result KeyAnswer NoMemory → Type 0
-Gives told nodes homes table scope key result = (world : World) → Agrees world told
-    → homes ≡ map (whole_at world) nodes → IsTableOf world nodes table → CarryValues world nodes → CarryScopes nodes
-    → IfOk result (λ answer. answer ≡ key_answer world nodes scope key)
-
--- by what is known of the nodes it is the answer to the key
-pub answered : (world after : World) (told : List Told) (slice nodes : List PlanNode) (homes : List (Option Whole))
-    (table : Table) (scope : ℕ) (name key : List ℕ) (result : Result KeyAnswer NoMemory) → after ≡ world → slice ≡ nodes
-    → name ≡ key → AreKeyed world nodes homes table → Agrees after told
-    → Gives told slice homes table scope name result
-    → IfOk result (λ answer. key_answer world nodes scope key ≡ answer)
-answered world after told slice nodes homes table scope name key result stood same same_key keyed agrees gives =
-    right result (subst (λ k. Gives told nodes homes table scope k result) same_key
-    (subst (λ ns. Gives told ns homes table scope name result) same gives))
-  where
-    right : (result : Result KeyAnswer NoMemory) → Gives told nodes homes table scope key result
-        → IfOk result (λ answer. key_answer world nodes scope key ≡ answer)
-    right (Err stop) gives = tt
-    right (Ok answer) gives = ∥∥₁_elim keyed.tabled (Coded-set answer_code _ _) (λ is. sym
-        (gives world (subst (λ w. Agrees w told) stood agrees) keyed.elements is keyed.values keyed.scopes))
 
 -- the table has the scopes
 pub scope_count : (world : World) (nodes : List PlanNode) (homes : List (Option Whole)) (table : Table)

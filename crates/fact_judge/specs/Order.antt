@@ -1,14 +1,10 @@
 -- Questions in the order in which they were put (own): each is about names that are known by then, and its answer makes
 -- more names known.
-use Rattle.std.specs.Prelude.{◌++◌, ℕ, List, [], ◌∷◌, IsTrue}
+use Rattle.std.specs.Prelude.{◌++◌, ℕ, List, [], ◌∷◌}
 use Rattle.std.specs.List.{flat_map}
 use Rattle.dita_doc.specs.declared.question.Asked.{Asked}
 use Rattle.dita_doc.specs.declared.question.Question.{Question}
-use Rattle.readers.specs.Founded.{is_among}
-
--- each of some names is one of others
-pub record AreAmong (some names : List (List ℕ)) : Type 0 where
-  pub each : (name : List ℕ) → IsTrue (is_among some name) → IsTrue (is_among names name)
+use Rattle.readers.specs.Founded.{AreAmong}
 
 -- each question is about names that are known once the answers before it have given theirs
 abbrev pub InOrder : (Question → List (List ℕ)) → (Asked → List (List ℕ)) → List (List ℕ) → List Asked → Type 0

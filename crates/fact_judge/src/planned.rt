@@ -24,9 +24,7 @@ use dita_doc::{
     Answered, Asked, Context, Fault, KeyAnswer, List, Name, NoMemory, Plan, PlanNode, Push,
     Question, Text,
 };
-use key_answers::answer_key;
-use plan_reader::{AsideReader, PlanTables};
-use readers::Questions;
+use plan_reader::{PlanTables, answer_aside};
 use source_reader::KnownTitles;
 use std::alloc::Global;
 
@@ -132,44 +130,8 @@ fn is_key(
     if scope as usize >= tables.scopes.list().len() {
         return Ok(false);
     }
-    let mut asked = Questions::new(alloc);
-    let mut aside = AsideReader {
-        known,
-        asked: &mut asked,
-    };
-    let given = given_aside(alloc, &mut aside, nodes, tables, scope, key)?;
+    let given = answer_aside(alloc, known, nodes, tables, scope, key)?;
     Ok(given == *answer)
-}
-
-// What a key gives, by a reader whose questions are let go.
-fn given_aside<'k, 'q, 'a>(
-    alloc: Global,
-    aside: &mut AsideReader<'k, 'q, 'a>,
-    nodes: &List<PlanNode>,
-    tables: &PlanTables,
-    scope: u32,
-    key: &Text,
-) -> Result<KeyAnswer, NoMemory>
-    requires { AreKeyed (world_of aside.old.known.now.sources.now) nodes.now tables.now.homes
-        tables.now.scopes }
-    ensures same { aside.new.known.ghost_name ≡ aside.old.known.ghost_name }
-    ensures known { world_of aside.new.known.now.sources.now
-        ≡ world_of aside.old.known.now.sources.now }
-    ensures value { IfOk result (λ answer.
-        keys_spec.key_answer (world_of aside.old.known.now.sources.now) nodes.now scope key.now
-        ≡ answer) }
-{
-    let nodes = nodes.as_slice();
-    let key = key.as_str();
-    answer_key(
-        alloc,
-        aside,
-        &tables.homes,
-        nodes,
-        &tables.scopes,
-        scope,
-        key,
-    )
 }
 
 // Whether these are the pushes into a document, and the faults of those that stand in it.

@@ -8,6 +8,7 @@ use Rattle.std.proofs.Common.{refl, sym, ap, subst, ◌∙◌}
 use Rattle.std.proofs.Math.Logic.{⊎_elim}
 use Rattle.std.proofs.lemmas.Bool.{and_from, and_parts, false≢true, or_cases}
 use Rattle.std.proofs.lemmas.Slice.Eq.{bytes_eq-Decides}
+use Rattle.build_plan.proofs.PlanPagesLaws.{plan_made}
 use Rattle.build_plan.proofs.UseLaws.{all_that_stay, page_holds}
 use Rattle.dita_doc.specs.declared.plan.PageId.{PageId}
 use Rattle.dita_doc.specs.declared.plan.PagePlan.{PagePlan}
@@ -30,7 +31,7 @@ use Rattle.reader_spec.specs.World.{World}
 use Rattle.readers.proofs.AmongLaws.{among_either}
 use Rattle.readers.proofs.FoundedLaws.{among_append, among_behind, among_first, among_one}
 use Rattle.readers.specs.Founded.{homes, is_among}
-use Rattle.fact_maker.proofs.MadeLaws.{nodes_grounded, plan_made}
+use Rattle.fact_maker.proofs.MadeLaws.{nodes_grounded}
 use Rattle.fact_maker.proofs.TextLaws.{no_ditaval, no_element, same_first, same_kind, same_other, same_title, with_texts}
 
 -- The answers stay, if the document was not asked for
@@ -142,7 +143,7 @@ module _ (map : List ℕ) (val : Option (List ℕ)) (plan : Plan) (asked : List 
   home_asked at node there none =
       let other = with_texts world node.doc (suc node.place) in
       let grounded = nodes_grounded other map val plan
-      (plan_made other map val plan (moved node.doc (suc node.place) none)) at node there in
+      (plan_made limits other map val plan (moved node.doc (suc node.place) none)) at node there in
       no_some (element_in other node.doc node.place) grounded.0.0 (no_element world node.doc node.place) grounded.0.1
 
   pub home_planned : (at : ℕ) (node : PlanNode) → slice_get plan.nodes at ≡ Some node → Planned node.doc
@@ -158,7 +159,7 @@ module _ (map : List ℕ) (val : Option (List ℕ)) (plan : Plan) (asked : List 
       → IsTrue (is_among node.filters m) → is_among (whole_documents asked) m ≡ false → ⊥
   filter_asked at node there m among none =
       let other = with_texts world m (suc zero) in
-      let grounded = nodes_grounded other map val plan (plan_made other map val plan (moved m (suc zero) none)) at node
+      let grounded = nodes_grounded other map val plan (plan_made limits other map val plan (moved m (suc zero) none)) at node
       there in
       let read = grounded.1 m among in
       no_some (ditaval_in other m) read.0 (no_ditaval world m) read.1
@@ -172,7 +173,7 @@ module _ (map : List ℕ) (val : Option (List ℕ)) (plan : Plan) (asked : List 
   build_asked : (name : List ℕ) → val ≡ Some name → is_among (whole_documents asked) name ≡ false → ⊥
   build_asked name is none =
       let other = with_texts world name (suc zero) in
-      let made = plan_made other map val plan (moved name (suc zero) none) in
+      let made = plan_made limits other map val plan (moved name (suc zero) none) in
       no_rules (ditaval_in other name) made.read (no_ditaval world name) (ap (build_rules other) (sym is) ∙ made.rules)
 
   val_by : (found : Option (List ℕ)) → val ≡ found → (m : List ℕ) → IsTrue (is_among (option_to_list found) m) → Planned m

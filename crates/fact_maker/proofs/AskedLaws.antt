@@ -18,14 +18,14 @@ use Rattle.dita_doc.specs.declared.question.Question.{Question}
 use Rattle.dita_doc.specs.declared.question.Question.TheVariants as questions
 use Rattle.fact_judge.specs.Answer.{AreOfKind, IsOfPlanKind}
 use Rattle.fact_judge.specs.Asks.{AskNoKey, IsNoKey, document_in, is_ditavalref_element, is_map_reference, named_by_href, named_document, planned_by, planned_in}
-use Rattle.fact_judge.specs.Order.{AreAmong, InOrder}
+use Rattle.fact_judge.specs.Order.{InOrder}
 use Rattle.map_expand.specs.Telling.{documents_of, element_targets, href_targets, targets_in}
 use Rattle.map_spec.specs.Elements.{attribute}
 use Rattle.map_spec.specs.Target.{Named, Document, Elsewhere, Unreadable, named_of}
 use Rattle.map_spec.specs.Written.{Element, Whole, Written, End, Chars, Node, elements_below, written_in}
 use Rattle.readers.proofs.AmongLaws.{among_back, among_either, among_front}
 use Rattle.readers.specs.Documents.{AskedBy, Covers, Follows, MayAsk, documents_asked, may_ask, of_documents}
-use Rattle.readers.specs.Founded.{is_among}
+use Rattle.readers.specs.Founded.{AreAmong, is_among}
 use Rattle.readers.specs.Named.{given_in}
 use Rattle.readers.specs.Noted.{told_asked, told_by, told_in}
 use Rattle.readers.specs.Setting.{no_setting}

@@ -1,86 +1,36 @@
 -- What the plan of a map is made of, in each world: the DITAVAL of the build was read, and each node of the plan stands at
 -- an element of its document, and is filtered by DITAVALs that were read.
-use Rattle.std.specs.Prelude.{◌≡◌, ◌+◌, ◌++◌, ℕ, List, [], ◌∷◌, Option, Some, None, Ok, IsTrue, bytes_eq, codes, option_map, slice_get}
+use Rattle.std.specs.Prelude.{◌≡◌, ◌+◌, ℕ, List, [], ◌∷◌, Option, Some, None, Ok, IsTrue, bytes_eq, codes, option_map, slice_get}
 use Rattle.std.specs.Option.{option_to_list}
-use Rattle.std.proofs.Common.{refl, sym, ap, subst, ◌∙◌}
+use Rattle.std.proofs.Common.{refl, ap, subst, ◌∙◌}
 use Rattle.std.proofs.Math.Logic.{⊎_elim}
 use Rattle.std.proofs.lemmas.Bool.{false≢true, or_cases}
 use Rattle.std.proofs.lemmas.Slice.Eq.{bytes_eq-Decides}
 use Rattle.build_plan.proofs.CopyLaws.{IsCarried, heads_copied}
 use Rattle.build_plan.proofs.IncludedLaws.{HasNoFilters, included_new}
-use Rattle.build_plan.proofs.PlanPagesLaws.{if_done, steps_from}
-use Rattle.dita_doc.specs.declared.fault.Fault.{Fault}
+use Rattle.build_plan.proofs.PlanPagesLaws.{IsPlanMade, tree_left}
 use Rattle.dita_doc.specs.declared.plan.Plan.{Plan}
 use Rattle.dita_doc.specs.declared.plan.PlanNode.{PlanNode}
 use Rattle.ditaval_rules.specs.declared.rules.RulesRead.{RulesRead}
 use Rattle.map_lemmas.proofs.AlikeLaws.{same_node}
 use Rattle.map_lemmas.proofs.CarriedLaws.{alike_made}
-use Rattle.map_lemmas.proofs.GrownLaws.{included_made, within}
+use Rattle.map_lemmas.proofs.GrownLaws.{included_made}
 use Rattle.map_lemmas.proofs.HeadLaws.{AllHeads, heads_filtered, node_at}
 use Rattle.map_lemmas.proofs.StandingLaws.{included_stand}
 use Rattle.map_lemmas.specs.Alike.{AreAlike, plain}
 use Rattle.map_lemmas.specs.Carried.{made}
 use Rattle.map_lemmas.specs.Standing.{HasElement}
-use Rattle.map_spec.specs.Branches.{Branch, branched, copied, ditaval_in, filter_by, filter_named, filter_read, marked}
-use Rattle.map_spec.specs.Cascade.{cascaded}
+use Rattle.map_spec.specs.Branches.{Branch, copied, ditaval_in, filter_by, filter_named, filter_read, marked}
 use Rattle.map_spec.specs.Elements.{attribute}
-use Rattle.map_spec.specs.Included.{included, included_from, is_map, root_in}
+use Rattle.map_spec.specs.Included.{included}
 use Rattle.map_spec.specs.Judged.{filtered}
 use Rattle.map_spec.specs.MapTree.{Grown, Head, MapTree, MapNode, NoNodes, plan_nodes}
-use Rattle.map_spec.specs.PlanOf.{build_rules, grown_from, limits, plan_of, plan_of_map, plan_of_root, plan_of_tree, plan_with, then_plan}
+use Rattle.map_spec.specs.PlanOf.{limits}
 use Rattle.map_spec.specs.Target.{Named, Document, Elsewhere, Unreadable, named_of}
 use Rattle.map_spec.specs.Written.{Element, Whole, element_in}
 use Rattle.reader_spec.specs.World.{World}
 use Rattle.readers.proofs.AmongLaws.{among_either}
 use Rattle.readers.specs.Founded.{is_among}
-
--- The steps of a plan
-
-pub record IsPlanMade (world : World) (map : List ℕ) (val : Option (List ℕ)) (plan : Plan) : Type 0 where
-  pub read : RulesRead
-  pub rules : build_rules world val ≡ Ok read
-  pub grown : Grown
-  pub was : included limits.nodes world map ≡ Ok grown
-  pub nodes : plan.nodes ≡ made world (plan_nodes (copied world (filtered world read.rules grown.tree).tree))
-
-of_tree : (world : World) (before : List Fault) (grown : Grown) (plan : Plan)
-    → plan_of_tree limits world before grown ≡ Ok plan → plan.nodes ≡ made world (plan_nodes grown.tree)
-of_tree world before grown plan is =
-    let whole = plan_with world (before ++ grown.faults) (cascaded world (plan_nodes grown.tree)) in
-    let given = if_done _ (Ok whole) _ plan is in
-    let same : whole ≡ plan = cc in
-    ap (λ (p : Plan). p.nodes) (sym same)
-
-of_map : (world : World) (read : RulesRead) (grown : Grown) (plan : Plan)
-    → plan_of_map limits world read grown ≡ Ok plan
-    → plan.nodes ≡ made world (plan_nodes (copied world (filtered world read.rules grown.tree).tree))
-of_map world read grown plan is =
-    let judged = filtered world read.rules grown.tree in
-    let step = steps_from (branched limits.nodes world judged.tree)
-    (plan_of_tree limits world (read.faults ++ grown.faults ++ judged.faults)) plan is in
-    of_tree world (read.faults ++ grown.faults ++ judged.faults) step.from plan step.gave
-    ∙ ap (λ (g : Grown). made world (plan_nodes g.tree)) (sym (within limits.nodes _ step.from step.was))
-
-of_root : (world : World) (map : List ℕ) (val : Option (List ℕ)) (root : Option Whole) (plan : Plan)
-    → root_in world map ≡ root → plan_of_root limits world map val root ≡ Ok plan → IsPlanMade world map val plan
-of_root world map val None plan there is = absurd (cc)
-of_root world map val (Some root) plan there is =
-    let given = if_done (is_map root) _ _ plan is in
-    let read = steps_from (build_rules world val)
-    (λ read. then_plan (grown_from limits world map root) (plan_of_map limits world read)) plan given in
-    let grown = steps_from (grown_from limits world map root) (plan_of_map limits world read.from) plan read.gave in
-    record {
-      read = read.from;
-      rules = read.was;
-      grown = grown.from;
-      was = ap (included_from limits.nodes world map) there ∙ grown.was;
-      nodes = of_map world read.from grown.from plan grown.gave;
-    }
-
-pub plan_made : (world : World) (map : List ℕ) (val : Option (List ℕ)) (plan : Plan)
-    → plan_of limits world map val ≡ Ok plan → IsPlanMade world map val plan
-unfolding plan_of
-plan_made world map val plan is = of_root world map val (root_in world map) plan refl is
 
 -- Elements and DITAVALs that there are
 
@@ -197,11 +147,11 @@ nodes_like world nodes others alike all at node there = node_like world (slice_g
     (same_node nodes others alike at ∙ ap (option_map plain) there) (all at)
 
 pub nodes_grounded : (world : World) (map : List ℕ) (val : Option (List ℕ)) (plan : Plan)
-    → IsPlanMade world map val plan
+    → IsPlanMade limits world map val plan
     → (at : ℕ) (node : PlanNode) → slice_get plan.nodes at ≡ Some node → IsNodeGrounded world node
 nodes_grounded world map val plan is at node there =
-    let tree = copied world (filtered world is.read.rules is.grown.tree).tree in
+    let tree = tree_left world is.read is.grown in
     let all = tree_grounded limits.nodes world map is.read is.grown is.was in
     nodes_like world (plan_nodes tree) (made world (plan_nodes tree)) (alike_made world (plan_nodes tree))
     (λ own found is_there. node_at (IsGrounded world) (IsNodeGrounded world) (λ head parent end grounded. grounded) 0 0
-    tree own found all is_there) at node (subst (λ nodes. slice_get nodes at ≡ Some node) is.nodes there)
+    tree own found all is_there) at node (subst (λ (p : Plan). slice_get p.nodes at ≡ Some node) is.of.is there)

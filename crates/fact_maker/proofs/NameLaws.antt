@@ -1,12 +1,10 @@
 -- The names that the parts of a plan are about are known by the questions of the plan: those of its elements, since the
 -- documents in which they stand were asked for.
-use Rattle.std.specs.Prelude.{◌≡◌, ◌+◌, ◌-◌, ◌==◌, ◌⊎◌, ◌++◌, ℕ, Bool, true, false, List, [], ◌∷◌, Option, Some, None, IsTrue, map, nat_lt, option_map, slice_get, if◌then◌else◌}
-use Rattle.std.specs.List.{flat_map}
+use Rattle.std.specs.Prelude.{◌≡◌, ◌+◌, ◌-◌, ◌⊎◌, ◌++◌, ℕ, Bool, true, false, List, [], ◌∷◌, Option, Some, None, IsTrue, map, option_map, slice_get, if◌then◌else◌}
 use Rattle.std.specs.Option.{option_and_then}
-use Rattle.std.proofs.Common.{refl, sym, ap, subst, ◌∙◌, inl, inr}
+use Rattle.std.proofs.Common.{refl, sym, subst, ◌∙◌, inl, inr}
 use Rattle.std.proofs.Math.Logic.{⊎_elim}
 use Rattle.std.proofs.lemmas.Bool.{false≢true, or_cases, or_left}
-use Rattle.std.proofs.lemmas.Grind.{flat_map-append}
 use Rattle.std.proofs.lemmas.Option.{slice_get-map}
 use Rattle.dita_doc.specs.Tree.{Content}
 use Rattle.dita_doc.specs.declared.plan.PlanNode.{PlanNode}
@@ -21,16 +19,14 @@ use Rattle.fact_judge.specs.Founded.{names_in_question, names_of_answer}
 use Rattle.fact_judge.specs.Order.{InOrder, given_by}
 use Rattle.map_spec.specs.Cascade.{whole_at}
 use Rattle.map_spec.specs.Judged.{has_element}
-use Rattle.map_spec.specs.Written as written
-use Rattle.map_spec.specs.Written.{Element, Whole, Written, element_at, element_in, elements_below, size, written_in}
+use Rattle.map_spec.specs.Written.{Whole, element_at, element_in, written_in}
+use Rattle.plan_nodes.proofs.ToldLaws.{element_told, was_told, was_told_later}
 use Rattle.plan_nodes.specs.Given.{AreTold, IsTold}
 use Rattle.reader_spec.specs.World.{World}
 use Rattle.readers.proofs.AmongLaws.{among_back, among_either, among_front}
-use Rattle.readers.proofs.DocumentLaws.{may_ask_before}
 use Rattle.readers.proofs.FoundedLaws.{among_one, root_allowed}
 use Rattle.readers.proofs.GrowthLaws.{allowed_before, grows_one, grows_same, grows_trans}
 use Rattle.readers.specs.Founded.{Grows, is_allowed, is_among}
-use Rattle.readers.specs.Named.{names_in, names_of_element}
 use Rattle.readers.specs.Noted.{told_asked, told_in}
 use Rattle.readers.specs.Setting.{no_setting}
 use Rattle.readers.specs.Told.{Told, document, tree_found}
@@ -153,71 +149,16 @@ was_found world ts (one ∷ more) are m among = among_either (document_in one.qu
 
 -- So its elements were told
 
-behind_if : (test : Bool) (more : Option Whole) (whole : Whole) → (if test then None else more) ≡ Some whole
-    → more ≡ Some whole
-behind_if true more whole is = cc
-behind_if false more whole is = is
-
-some_of : (first past : Bool) (here behind inside : Option Whole) (whole : Whole)
-    → (if first then here else if past then behind else inside) ≡ Some whole
-    → (here ≡ Some whole) ⊎ ((behind ≡ Some whole) ⊎ (inside ≡ Some whole))
-some_of true past here behind inside whole is = inl is
-some_of false true here behind inside whole is = inr (inl is)
-some_of false false here behind inside whole is = inr (inr is)
-
-module _ (F : Written → List (List ℕ)) (f : Element → List (List ℕ))
-    (chars : (text other : List ℕ) (rest : Written) → F (written.Chars text other rest) ≡ F rest)
-    (child : (element : Element) (inside rest : Written)
-    → F (written.Node element inside rest) ≡ f element ++ (F inside ++ F rest))
-    (m : List ℕ) where
-  among_at : (nodes : Written) (place : ℕ) (whole : Whole) → element_at nodes place ≡ Some whole
-      → IsTrue (is_among (f whole.0) m) → IsTrue (is_among (F nodes) m)
-  among_at written.End place whole is among = cc
-  among_at (written.Chars text other rest) place whole is among =
-      subst (λ l. IsTrue (is_among l m)) (sym (chars text other rest))
-      (among_at rest (place - 1) whole (behind_if (place == 0) _ whole is) among)
-  among_at (written.Node element inside rest) place whole is among =
-      subst (λ l. IsTrue (is_among l m)) (sym (child element inside rest)) (⊎_elim
-      (λ here. let same : whole.0 ≡ element = cc in
-      among_front (f element) _ m (subst (λ e. IsTrue (is_among (f e) m)) same among))
-      (⊎_elim
-      (λ behind. among_back (f element) _ m (among_back (F inside) _ m
-      (among_at rest (place - (1 + size inside)) whole behind among)))
-      (λ within. among_back (f element) _ m (among_front (F inside) _ m
-      (among_at inside (place - 1) whole within among))))
-      (some_of (place == 0) (nat_lt (size inside) place) (Some (element, inside)) _ _ whole is))
-
-abbrev given : (Element → List (List ℕ)) → Written → List (List ℕ)
-given gives nodes = flat_map (λ (whole : Whole). gives whole.0) (elements_below nodes)
-
-given_child : (gives : Element → List (List ℕ)) (element : Element) (inside rest : Written)
-    → given gives (written.Node element inside rest) ≡ gives element ++ (given gives inside ++ given gives rest)
-given_child gives element inside rest =
-    ap (λ l. gives element ++ l)
-    (flat_map-append (λ (whole : Whole). gives whole.0) (elements_below inside) (elements_below rest))
-
-element_told : (told : List Told) (name : List ℕ) (tree : Content) (old : List Told) (place : ℕ) (whole : Whole)
-    → Grows (document name (Some tree) ∷ old) told → element_at (written_in name tree) place ≡ Some whole
-    → IsTold told whole.0
-element_told told name tree old place whole grows is = record {
-  allowed = λ roots m among. allowed_before roots (document name (Some tree) ∷ old) told m grows
-      (or_left (is_among (names_in (written_in name tree)) m) _
-      (among_at names_in names_of_element (λ text other rest. refl) (λ element inside rest. refl) m
-      (written_in name tree) place whole is among));
-  may = λ rule gives roots follows m among. may_ask_before rule roots (document name (Some tree) ∷ old) told m grows
-      (or_left (is_among (rule (document name (Some tree))) m) _ (follows.each name tree m
-      (among_at (given gives) gives (λ text other rest. refl) (given_child gives) m (written_in name tree) place whole
-      is among)));
-}
-
 told_by_tree : (world : World) (told : List Told) (name : List ℕ) (place : ℕ) (whole : Whole) (found tree : Option Content)
     (old : List Told) → Grows (document name tree ∷ old) told → found ≡ tree
     → option_and_then (λ nodes. element_at nodes place) (option_map (written_in name) found) ≡ Some whole
     → IsTold told whole.0
 told_by_tree world told name place whole None tree old grows same is = cc
 told_by_tree world told name place whole (Some content) tree old grows same is =
-    element_told told name content old place whole
-    (subst (λ (t : Option Content). Grows (document name t ∷ old) told) (sym same) grows) is
+    let t : Told = document name (Some content) in
+    element_told told name content place whole (was_told_later (t ∷ old) told t
+    (subst (λ (t : Option Content). Grows (document name t ∷ old) told) (sym same) grows)
+    (was_told t old (t ∷ old) refl)) is
 
 node_told : (world : World) (told : List Told) (name : List ℕ) (place : ℕ) (whole : Whole) → WasFound world told name
     → element_in world name place ≡ Some whole → IsTold told whole.0

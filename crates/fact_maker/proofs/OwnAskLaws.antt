@@ -12,11 +12,11 @@ use Rattle.dita_doc.specs.declared.question.Asked.{Asked}
 use Rattle.dita_doc.specs.declared.question.Question.{Question}
 use Rattle.dita_doc.specs.declared.question.Question.TheVariants as questions
 use Rattle.fact_judge.specs.Asks.{AskNoKey, IsNoKey, document_in, nothing_given, whole_documents}
-use Rattle.fact_judge.specs.Order.{AreAmong, InOrder}
+use Rattle.fact_judge.specs.Order.{InOrder}
 use Rattle.readers.proofs.AmongLaws.{among_front}
 use Rattle.readers.proofs.FoundedLaws.{among_one}
 use Rattle.readers.specs.Documents.{documents_asked}
-use Rattle.readers.specs.Founded.{is_among}
+use Rattle.readers.specs.Founded.{AreAmong, is_among}
 use Rattle.readers.specs.Noted.{answered_of, if_answered, told_asked, told_by, told_of, told_onto}
 use Rattle.readers.specs.Setting.{Setting}
 use Rattle.readers.specs.Told.{Told, key}

@@ -15,10 +15,11 @@ use Rattle.dita_doc.specs.declared.question.Question.{Question}
 use Rattle.dita_doc.specs.declared.question.Question.TheVariants as questions
 use Rattle.fact_judge.specs.Answer.{AreAnswers, IsAnswer}
 use Rattle.fact_judge.specs.Asks.{AskNoKey, IsNoKey}
-use Rattle.fact_judge.specs.Order.{AreAmong, InOrder}
+use Rattle.fact_judge.specs.Order.{InOrder}
 use Rattle.fact_judge.specs.Sound.{IsPage}
 use Rattle.facts.specs.declared.fact.PlanFact.{PlanFact}
 use Rattle.reader_spec.specs.World.{World}
+use Rattle.readers.specs.Founded.{AreAmong}
 use Rattle.readers.specs.Props.{Holds-prop}
 use Rattle.readers.specs.Setting.{Setting, no_setting}
 use Rattle.readers.specs.Noted.{told_by}

@@ -1,16 +1,16 @@
 -- Which questions are put for the links of a plan (own). `Made` of `toc_page`, which stands beside this crate, says in
--- the same words which pages and titles are asked for.
-use Rattle.std.specs.Prelude.{◌&&◌, ◌||◌, ℕ, Bool, false, List, [], Option, Some, None, bytes_eq, slice_get}
-use Rattle.std.specs.List.{list_all, list_any}
+-- the same words which pages are asked for.
+use Rattle.std.specs.Prelude.{◌||◌, ℕ, Bool, false, List, Option, Some, slice_get}
+use Rattle.std.specs.List.{list_any}
 use Rattle.dita_doc.specs.declared.plan.Plan.{Plan}
 use Rattle.dita_doc.specs.declared.plan.PlanNode.{PlanNode}
-use Rattle.link_groups.specs.LinkNodes.{map_of, names_of_pages}
-use Rattle.link_spec.specs.Links.{context_of, plan_target}
+use Rattle.link_groups.specs.LinkNodes.{names_of_pages}
+use Rattle.link_spec.specs.Links.{context_of, map_of, plan_target}
 use Rattle.map_spec.specs.Pages.{local_name}
 use Rattle.map_spec.specs.Scopes.{places}
-use Rattle.readers.specs.Founded.{homes, is_among}
-use Rattle.readers.specs.Only.{is_document_of, is_page_in}
-use Rattle.readers.specs.Told.{Told, title, pending}
+use Rattle.readers.specs.Founded.{homes}
+use Rattle.readers.specs.Only.{is_document_of, is_page_in, is_title_among}
+use Rattle.readers.specs.Told.{Told}
 
 -- it asks for the page of the document that a node leads to, in the node's own context, of a build of the plan's map
 abbrev pub is_page_by : Plan → Option PlanNode → Option (List ℕ) → Told → Bool
@@ -27,12 +27,6 @@ is_page_of_nodes plan t = list_any (is_page_at plan t) (places plan.nodes)
 -- no kind, no title and no first topic
 abbrev pub is_of_links : Plan → Told → Bool
 is_of_links plan t = is_document_of (homes plan.nodes) t || is_page_of_nodes plan t
-
--- it asks for the title of one of these documents
-abbrev pub is_title_among : List (List ℕ) → Told → Bool
-is_title_among names (title name topic text) = is_among names name && bytes_eq [] topic
-is_title_among names (pending about) = list_all (is_among names) about
-is_title_among names _ = false
 
 -- it asks for the title of the document of a page of the plan
 abbrev pub is_title_of_pages : Plan → Told → Bool

@@ -1,9 +1,8 @@
 -- The nodes that links go from and to (own; DITA 1.3, "The @linking attribute"), and those that were found before.
-use Rattle.std.specs.Prelude.{◌≡◌, ◌⊎◌, ℕ, Bool, List, [], ◌∷◌, ◌++◌, Option, Some, None, map, option_map, slice_get, unwrap_or, codes}
+use Rattle.std.specs.Prelude.{◌≡◌, ◌⊎◌, ℕ, Bool, List, [], ◌∷◌, ◌++◌, Option, Some, map, option_map, slice_get, unwrap_or, codes}
 use Rattle.std.specs.BTreeMap.{is_at}
 use Rattle.std.specs.List.{filter_map}
 use Rattle.std.specs.Map.{lookup}
-use Rattle.std.specs.Option.{option_map_or}
 use Rattle.std.specs.Ordering.{nat_cmp}
 use Rattle.dita_doc.specs.ClassValue.{value_of}
 use Rattle.dita_doc.specs.declared.plan.Context.{Context}
@@ -13,7 +12,7 @@ use Rattle.dita_doc.specs.declared.plan.PlanNode.{PlanNode}
 use Rattle.link_groups.specs.declared.link_nodes.LinkNode.{LinkNode}
 use Rattle.link_groups.specs.declared.link_nodes.LinkNodes.{LinkNodes}
 use Rattle.map_spec.specs.Pages.{local_name}
-use Rattle.link_spec.specs.Links.{cascaded_at, context_of, is_one_of, page_of_node, plan_target}
+use Rattle.link_spec.specs.Links.{cascaded_at, is_one_of, page_of_node, plan_target, use_of}
 use Rattle.reader_spec.specs.World.{World}
 use Rattle.readers.specs.Founded.{homes}
 use Rattle.readers.specs.Told.{Told, page_of}
@@ -54,16 +53,7 @@ with_linking at linking page = record {
 abbrev pub link_node_of : Option ℕ → ℕ → PlanNode → Option LinkNode
 link_node_of page at node = option_map (with_linking at (linking_of node)) page
 
--- the document of a plan's map, as one of its nodes knows it
-abbrev pub map_of : Plan → PlanNode → List ℕ
-map_of plan node = option_map_or (λ (root : PlanNode). root.doc) (slice_get plan.nodes 0) node.doc
-
 -- What was asked
-
--- where a document is used by a node of a plan: the map is the plan's, and no DITAVAL is named
-abbrev pub use_of : Plan → PlanNode → List ℕ → Context
-use_of plan node name =
-    record { map = map_of plan node; val = None; page = context_of node name; name = name }
 
 -- one question was put: for the page of this document in this context
 pub record AsksPage (pages : List PagePlan) (name : List ℕ) (context : Context) (old new : List Told) : Type 0 where

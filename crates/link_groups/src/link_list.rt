@@ -13,6 +13,7 @@ ghost use Rattle.reader_spec.specs.World.{World};
 ghost use Rattle.readers.specs.Documents as documents_spec;
 ghost use Rattle.readers.specs.Documents.{AsksOnly};
 ghost use Rattle.readers.specs.Founded.{Grows, StaysFounded};
+ghost use Rattle.readers.specs.Only as only_spec;
 ghost use Rattle.readers.specs.Only.{TellsOnly};
 ghost use Rattle.readers.specs.Told.{Agrees};
 
@@ -141,7 +142,7 @@ fn all_written<A: Asker>(
         (A.told asker.new) }
     ensures asks { AsksOnly documents_spec.nothing [] (A.told asker.old) (A.told asker.new) }
     ensures only { OnOk result (TellsOnly
-        (asked_spec.is_title_among (link_nodes_spec.names_of_pages pages.now))
+        (only_spec.is_title_among (link_nodes_spec.names_of_pages pages.now))
         (A.told asker.old) (A.told asker.new)) }
     ensures grows { Grows (A.told asker.old) (A.told asker.new) }
 {
@@ -170,7 +171,7 @@ fn put_link<A: Asker>(
         (A.told asker.new) }
     ensures asks { AsksOnly documents_spec.nothing [] (A.told asker.old) (A.told asker.new) }
     ensures only { OnOk result (TellsOnly
-        (asked_spec.is_title_among (link_nodes_spec.names_of_pages pages.now))
+        (only_spec.is_title_among (link_nodes_spec.names_of_pages pages.now))
         (A.told asker.old) (A.told asker.new)) }
     ensures grows { Grows (A.told asker.old) (A.told asker.new) }
 {
@@ -203,7 +204,7 @@ fn link_to<A: Asker>(
     ensures founded { StaysFounded (other.now.id.doc ∷ []) (A.told asker.old)
         (A.told asker.new) }
     ensures asks { AsksOnly documents_spec.nothing [] (A.told asker.old) (A.told asker.new) }
-    ensures only { OnOk result (TellsOnly (asked_spec.is_title_among (other.now.id.doc ∷ []))
+    ensures only { OnOk result (TellsOnly (only_spec.is_title_among (other.now.id.doc ∷ []))
         (A.told asker.old) (A.told asker.new)) }
     ensures grows { Grows (A.told asker.old) (A.told asker.new) }
 {

@@ -128,7 +128,7 @@ fn link_node_of<A: Asker>(
         → IfOk result (λ found. found ≡ spec.link_node_of (page_for (A.stand asker.old).setting.pages
         name.now (links_spec.context_of node.now name.now)) at node.now) }
     ensures asked { OnOk result (spec.AsksPage (A.stand asker.old).setting.pages name.now
-        (spec.use_of plan.now node.now name.now) (A.told asker.old) (A.told asker.new)) }
+        (links_spec.use_of plan.now node.now name.now) (A.told asker.old) (A.told asker.new)) }
     ensures stand { A.stand asker.new ≡ A.stand asker.old }
     ensures founded { StaysFounded (name.now ∷ []) (A.told asker.old) (A.told asker.new) }
     ensures asks { AsksOnly documents_spec.nothing [] (A.told asker.old) (A.told asker.new) }
@@ -176,7 +176,7 @@ fn context_of(
     node: &PlanNode,
     name: &Name,
 ) -> Result<Arc<Context>, NoMemory>
-    ensures whole { IfOk result (λ context. arc_value context ≡ spec.use_of plan.now node.now name.now) }
+    ensures whole { IfOk result (λ context. arc_value context ≡ links_spec.use_of plan.now node.now name.now) }
     ensures page { IfOk result (λ context.
         (arc_value context).page ≡ links_spec.context_of node.now name.now) }
 {
@@ -197,7 +197,7 @@ fn context_of(
 
 // The document of the plan's map, in which its first node stands.
 fn map_of<'p>(plan: &'p Plan, node: &'p PlanNode) -> &'p Name
-    ensures { result.now ≡ spec.map_of plan.now node.now }
+    ensures { result.now ≡ links_spec.map_of plan.now node.now }
 {
     match node_at(plan, 0) {
         Some(root) => &root.doc,

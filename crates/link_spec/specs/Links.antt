@@ -8,6 +8,7 @@ use Rattle.dita_doc.specs.declared.content.LinkKind.TheVariants as links
 use Rattle.dita_doc.specs.declared.content.PageLink.{PageLink}
 use Rattle.dita_doc.specs.declared.fault.Fault.{Fault}
 use Rattle.dita_doc.specs.declared.fault.FaultCode.TheVariants as faults
+use Rattle.dita_doc.specs.declared.plan.Context.{Context}
 use Rattle.dita_doc.specs.declared.plan.PageId.{PageId}
 use Rattle.dita_doc.specs.declared.plan.PagePlan.{PagePlan}
 use Rattle.dita_doc.specs.declared.plan.Plan.{Plan}
@@ -30,6 +31,15 @@ use Rattle.map_spec.specs.Titles.{title_in}
 abbrev pub context_of : PlanNode → List ℕ → PageId
 context_of node name =
     record { doc = name; scope = node.scope; filters = node.filters; affixes = node.affixes }
+
+-- the document of a plan's map, as one of its nodes knows it
+abbrev pub map_of : Plan → PlanNode → List ℕ
+map_of plan node = option_map_or (λ (root : PlanNode). root.doc) (slice_get plan.nodes 0) node.doc
+
+-- where a document is used by a node of a plan: the map is the plan's, and no DITAVAL is named
+abbrev pub use_of : Plan → PlanNode → List ℕ → Context
+use_of plan node name =
+    record { map = map_of plan node; val = None; page = context_of node name; name = name }
 
 abbrev pub plan_target : Plan → ℕ → Target
 plan_target plan at = unwrap_or (slice_get plan.targets at) targets.Nothing

@@ -6,8 +6,7 @@ use Rattle.conref_push.specs.Into.{froms}
 use Rattle.dita_doc.specs.declared.content.PushList.{PushList}
 use Rattle.dita_doc.specs.declared.plan.PlanNode.{PlanNode}
 use Rattle.plan_layer.specs.Carried.{CarriesFrom, WereAllowed}
-use Rattle.plan_layer.specs.Passing.{AreAmong}
-use Rattle.readers.specs.Founded.{AreAllowed, Grows, IsFounded, StaysFounded, homes, is_among, names_asked, names_given}
+use Rattle.readers.specs.Founded.{AreAllowed, AreAmong, Grows, IsFounded, StaysFounded, homes, is_among, names_asked, names_given}
 use Rattle.readers.specs.Noted.{told_of, told_onto}
 use Rattle.readers.specs.Setting.{Setting}
 use Rattle.readers.specs.Told.{Told, Holds, Knows, pending, pending_document}

@@ -14,10 +14,9 @@ use Rattle.map_spec.specs.Elements.{attribute}
 use Rattle.map_spec.specs.Written.{written_in}
 use Rattle.map_spec.specs.Places.{Standing, all_standing}
 use Rattle.map_spec.specs.Pushes.{AllPushes, PushInto, PushTarget, Pushing, all_pushes, is_into, is_replaced_by, no_pushes, push_kind, push_of, pushes_behind, pushes_into, pushing_at, pushing_in, pushing_of, twice_fault, with_pushing}
-use Rattle.plan_layer.specs.Passing.{AreAmong}
 use Rattle.reader_spec.specs.World.{World}
 use Rattle.map_lemmas.proofs.PlacedLaws.{InDocument, standing_of}
-use Rattle.readers.specs.Founded.{is_among}
+use Rattle.readers.specs.Founded.{AreAmong, is_among}
 use Rattle.readers.proofs.FoundedLaws.{among_behind, among_first}
 use Rattle.conref_push.proofs.TableLaws.{push_in}
 

@@ -7,7 +7,7 @@ use Rattle.dita_doc.specs.declared.content.PushList.{PushList}
 use Rattle.dita_doc.specs.declared.plan.Context.{Context}
 use Rattle.dita_doc.specs.declared.plan.PagePlan.{PagePlan}
 use Rattle.readers.specs.Documents.{AskedBy, Follows, may_ask}
-use Rattle.readers.specs.Founded.{is_among}
+use Rattle.readers.specs.Founded.{AreAmong, is_among}
 use Rattle.readers.specs.Props.{AskedBy-prop}
 use Rattle.readers.specs.Told.{Told, pushes, page_of, pending_document, pending}
 
@@ -20,10 +20,6 @@ pub record FollowsPlan (rule : Follows) : Type 0 where
       → rule (page_of pages name context answer) ≡ []
   pub tried : (names : List (List ℕ)) → rule (pending names) ≡ []
   pub sought : (name : List ℕ) → rule (pending_document name) ≡ []
-
--- some names are among others
-pub record AreAmong (some all : List (List ℕ)) : Type 0 where
-  pub each : (m : List ℕ) → IsTrue (is_among some m) → IsTrue (is_among all m)
 
 -- by such rules, where the documents of the plan are roots: what may be asked for above may be below, and if all that was
 -- asked for above might be, so might all below

@@ -1,8 +1,9 @@
 -- Nodes in preorder: the places from each up go on from its parent, and what is known of each place before one.
-use Rattle.std.specs.Prelude.{◌≡◌, ◌+◌, ◌<◌, ◌≤◌, ◌==◌, ℕ, zero, suc, Bool, true, false, List, [], ◌∷◌, ◌++◌, Option, Some, None, map, length, slice_get, take, if◌then◌else◌}
-use Rattle.std.specs.List.{filter_map}
+use Rattle.std.specs.Prelude.{◌≡◌, ◌+◌, ◌<◌, ◌≤◌, ◌==◌, ℕ, zero, suc, Bool, true, false, List, [], ◌∷◌, ◌++◌, Option, Some, None, IsTrue, map, length, slice_get, take, if◌then◌else◌}
+use Rattle.std.specs.List.{filter_map, list_any}
 use Rattle.std.specs.Option.{option_map_or}
-use Rattle.std.proofs.Common.{refl, ap, ◌∙◌, arith, get_or, eqb}
+use Rattle.std.proofs.Common.{refl, ap, subst, ◌∙◌, arith, get_or, eqb}
+use Rattle.std.proofs.lemmas.Bool.{or_left, or_right}
 use Rattle.std.proofs.lemmas.Bool.Decides.{nat_tests}
 use Rattle.std.proofs.lemmas.List.{length-take, map-append, take_more}
 use Rattle.dita_doc.specs.declared.plan.PlanNode.{PlanNode}
@@ -98,3 +99,21 @@ pub known_more : {X : Type 0} (f : ℕ → X) (nodes : List PlanNode) (at : ℕ)
     → known f nodes (at + 1) ≡ known f nodes at ++ f at ∷ []
 known_more f nodes at node within =
     ap (map f) (place_more nodes at node within) ∙ map-append f (places (take at nodes)) (at ∷ [])
+
+-- A test that holds at the place of a node
+
+any_from : (test : ℕ → Bool) (nodes : List PlanNode) (from at place : ℕ) (node : PlanNode)
+    → slice_get nodes at ≡ Some node → from + at ≡ place → IsTrue (test place)
+    → IsTrue (list_any test (places_from from nodes))
+any_from test [] from zero place node there sum here = cc
+any_from test [] from (suc at) place node there sum here = cc
+any_from test (head ∷ nodes) from zero place node there sum here =
+    let same : place ≡ from = omega (arith, sum) in
+    or_left (test from) _ (subst (λ n. IsTrue (test n)) same here)
+any_from test (head ∷ nodes) from (suc at) place node there sum here =
+    let next : (from + 1) + at ≡ place = omega (arith, sum) in
+    or_right (test from) _ (any_from test nodes (from + 1) at place node there next here)
+
+pub any_at : (test : ℕ → Bool) (nodes : List PlanNode) (at : ℕ) (node : PlanNode) → slice_get nodes at ≡ Some node
+    → IsTrue (test at) → IsTrue (list_any test (places nodes))
+any_at test nodes at node there here = any_from test nodes 0 at at node there (omega arith) here

@@ -26,13 +26,13 @@ use Rattle.plan_nodes.specs.declared.node_elements.NamedDoc.{NamedDoc}
 
 -- Documents, one told after the other
 
-was_told : (t : Told) (old new : List Told) → new ≡ t ∷ old → WasTold new t
+pub was_told : (t : Told) (old new : List Told) → new ≡ t ∷ old → WasTold new t
 was_told t old new is = record {
   allowed = λ roots. (given_allowed roots t old new is).each;
   may = λ rule roots. (follows_may rule rule roots t old new (covers_same rule) is).each;
 }
 
-was_told_later : (old new : List Told) (t : Told) → Grows old new → WasTold old t → WasTold new t
+pub was_told_later : (old new : List Told) (t : Told) → Grows old new → WasTold old t → WasTold new t
 was_told_later old new t grows was = record {
   allowed = λ roots m among. allowed_before roots old new m grows (was.allowed roots m among);
   may = λ rule roots m among. may_ask_before rule roots old new m grows (was.may rule roots m among);
@@ -115,24 +115,25 @@ given_child gives element inside rest =
 
 -- So it was told
 
-element_told : (told : List Told) (named : NamedDoc) (place : ℕ) (whole : Whole) → WasTold told (told_of named)
-    → element_at (written_in named.name (tree_of (arc_value named.doc).nodes)) place ≡ Some whole
+-- an element of a document that was told under this name
+pub element_told : (told : List Told) (name : List ℕ) (tree : Content) (place : ℕ) (whole : Whole)
+    → WasTold told (document name (Some tree)) → element_at (written_in name tree) place ≡ Some whole
     → IsTold told whole.0
-element_told told named place whole was is =
-    let tree : Content = tree_of (arc_value named.doc).nodes in
-    let nodes : Written = written_in named.name tree in
+element_told told name tree place whole was is =
+    let nodes : Written = written_in name tree in
     record {
       allowed = λ roots m among. was.allowed roots m
           (among_at names_in names_of_element (λ text other rest. refl) (λ element inside rest. refl) m
           nodes place whole is among);
-      may = λ rule gives roots follows m among. was.may rule roots m (follows.each named.name tree m
+      may = λ rule gives roots follows m among. was.may rule roots m (follows.each name tree m
           (among_at (given gives) gives (λ text other rest. refl) (given_child gives) m nodes place whole is among));
     }
 
 told_at : (told : List Told) (docs : List NamedDoc) (at place : ℕ) (whole : Whole) → AreToldDocs told docs
     → whole_in (document_at docs (Some at)) place ≡ Some whole → IsTold told whole.0
 told_at told [] at place whole are is = cc
-told_at told (named ∷ docs) zero place whole are is = element_told told named place whole are.0 is
+told_at told (named ∷ docs) zero place whole are is =
+    element_told told named.name (tree_of (arc_value named.doc).nodes) place whole are.0 is
 told_at told (named ∷ docs) (suc at) place whole are is = told_at told docs at place whole are.1 is
 
 home_told : (told : List Told) (docs : List NamedDoc) (home : Option Home) (whole : Whole) → AreToldDocs told docs

@@ -12,7 +12,7 @@ use std::sync::Arc;
 /// A reader over sources with titles that are lent to it. It was made for no map and no plan. What
 /// it is asked is put into a list that is lent to it too.
 #[derive(Drop)]
-pub struct AsideReader<'k, 'q, 'a> {
+pub(crate) struct AsideReader<'k, 'q, 'a> {
     pub known: &'k mut KnownTitles<'a>,
     pub asked: &'q mut Questions,
     pub ghost agreed: { stored_spec.AreAnswers known.now.sources.now asked.now } by { Prim.hlevel Agrees-prop },

@@ -75,8 +75,9 @@ impl<'a, 'n> Keys for PlanReader<'a, 'n> {
     }
 }
 
-// What a key gives, by a reader whose questions are let go.
-fn answer_aside<'a>(
+/// What a key gives in a scope of a plan, by elements and scopes that are right over the sources of
+/// these titles. It is found by a reader whose questions are let go.
+pub fn answer_aside<'a>(
     alloc: Global,
     known: &mut KnownTitles<'a>,
     nodes: &List<PlanNode>,

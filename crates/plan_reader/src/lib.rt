@@ -12,7 +12,7 @@ mod calls;
 mod reader;
 mod tables;
 
-pub use aside::AsideReader;
 pub use cache::PlanCache;
+pub use calls::answer_aside;
 pub use reader::PlanReader;
 pub use tables::PlanTables;

@@ -1,7 +1,7 @@
 -- Which questions are told by calls one after another.
-use Rattle.std.proofs.Common.{◌≡◌, ◌++◌, ◌||◌, ℕ, Bool, false, List, [], ◌∷◌, Option, IsTrue, Result, Ok, Err, IfOk, map, sym, ap, subst, refl, ◌∙◌, append_assoc}
+use Rattle.std.proofs.Common.{◌≡◌, ◌++◌, ◌||◌, ℕ, Bool, true, false, List, [], ◌∷◌, Option, None, IsTrue, Result, Ok, Err, IfOk, bytes_eq, map, sym, ap, subst, refl, ◌∙◌, append_assoc}
 use Rattle.std.proofs.Math.Logic.{∥∥₁_elim}
-use Rattle.std.proofs.lemmas.Bool.{and_from, and_parts, false≢true, or_left, or_right}
+use Rattle.std.proofs.lemmas.Bool.{and_from, and_parts, eq-eqb, false≢true, or_left, or_right}
 use Rattle.std.proofs.lemmas.List.Folds.{list_all-append}
 use Rattle.std.proofs.lemmas.Result.{IfOk-weaker}
 use Rattle.std.proofs.lemmas.Slice.Eq.{bytes_eq-Decides}
@@ -9,13 +9,17 @@ use Rattle.std.specs.List.{list_all}
 use Rattle.dita_doc.specs.Tree.{Content}
 use Rattle.dita_doc.specs.declared.content.Push.{Push}
 use Rattle.dita_doc.specs.declared.content.PushList.{PushList}
+use Rattle.dita_doc.specs.declared.plan.Affix.{Affix}
+use Rattle.dita_doc.specs.declared.plan.PageId.{PageId}
+use Rattle.dita_doc.specs.declared.plan.PagePlan.{PagePlan}
 use Rattle.dita_doc.specs.declared.plan.Reference.{Reference}
 use Rattle.dita_doc.specs.declared.plan.Target.{Target}
 use Rattle.dita_doc.specs.declared.plan.Target.TheVariants as targets
+use Rattle.map_spec.specs.Pages.{are_same_affixes, are_same_texts, is_same_page}
 use Rattle.map_spec.specs.Pushes.{pushes_into}
 use Rattle.reader_spec.specs.World.{World}
-use Rattle.readers.specs.Founded.{Grows, is_among}
-use Rattle.readers.specs.Only.{TellsOnly, is_document_of, is_of_pushed, is_pushes_of, is_title_at, is_title_of, sources_of}
+use Rattle.readers.specs.Founded.{AreAmong, Grows, is_among}
+use Rattle.readers.specs.Only.{TellsOnly, is_document_of, is_of_pushed, is_page_in, is_pushes_of, is_title_among, is_title_at, is_title_of, sources_of}
 use Rattle.readers.specs.Told.{Told, document, kind, title, first, key, pushes, page_of, pending, pending_document}
 use Rattle.readers.proofs.FoundedLaws.{among_first, among_one}
 
@@ -94,9 +98,53 @@ only_one name names old new among = only_weaker _ _ old new (documents_among (na
 pub document_is_of : (name : List ℕ) (tree : Option Content) → IsTrue (is_document_of (name ∷ []) (document name tree))
 document_is_of name tree = among_first name []
 
+bytes_same : (bytes : List ℕ) → IsTrue (bytes_eq bytes bytes)
+bytes_same bytes = (bytes_eq-Decides bytes bytes).1 refl
+
 -- the title of this topic is asked for
 pub title_is_of : (name topic text : List ℕ) → IsTrue (is_title_of name topic (title name topic text))
-title_is_of name topic text = and_from _ _ ((bytes_eq-Decides name name).1 refl) ((bytes_eq-Decides topic topic).1 refl)
+title_is_of name topic text = and_from _ _ (bytes_same name) (bytes_same topic)
+
+-- what asks for the title of one of some documents asks for that of one of all
+pub titles_among : (some names : List (List ℕ)) → AreAmong some names → (t : Told) → IsTrue (is_title_among some t)
+    → IsTrue (is_title_among names t)
+titles_among some names among (document name tree) here = absurd (false≢true here)
+titles_among some names among (kind name answer) here = absurd (false≢true here)
+titles_among some names among (title name topic text) here = let parts = and_parts (is_among some name) _ here in
+    and_from (is_among names name) _ (among.each name parts.0) parts.1
+titles_among some names among (first name id) here = absurd (false≢true here)
+titles_among some names among (key nodes scope text answer) here = absurd (false≢true here)
+titles_among some names among (pushes documents name answer) here = absurd (false≢true here)
+titles_among some names among (page_of pages name context answer) here = absurd (false≢true here)
+titles_among some names among (pending about) here = all_weaker (is_among some) (is_among names) among.each about here
+titles_among some names among (pending_document name) here = absurd (false≢true here)
+
+-- the title of the first topic is asked for, by the empty text
+pub title_is_among : (name text : List ℕ) → IsTrue (is_title_among (name ∷ []) (title name [] text))
+title_is_among name text = and_from (is_among (name ∷ []) name) _ (among_first name []) (bytes_same [])
+
+-- A page is the same page as itself
+
+texts_same : (texts : List (List ℕ)) → IsTrue (are_same_texts texts texts)
+texts_same [] = refl
+texts_same (text ∷ texts) = and_from _ _ (bytes_same text) (texts_same texts)
+
+affixes_same : (affixes : List Affix) → IsTrue (are_same_affixes affixes affixes)
+affixes_same [] = refl
+affixes_same (affix ∷ affixes) =
+    and_from _ _ (and_from _ _ (bytes_same affix.prefix) (bytes_same affix.suffix)) (affixes_same affixes)
+
+pub page_same : (id : PageId) → IsTrue (is_same_page id id)
+page_same id = and_from _ _ (bytes_same id.doc)
+    (and_from _ _ (and_from _ _ (eq-eqb id.scope id.scope refl) (texts_same id.filters)) (affixes_same id.affixes))
+
+-- the page in this context is asked for
+pub page_is_in : (pages : List PagePlan) (map name : List ℕ) (own : PageId) (place : Option ℕ)
+    → IsTrue (is_page_in map name own
+    (page_of pages name (record { map = map; val = None; page = own; name = name }) place))
+page_is_in pages map name own place =
+    and_from (bytes_eq name name) _ (bytes_same name)
+    (and_from (is_same_page own own) _ (page_same own) (and_from (bytes_eq map map) true (bytes_same map) refl))
 
 -- What a document with the pushes into it asks for
 

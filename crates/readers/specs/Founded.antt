@@ -42,6 +42,10 @@ abbrev pub is_among : List (List ℕ) → List ℕ → Bool
 is_among [] m = false
 is_among (name ∷ names) m = bytes_eq name m || is_among names m
 
+-- each of some names is one of others
+pub record AreAmong (some names : List (List ℕ)) : Type 0 where
+  pub each : (m : List ℕ) → IsTrue (is_among some m) → IsTrue (is_among names m)
+
 -- a name may be asked about: it is a root, or an answer gives it
 abbrev pub is_allowed : List (List ℕ) → List Told → List ℕ → Bool
 is_allowed roots [] m = is_among roots m

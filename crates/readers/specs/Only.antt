@@ -30,6 +30,12 @@ abbrev pub is_title_at : Target → Told → Bool
 is_title_at (targets.Local name reference) t = is_title_of name reference.topic t
 is_title_at _ t = false
 
+-- it asks for the title of the first topic of one of these documents
+abbrev pub is_title_among : List (List ℕ) → Told → Bool
+is_title_among names (title name topic text) = is_among names name && bytes_eq [] topic
+is_title_among names (pending about) = list_all (is_among names) about
+is_title_among names _ = false
+
 -- it asks for the pushes into one of these documents
 abbrev pub is_pushes_of : List (List ℕ) → Told → Bool
 is_pushes_of names (pushes documents name answer) = is_among names name

@@ -1,13 +1,11 @@
 -- The questions of the contents page, told by its parts.
-use Rattle.std.specs.Prelude.{◌≡◌, ◌+◌, ℕ, zero, suc, Bool, true, List, [], ◌∷◌, Option, Some, None, IsTrue, IfOk, OnOk, Result, bytes_eq, slice_get, unwrap_or}
-use Rattle.std.specs.List.{filter_map, list_any}
+use Rattle.std.specs.Prelude.{◌≡◌, ℕ, List, [], ◌∷◌, Option, Some, None, IsTrue, IfOk, OnOk, Result, slice_get, unwrap_or}
+use Rattle.std.specs.List.{filter_map}
 use Rattle.std.specs.Option.{option_to_list}
-use Rattle.std.proofs.Common.{arith, refl, sym, ap, subst, ◌∙◌}
-use Rattle.std.proofs.lemmas.Bool.{and_from, and_parts, eq-eqb, false≢true, or_left, or_right}
+use Rattle.std.proofs.Common.{refl, sym, ap, subst, ◌∙◌}
+use Rattle.std.proofs.lemmas.Bool.{false≢true, or_left, or_right}
 use Rattle.std.proofs.lemmas.Result.{on_ok_weaker}
-use Rattle.std.proofs.lemmas.Slice.Eq.{bytes_eq-Decides}
 use Rattle.dita_doc.specs.declared.content.PushList.{PushList}
-use Rattle.dita_doc.specs.declared.plan.Affix.{Affix}
 use Rattle.dita_doc.specs.declared.plan.Context.{Context}
 use Rattle.dita_doc.specs.declared.plan.PageId.{PageId}
 use Rattle.dita_doc.specs.declared.plan.PagePlan.{PagePlan}
@@ -16,44 +14,29 @@ use Rattle.dita_doc.specs.declared.plan.PlanNode.{PlanNode}
 use Rattle.dita_doc.specs.declared.plan.Reference.{Reference}
 use Rattle.dita_doc.specs.declared.plan.Target.{Target}
 use Rattle.dita_doc.specs.declared.plan.Target.TheVariants as targets
-use Rattle.link_spec.specs.Links.{context_of, plan_target}
-use Rattle.map_spec.specs.Pages.{are_same_affixes, are_same_texts, is_same_page, local_name}
-use Rattle.map_spec.specs.Scopes.{places_from}
-use Rattle.readers.specs.Founded.{homes, is_among}
-use Rattle.readers.specs.Only.{TellsOnly, is_document_of, is_page_in, is_pushes_of}
-use Rattle.readers.specs.Told.{Told, document, kind, title, first, key, pushes, page_of, pending, pending_document}
+use Rattle.link_spec.specs.Links.{context_of, map_of, plan_target}
+use Rattle.map_spec.specs.Pages.{local_name}
+use Rattle.plan_nodes.proofs.PlaceLaws.{any_at}
+use Rattle.readers.specs.Founded.{AreAmong, homes, is_among}
+use Rattle.readers.specs.Only.{TellsOnly, is_document_of, is_page_in, is_pushes_of, is_title_among}
+use Rattle.readers.specs.Told.{Told, title, pushes, page_of}
 use Rattle.readers.proofs.AmongLaws.{among_targets}
-use Rattle.readers.proofs.FoundedLaws.{among_first, among_one}
-use Rattle.readers.proofs.OnlyLaws.{all_weaker, only_after, only_answered, only_told, only_weaker}
-use Rattle.toc_page.specs.Made.{is_of_contents, is_page_at, is_page_by, is_page_of_nodes, is_title_among, is_title_of_targets, map_of}
+use Rattle.readers.proofs.FoundedLaws.{among_one}
+use Rattle.readers.proofs.OnlyLaws.{only_after, only_answered, only_told, only_weaker, page_is_in, title_is_among, titles_among}
+use Rattle.toc_page.specs.Made.{is_of_contents, is_page_at, is_page_by, is_page_of_nodes, is_title_of_targets}
 
 -- Some documents among others
-
-abbrev AreAmong : (some names : List (List ℕ)) → Type 0
-AreAmong some names = (m : List ℕ) → IsTrue (is_among some m) → IsTrue (is_among names m)
-
-titles_among : (some names : List (List ℕ)) → AreAmong some names → (t : Told) → IsTrue (is_title_among some t)
-    → IsTrue (is_title_among names t)
-titles_among some names among (document name tree) here = absurd (false≢true here)
-titles_among some names among (kind name answer) here = absurd (false≢true here)
-titles_among some names among (title name topic text) here = let parts = and_parts (is_among some name) _ here in
-    and_from (is_among names name) _ (among name parts.0) parts.1
-titles_among some names among (first name id) here = absurd (false≢true here)
-titles_among some names among (key nodes scope text answer) here = absurd (false≢true here)
-titles_among some names among (pushes documents name answer) here = absurd (false≢true here)
-titles_among some names among (page_of pages name context answer) here = absurd (false≢true here)
-titles_among some names among (pending about) here = all_weaker (is_among some) (is_among names) among about here
-titles_among some names among (pending_document name) here = absurd (false≢true here)
 
 -- the document of a target is among those to which nodes lead
 name_there : (plan : Plan) (at : ℕ) (target : Target) (name : Option (List ℕ))
     → Some target ≡ slice_get plan.targets at → local_name target ≡ name
     → AreAmong (option_to_list name) (filter_map local_name plan.targets)
-name_there plan at target None there is m here = absurd (false≢true here)
-name_there plan at target (Some name) there is m here =
-    subst (λ n. IsTrue (is_among (filter_map local_name plan.targets) n)) (among_one name m here)
-    (among_targets plan.targets at name
-    (ap (λ found. local_name (unwrap_or found targets.Nothing)) (sym there) ∙ is))
+name_there plan at target None there is = record { each = λ m here. absurd (false≢true here) }
+name_there plan at target (Some name) there is = record {
+  each = λ m here. subst (λ n. IsTrue (is_among (filter_map local_name plan.targets) n)) (among_one name m here)
+      (among_targets plan.targets at name
+      (ap (λ found. local_name (unwrap_or found targets.Nothing)) (sym there) ∙ is));
+}
 
 module _ {A E : Type 0} (r : Result A E) (plan : Plan) (at : ℕ) (target : Target) (old new : List Told)
     (there : Some target ≡ slice_get plan.targets at) where
@@ -64,32 +47,13 @@ module _ {A E : Type 0} (r : Result A E) (plan : Plan) (at : ℕ) (target : Targ
 
 -- One question
 
--- a page is the same page as itself
-
-bytes_same : (bytes : List ℕ) → IsTrue (bytes_eq bytes bytes)
-bytes_same bytes = (bytes_eq-Decides bytes bytes).1 refl
-
-texts_same : (texts : List (List ℕ)) → IsTrue (are_same_texts texts texts)
-texts_same [] = refl
-texts_same (text ∷ texts) = and_from _ _ (bytes_same text) (texts_same texts)
-
-affixes_same : (affixes : List Affix) → IsTrue (are_same_affixes affixes affixes)
-affixes_same [] = refl
-affixes_same (affix ∷ affixes) =
-    and_from _ _ (and_from _ _ (bytes_same affix.prefix) (bytes_same affix.suffix)) (affixes_same affixes)
-
-page_same : (id : PageId) → IsTrue (is_same_page id id)
-page_same id = and_from _ _ (bytes_same id.doc)
-    (and_from _ _ (and_from _ _ (eq-eqb id.scope id.scope refl) (texts_same id.filters)) (affixes_same id.affixes))
-
 pub page_asked : (pages : List PagePlan) (map name : List ℕ) (own : PageId) (context : Context) (place : Option ℕ)
     (old new : List Told) → context ≡ record { map = map; val = None; page = own; name = name }
     → new ≡ page_of pages name context place ∷ old → TellsOnly (is_page_in map name own) old new
 page_asked pages map name own context place old new same =
     only_told (is_page_in map name own) (page_of pages name context place) old new
     (subst (λ (u : Context). IsTrue (is_page_in map name own (page_of pages name u place))) (sym same)
-    (and_from (bytes_eq name name) _ (bytes_same name)
-    (and_from (is_same_page own own) _ (page_same own) (and_from (bytes_eq map map) true (bytes_same map) refl))))
+    (page_is_in pages map name own place))
 
 pub page_local : {A E : Type 0} (r : Result A E) (plan : Plan) (node : PlanNode) (target : Target) (name : List ℕ)
     (reference : Reference) (old new : List Told) → target ≡ targets.Local name reference
@@ -98,25 +62,12 @@ pub page_local : {A E : Type 0} (r : Result A E) (plan : Plan) (node : PlanNode)
 page_local r plan node target name reference old new is =
     subst (λ t. OnOk r (TellsOnly (is_page_by plan (Some node) (local_name t)) old new)) (sym is)
 
--- a test of a place that holds at one of them
-any_at : (test : ℕ → Bool) (nodes : List PlanNode) (from at place : ℕ) (node : PlanNode)
-    → slice_get nodes at ≡ Some node → from + at ≡ place → IsTrue (test place)
-    → IsTrue (list_any test (places_from from nodes))
-any_at test [] from zero place node there sum here = cc
-any_at test [] from (suc at) place node there sum here = cc
-any_at test (head ∷ nodes) from zero place node there sum here =
-    let same : place ≡ from = omega (arith, sum) in
-    or_left (test from) _ (subst (λ n. IsTrue (test n)) same here)
-any_at test (head ∷ nodes) from (suc at) place node there sum here =
-    let next : (from + 1) + at ≡ place = omega (arith, sum) in
-    or_right (test from) _ (any_at test nodes (from + 1) at place node there next here)
-
 pub page_there : {A E : Type 0} (r : Result A E) (plan : Plan) (at : ℕ) (node : PlanNode) (target : Target)
     (old new : List Told) → slice_get plan.nodes at ≡ Some node → Some target ≡ slice_get plan.targets at
     → OnOk r (TellsOnly (is_page_by plan (Some node) (local_name target)) old new)
     → OnOk r (TellsOnly (is_page_of_nodes plan) old new)
 page_there r plan at node target old new there leads = on_ok_weaker r (only_weaker _ (is_page_of_nodes plan) old new
-    (λ t here. any_at (is_page_at plan t) plan.nodes 0 at at node there (omega arith) (at_place t here)))
+    (λ t here. any_at (is_page_at plan t) plan.nodes at node there (at_place t here)))
   where
     at_place : (t : Told) → IsTrue (is_page_by plan (Some node) (local_name target) t) → IsTrue (is_page_at plan t at)
     at_place t here = subst (λ found. IsTrue (is_page_by plan found (local_name (plan_target plan at)) t)) (sym there)
@@ -127,9 +78,6 @@ pub title_empty : {E : Type 0} (r : Result (List ℕ) E) (name topic : List ℕ)
     → IfOk r (λ text. new ≡ title name topic text ∷ old) → IfOk r (λ text. new ≡ title name [] text ∷ old)
 title_empty r name topic old new none =
     subst (λ (t : List ℕ). IfOk r (λ text. new ≡ title name t text ∷ old)) none
-
-title_is_among : (name text : List ℕ) → IsTrue (is_title_among (name ∷ []) (title name [] text))
-title_is_among name text = and_from (is_among (name ∷ []) name) _ (among_first name []) (bytes_same [])
 
 pub title_local : {E : Type 0} (r : Result (List ℕ) E) (target : Target) (name : List ℕ) (reference : Reference)
     (old new : List Told) → target ≡ targets.Local name reference

@@ -1,24 +1,22 @@
 -- The contents page of a plan, as a reader makes it (own), and the documents that it may ask about.
-use Rattle.std.specs.Prelude.{◌≡◌, ◌++◌, ◌&&◌, ◌||◌, ℕ, Bool, false, List, [], Option, Some, None, bytes_eq, slice_get}
-use Rattle.std.specs.List.{filter_map, list_all, list_any}
-use Rattle.std.specs.Option.{option_map_or}
+use Rattle.std.specs.Prelude.{◌≡◌, ◌++◌, ◌||◌, ℕ, Bool, false, List, Option, Some, slice_get}
+use Rattle.std.specs.List.{filter_map, list_any}
 use Rattle.dita_doc.specs.declared.fact.Html.{Html}
 use Rattle.dita_doc.specs.declared.fault.Fault.{Fault}
-use Rattle.dita_doc.specs.declared.plan.Context.{Context}
 use Rattle.dita_doc.specs.declared.plan.Plan.{Plan}
 use Rattle.dita_doc.specs.declared.plan.PlanNode.{PlanNode}
 use Rattle.map_spec.specs.Branches.{each_once}
-use Rattle.link_spec.specs.Links.{context_of, plan_target}
+use Rattle.link_spec.specs.Links.{context_of, map_of, plan_target}
 use Rattle.map_spec.specs.Pages.{local_name}
 use Rattle.html_spec.specs.Contents.{contents}
 use Rattle.map_spec.specs.Pushes.{all_pushes, pushes_into}
 use Rattle.map_spec.specs.Scopes.{places}
 use Rattle.plan_nodes.specs.Preorder.{IsTree}
 use Rattle.reader_spec.specs.World.{World}
-use Rattle.readers.specs.Founded.{homes, is_among}
-use Rattle.readers.specs.Only.{is_document_of, is_page_in, is_pushes_of}
+use Rattle.readers.specs.Founded.{homes}
+use Rattle.readers.specs.Only.{is_document_of, is_page_in, is_pushes_of, is_title_among}
 use Rattle.readers.specs.Setting.{Setting}
-use Rattle.readers.specs.Told.{Told, title, pending}
+use Rattle.readers.specs.Told.{Told}
 
 -- each of some names, once
 pub record AreOnce (names : List (List ℕ)) : Type 0 where
@@ -41,24 +39,9 @@ pub record IsContents (world : World) (plan : Plan) (made : Html) : Type 0 where
 abbrev pub contents_names : Plan → List (List ℕ)
 contents_names plan = homes plan.nodes ++ (filter_map local_name plan.targets ++ plan.documents)
 
--- it asks for the title of one of these documents
-abbrev pub is_title_among : List (List ℕ) → Told → Bool
-is_title_among names (title name topic text) = is_among names name && bytes_eq [] topic
-is_title_among names (pending about) = list_all (is_among names) about
-is_title_among names _ = false
-
 -- it asks for the title of a document that a node leads to
 abbrev pub is_title_of_targets : Plan → Told → Bool
 is_title_of_targets plan t = is_title_among (filter_map local_name plan.targets) t
-
--- the document of a plan's map, as one of its nodes knows it
-abbrev pub map_of : Plan → PlanNode → List ℕ
-map_of plan node = option_map_or (λ (root : PlanNode). root.doc) (slice_get plan.nodes 0) node.doc
-
--- where a document is used by a node of a plan: the map is the plan's, and no DITAVAL is named
-abbrev pub use_of : Plan → PlanNode → List ℕ → Context
-use_of plan node name =
-    record { map = map_of plan node; val = None; page = context_of node name; name = name }
 
 -- it asks for the page of the document that a node leads to, in the node's own context, of a build of the plan's map
 abbrev pub is_page_by : Plan → Option PlanNode → Option (List ℕ) → Told → Bool

@@ -112,7 +112,7 @@ fn page_href<A: Asker>(
     ensures founded { StaysFounded (name.now ∷ []) (A.told asker.old) (A.told asker.new) }
     ensures asks { AsksOnly documents_spec.nothing [] (A.told asker.old) (A.told asker.new) }
     ensures only { OnOk result (TellsOnly
-        (only_spec.is_page_in (made_spec.map_of plan.now node.now) name.now
+        (only_spec.is_page_in (links_spec.map_of plan.now node.now) name.now
         (links_spec.context_of node.now name.now))
         (A.told asker.old) (A.told asker.new)) }
     ensures grows { Grows (A.told asker.old) (A.told asker.new) }
@@ -144,7 +144,7 @@ fn context_of(
     name: &Name,
 ) -> Result<Arc<Context>, AllocError>
     ensures whole { IfOk result (λ context. arc_value context
-        ≡ made_spec.use_of plan.now node.now name.now) }
+        ≡ links_spec.use_of plan.now node.now name.now) }
     ensures page { IfOk result (λ context. (arc_value context).page
         ≡ links_spec.context_of node.now name.now) }
 {
@@ -164,7 +164,7 @@ fn context_of(
 
 // The document of the plan's map, in which its first node stands.
 fn map_of<'p>(plan: &'p Plan, node: &'p PlanNode) -> &'p Name
-    ensures { result.now ≡ made_spec.map_of plan.now node.now }
+    ensures { result.now ≡ links_spec.map_of plan.now node.now }
 {
     match node_at(plan, 0) {
         Some(root) => &root.doc,

@@ -10,6 +10,7 @@ ghost use Rattle.reader_spec.specs.World.{World};
 ghost use Rattle.readers.specs.Documents as documents_spec;
 ghost use Rattle.readers.specs.Documents.{AsksOnly};
 ghost use Rattle.readers.specs.Founded.{Grows, StaysFounded};
+ghost use Rattle.readers.specs.Only as only_spec;
 ghost use Rattle.readers.specs.Only.{TellsOnly};
 ghost use Rattle.readers.specs.Told as told_spec;
 ghost use Rattle.readers.specs.Told.{Agrees};
@@ -109,7 +110,7 @@ fn label_by<A: Asker>(
         (A.told asker.old) (A.told asker.new) }
     ensures asks { AsksOnly documents_spec.nothing [] (A.told asker.old) (A.told asker.new) }
     ensures only { OnOk result (TellsOnly
-        (made_spec.is_title_among (option_to_list (pages_spec.local_name target.now)))
+        (only_spec.is_title_among (option_to_list (pages_spec.local_name target.now)))
         (A.told asker.old) (A.told asker.new)) }
     ensures grows { Grows (A.told asker.old) (A.told asker.new) }
 {

@@ -3,10 +3,9 @@ use Rattle.std.specs.Prelude.{[], map}
 use Rattle.std.specs.List.{filter_map}
 use Rattle.readers.specs.Documents.{AsksOnly, nothing}
 use Rattle.readers.specs.Founded.{Grows, StaysFounded}
-use Rattle.readers.specs.Only.{TellsOnly}
+use Rattle.readers.specs.Only.{TellsOnly, is_title_among}
 use Rattle.readers.specs.Told.{Agrees}
 use Rattle.reader_spec.specs.World.{World}
-use Rattle.link_groups.specs.Asked.{is_title_among}
 use Rattle.link_groups.specs.LinkLists.{link_shown, page_link_in}
 use Rattle.link_groups.specs.LinkNodes.{names_of_pages}
 use Rattle.link_groups.proofs.link_list.all_written.Given as goal

@@ -1,8 +1,9 @@
 use Rattle.std.proofs.Common.{subst, sym}
 use Rattle.std.specs.Prelude.{IfSome}
 use Rattle.dita_doc.specs.declared.doc.Doc.{Doc}
-use Rattle.conref_targets.specs.Asking.{AreAmong, reused_of_doc, reused_of_whole}
+use Rattle.conref_targets.specs.Asking.{reused_of_doc, reused_of_whole}
 use Rattle.conref_pull.proofs.LinkLaws.{link_whole}
+use Rattle.readers.specs.Founded.{AreAmong}
 use Rattle.readers.specs.Named.{named_tree}
 use Rattle.conref_targets.specs.Hrefs.{HaveNamed}
 use Rattle.conref_targets.specs.PageAsking.{AreMet}

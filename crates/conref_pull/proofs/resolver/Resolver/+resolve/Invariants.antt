@@ -5,10 +5,10 @@ use Rattle.dita_doc.specs.Tree.{size_of}
 use Rattle.dita_doc.specs.declared.plan.PlanNode.{PlanNode}
 use Rattle.conref_spec.specs.Content.{Place}
 use Rattle.reader_spec.specs.World.{World}
-use Rattle.readers.specs.Founded.{Grows}
+use Rattle.readers.specs.Founded.{AreAmong, Grows}
 use Rattle.readers.specs.Named.{reused_in}
 use Rattle.readers.specs.Told.{Agrees}
-use Rattle.conref_targets.specs.Asking.{AreAmong, Asks}
+use Rattle.conref_targets.specs.Asking.{Asks}
 use Rattle.conref_targets.specs.Hrefs.{HaveNamed}
 use Rattle.conref_targets.specs.Origin.{named_content}
 use Rattle.conref_targets.specs.PageAsking.{AreMet, AsksPage, IsAt, PageAt}

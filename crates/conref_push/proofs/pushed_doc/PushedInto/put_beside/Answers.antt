@@ -16,7 +16,7 @@ loop-push-preserved c = λ world names are among.
     copy_more world c.args.kind group at one _ (building c.args.maker.now) (building c.loop-push.maker)
     (building c.put_if.new.maker) c.loop-push-test.true c.push-item.is c.is_of_kind.ensures
     (c.in_ok-put_if.ensures world names are
-    (from_one names one (among one.from (from_among group at one c.loop-push-test.true c.push-item.is))))
+    (from_one names one (among.each one.from (from_among group at one c.loop-push-test.true c.push-item.is))))
     (c.loop-push.invariant world names are among)
 
 pub returns : goal.returns

@@ -3,7 +3,8 @@ use Rattle.doc_maker.specs.Building.{behind}
 use Rattle.doc_maker.specs.Made.{building}
 use Rattle.reader_spec.specs.World.{World}
 use Rattle.conref_push.specs.Into.{froms}
-use Rattle.conref_push.specs.Making.{AreAmong, copies_of}
+use Rattle.readers.specs.Founded.{AreAmong}
+use Rattle.conref_push.specs.Making.{copies_of}
 use Rattle.conref_push.specs.Sources.{AreSources}
 use Rattle.conref_push.proofs.pushed_doc.PushedInto.put_beside.Given as goal
 
