@@ -11,10 +11,9 @@ use Rattle.dita_doc.specs.declared.stop.NoMemory.{NoMemory}
 use Rattle.html_spec.specs.PageHtml.{page_text, page_within, too_large}
 
 -- a page that is written in three pieces
-pub text_written : (page with_body first before body behind related end : List ℕ) → page ≡ with_body ++ behind
-    → with_body ≡ first ++ body → first ≡ before → behind ≡ line_feed ∷ related ++ end
-    → page ≡ before ++ line body ++ related ++ end
-text_written page with_body first before body behind related end e b f n = rw (e, b, f, n) (simp append_assoc)
+pub text_written : (page first before body behind related end : List ℕ) → page ≡ first ++ body ++ behind
+    → first ≡ before → behind ≡ line_feed ∷ related ++ end → page ≡ before ++ line body ++ related ++ end
+text_written page first before body behind related end e f n = rw (e, f, n) (simp append_assoc)
 
 taken : {A : Type 0} (test : Bool) (x y : A) → test ≡ true → x ≡ (if test then x else y)
 taken true x y is = refl

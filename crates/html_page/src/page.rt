@@ -74,10 +74,24 @@ pub fn page_text(
 ) -> Result<List<u8>, AllocError>
     ensures { IfOk result (λ page. page ≡ spec.page_text title.now body.now links.now) }
 {
-    let mut page = before_body(alloc, title)?.into_bytes();
-    page.append(body)?;
-    page.append(behind_body(alloc, links)?.as_bytes())?;
-    Ok(page)
+    let before = before_body(alloc, title)?;
+    let behind = behind_body(alloc, links)?;
+    joined(alloc, before.as_bytes(), body, behind.as_bytes())
+}
+
+// Three pieces in one list, which takes no more room than they need: pages are kept for long.
+fn joined(alloc: Global, before: &[u8], body: &[u8], behind: &[u8]) -> Result<List<u8>, AllocError>
+    ensures { IfOk result (λ all. all ≡ before.now ++ body.now ++ behind.now) }
+{
+    let room = before
+        .len()
+        .saturating_add(body.len())
+        .saturating_add(behind.len());
+    let mut all = Vec::with_capacity(alloc, room)?;
+    all.extend_from_slice(before)?;
+    all.extend_from_slice(body)?;
+    all.extend_from_slice(behind)?;
+    Ok(List::from_vec(all))
 }
 
 // The lines before the body.
