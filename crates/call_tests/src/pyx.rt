@@ -1,8 +1,8 @@
 //! Texts with what they stand for, derived by hand from the rules of PYX.
 
 use crate::given::{self, document};
-use dita_doc::{Attribute, List, Name, Node, NodeKind, PyxCode, PyxFault, Stop};
-use pyx_text::{read_body, read_pyx, write_pyx};
+use dita_doc::{Attribute, Doc, List, Name, Node, NodeKind, PyxCode, PyxFault, Stop};
+use pyx_text::{PyxReader, read_body, read_pyx, write_pyx};
 use std::alloc::{AllocError, Global};
 use std::test::Fail;
 
@@ -21,6 +21,19 @@ fn fault(alloc: Global, text: &[u8]) -> Result<Option<PyxFault>, AllocError> {
 
 fn at(code: PyxCode, line: u32) -> Option<PyxFault> {
     Some(PyxFault { code, line })
+}
+
+// The fault that is answered to a piece of a text.
+fn fed(
+    alloc: Global,
+    reader: &mut PyxReader,
+    piece: &[u8],
+) -> Result<Option<PyxFault>, AllocError> {
+    match reader.feed(alloc, piece) {
+        Ok(()) => Ok(None),
+        Err(Stop::Fault(fault)) => Ok(Some(fault)),
+        Err(Stop::NoMemory) => Err(AllocError),
+    }
 }
 
 #[test]
@@ -50,11 +63,8 @@ fn each_fault_has_its_line(rt: HostRuntime) -> Result<(), Fail> {
     Ok(())
 }
 
-// The longest text that is all line ends, then a CR and a byte that no text may hold: the CR is no
-// line, and what comes behind the limit is too long before it is anything else.
-#[test]
-fn length_has_a_limit(rt: HostRuntime) -> Result<(), Fail> {
-    let alloc = rt.alloc();
+// The longest text that is all line ends, then a CR, which is no line.
+fn longest(alloc: Global) -> Result<Vec<u8>, AllocError> {
     let mut text = Vec::new(alloc);
     text.push(b'\n')?;
     for _ in 0..22 {
@@ -62,9 +72,31 @@ fn length_has_a_limit(rt: HostRuntime) -> Result<(), Fail> {
         text.extend_from_slice(&half)?;
     }
     text.push(b'\r')?;
+    Ok(text)
+}
+
+// What comes behind the limit is too long before it is anything else, here no UTF-8.
+#[test]
+fn length_has_a_limit(rt: HostRuntime) -> Result<(), Fail> {
+    let alloc = rt.alloc();
+    let mut text = longest(alloc)?;
     assert_eq!(rt; fault(alloc, &text)?, at(PyxCode::NoRoot, 4_194_304));
     text.push(b'\xff')?;
     assert_eq!(rt; fault(alloc, &text)?, at(PyxCode::TooLong, 4_194_305));
+    Ok(())
+}
+
+#[test]
+fn too_long_waits_for_the_end_of_its_line(rt: HostRuntime) -> Result<(), Fail> {
+    let alloc = rt.alloc();
+    let text = longest(alloc)?;
+    let mut reader = PyxReader::new(alloc, &name(alloc)?).map_err(|_| AllocError)?;
+    assert_eq!(rt; fed(alloc, &mut reader, &text)?, None);
+    assert_eq!(rt; fed(alloc, &mut reader, b"(\xff")?, None);
+    assert_eq!(rt;
+        fed(alloc, &mut reader, b"\n")?,
+        at(PyxCode::TooLong, 4_194_305)
+    );
     Ok(())
 }
 
@@ -119,6 +151,41 @@ fn attributes_are_read_in_their_order(rt: HostRuntime) -> Result<(), Fail> {
             .first()
             .is_some_and(|root| has_two(root))
     );
+    Ok(())
+}
+
+// The document of a text that comes in two pieces.
+fn document_of_two(alloc: Global, first: &[u8], second: &[u8]) -> Result<Doc, Stop<PyxFault>> {
+    let mut reader = PyxReader::new(alloc, &name(alloc)?)?;
+    reader.feed(alloc, first)?;
+    reader.feed(alloc, second)?;
+    reader.finish(alloc)
+}
+
+#[test]
+fn a_text_is_the_same_wherever_it_is_cut(rt: HostRuntime) -> Result<(), Fail> {
+    let alloc = rt.alloc();
+    let text = MANY_FORMS.as_bytes();
+    for at in 0..text.len() {
+        let doc = document_of_two(alloc, &text[..at], &text[at..]).map_err(|_| AllocError)?;
+        assert!(rt; are_many_forms(doc.nodes.as_slice()), "{at}");
+    }
+    Ok(())
+}
+
+#[test]
+fn a_fault_waits_for_the_end_of_its_line(rt: HostRuntime) -> Result<(), Fail> {
+    let alloc = rt.alloc();
+    let mut reader = PyxReader::new(alloc, &name(alloc)?).map_err(|_| AllocError)?;
+    let told = at(PyxCode::BadLine, 2);
+    assert_eq!(rt; fed(alloc, &mut reader, b"(p\nx")?, None);
+    assert_eq!(rt; fed(alloc, &mut reader, b"\n")?, told);
+    assert_eq!(rt; fed(alloc, &mut reader, b")q\n")?, told);
+    let end = match reader.finish(alloc) {
+        Err(Stop::Fault(fault)) => Some(fault),
+        _ => None,
+    };
+    assert_eq!(rt; end, told);
     Ok(())
 }
 

@@ -6,7 +6,9 @@ pub mod Said
 pub mod LineLaws
 pub mod PlacedLaws
 pub mod BodyLaws
+pub mod ToldLaws
 pub mod ReaderLaws
+pub mod StateLaws
 pub mod PyxKeeps
 pub mod PyxLaws
 pub mod PyxSteps

@@ -1,5 +1,5 @@
 pub mod Machine
-pub mod Reader
 pub mod Canonical
 pub mod Read
 pub mod Pieces
+pub mod Reader

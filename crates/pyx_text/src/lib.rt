@@ -1,8 +1,9 @@
 //! Texts of PYX to documents, and documents to texts.
 //!
-//! What is used above it: the contracts of `read_pyx`, `read_body` and `write_pyx`. A document that
-//! is answered is the tree that the text stands for, a fault is the first of the first faulty line,
-//! and what is written is the canonical text. The laws of these definitions are in `pyx_laws`.
+//! What is used above it: the contracts of `read_pyx`, `read_body`, `write_pyx` and `PyxReader`. A
+//! document that is answered is the tree that the text stands for, a fault is the first of the first
+//! faulty line, and what is written is the canonical text. A text that comes in pieces is read as if
+//! it came whole. The laws of these definitions are in `pyx_laws`.
 #![tactic(auto)]
 
 ghost use Rattle.std.specs.Prelude.{◌≡◌, [], ◌∷◌, IfOk, IfErr};
@@ -16,11 +17,13 @@ mod body;
 mod line;
 mod machine;
 mod reader;
+mod text_machine;
+mod text_state;
 mod write;
 
-use crate::reader::PyxReader;
 pub use body::read_body;
-use dita_doc::{Doc, List, Name, PyxFault, Stop};
+use dita_doc::{Doc, Name, PyxFault, Stop};
+pub use reader::PyxReader;
 use std::alloc::Global;
 pub use write::write_pyx;
 
@@ -39,10 +42,7 @@ pub fn read_pyx(alloc: Global, name: &Name, bytes: &[u8]) -> Result<Doc, Stop<Py
     ensures origin { IfOk result (λ doc. doc.origins ≡ name.now ∷ []) }
     ensures fault { IfErr result (λ stop. IsStopOf stop (pyx_spec.reading bytes.now)) }
 {
-    let mut reader = PyxReader::new(alloc);
+    let mut reader = PyxReader::new(alloc, name)?;
     reader.feed(alloc, bytes)?;
-    let nodes = reader.finish(alloc)?;
-    let mut origins = List::new(alloc);
-    origins.push(name.clone()?)?;
-    Ok(Doc { origins, nodes })
+    reader.finish(alloc)
 }

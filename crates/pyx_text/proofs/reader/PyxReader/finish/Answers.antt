@@ -1,23 +1,32 @@
-use Rattle.std.proofs.Common.{◌≡◌, length, ap, ◌∙◌, arith}
-use Rattle.pyx_text.specs.Reader.{HasReadAll}
-use Rattle.pyx_text.specs.Machine.{made_by, settled}
-use Rattle.pyx_text.proofs.ReaderLaws.{read-nodes}
+use Rattle.std.proofs.Common.{◌≡◌, true, length, sym, subst, rules}
+use Rattle.dita_doc.specs.Bytes.{Bytes}
+use Rattle.dita_doc.specs.Tree.{ArePreorder, nodes_of, are_placed}
+use Rattle.dita_doc.proofs.TreeLaws.{preorder_of_content}
+use Rattle.pyx_text.specs.Read.{AreRead}
+use Rattle.pyx_text.proofs.PlacedLaws.{placed_written}
+use Rattle.pyx_text.proofs.ReadTrees.{kept_tree}
+use Rattle.pyx_text.proofs.StateLaws.{nodes_of_text}
 use Rattle.pyx_text.proofs.reader.PyxReader.finish.Goals as goal
 
-pub returns-in-Some-clause-fault : goal.returns-in-Some-clause-fault
-returns-in-Some-clause-fault c text at =
-    let all : HasReadAll c.end_text.new.self text = c.in_ok-end_text.ensures.ok text at in
-    all.same ∙ c.in-Some.ensures c.end_text.new.self.number all.events all.read.read
+pub invariant_of-result : goal.invariant_of-result
+invariant_of-result c =
+    let said = c.in_ok-nodes.ensures in
+    let read : (text : Bytes) × AreRead c.in_ok-nodes.nodes text =
+    nodes_of_text c.self.inside.state c.in_ok-nodes.nodes c.self.invariant said.tree said.spent in
+    let done = read.1 in
+    let one : length c.push.new.self ≡ 1 = search rules in
+    record {
+      tree = subst (λ nodes. ArePreorder nodes 0) (sym done.2) (preorder_of_content done.0 0);
+      small = said.small;
+      placed =
+          subst (λ nodes. are_placed (length c.push.new.self) nodes ≡ true) (sym done.2)
+          (subst (λ count. are_placed count (nodes_of done.0 0) ≡ true) (sym one)
+          (placed_written done.0 0 done.1.written));
+    }
 
-pub returns-in-None-clause-tree : goal.returns-in-None-clause-tree
-returns-in-None-clause-tree c text at =
-    let all : HasReadAll c.end_text.new.self text = c.in_ok-end_text.ensures.ok text at in
-    let read = all.same ∙ c.in-None.ensures c.end_text.new.self.number all.events all.read.read in
-    read-nodes text all.events c.into_nodes.result read (c.into_nodes.ensures ∙ all.read.read.nodes)
-
-pub returns-in-None-clause-small : goal.returns-in-None-clause-small
-returns-in-None-clause-small c =
-    let all : HasReadAll c.end_text.new.self c.requires.0 = c.in_ok-end_text.ensures.ok c.requires.0 c.requires.1 in
-    let nodes : c.into_nodes.result ≡ (made_by (settled all.events)).nodes =
-    c.into_nodes.ensures ∙ all.read.read.nodes in
-    omega (arith, ap length nodes, all.read.few, all.within)
+pub returns-clause-kept : goal.returns-clause-kept
+returns-clause-kept c =
+    let said = c.in_ok-nodes.ensures in
+    let read : (text : Bytes) × AreRead c.in_ok-nodes.nodes text =
+    nodes_of_text c.self.inside.state c.in_ok-nodes.nodes c.self.invariant said.tree said.spent in
+    kept_tree c.in_ok-nodes.nodes read.0 read.1

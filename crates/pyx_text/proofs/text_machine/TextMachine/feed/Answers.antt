@@ -1,9 +1,8 @@
 use Rattle.std.proofs.Common.{◌≡◌, ◌+◌, ◌∷◌, ◌++◌, Err, IfErr, take, drop, get_or, sym, ap, ◌∙◌, subst, rules}
 use Rattle.std.proofs.lemmas.List.{take-append-drop, drop_more}
-use Rattle.dita_doc.specs.Gives.{IsStopOf}
-use Rattle.dita_doc.specs.Pyx.{reading}
-use Rattle.pyx_text.proofs.ReaderLaws.{front_fault}
-use Rattle.pyx_text.proofs.reader.PyxReader.feed.Goals as goal
+use Rattle.pyx_text.specs.Reader.{IsTold}
+use Rattle.pyx_text.proofs.ReaderLaws.{front_told}
+use Rattle.pyx_text.proofs.text_machine.TextMachine.feed.Goals as goal
 
 pub take_byte-requires : goal.take_byte-requires
 take_byte-requires c =
@@ -20,6 +19,6 @@ returns-in_err-take_byte-clause-fault c text rest at =
     let whole : piece ≡ front ++ b ∷ drop (i + 1) piece =
     sym (take-append-drop i piece) ∙ ap (λ rest. front ++ rest) (drop_more piece i 0 (search rules)) in
     let at_front = c.loop-byte.invariant text at in
-    subst (λ r. IfErr r (λ stop. IsStopOf stop (reading ((text ++ piece) ++ rest)))) (sym is)
-    (front_fault text front (drop (i + 1) piece) piece b stop whole
-    (λ rest. c.in_err-take_byte.ensures.fault (text ++ front) rest at_front) rest)
+    subst (λ r. IfErr r (λ stop. IsTold stop ((text ++ piece) ++ rest))) (sym is)
+    (front_told text front (drop (i + 1) piece) piece rest b stop whole
+    (λ behind. c.in_err-take_byte.ensures.fault (text ++ front) behind at_front))

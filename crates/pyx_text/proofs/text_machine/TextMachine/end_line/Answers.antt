@@ -3,7 +3,7 @@ use Rattle.dita_doc.specs.PyxLine.{line_of}
 use Rattle.dita_doc.specs.PyxEvent.{fault_of, after}
 use Rattle.pyx_text.specs.Machine.{HasRead}
 use Rattle.pyx_text.proofs.ReaderLaws.{HasReadLines-more}
-use Rattle.pyx_text.proofs.reader.PyxReader.end_line.Goals as goal
+use Rattle.pyx_text.proofs.text_machine.TextMachine.end_line.Goals as goal
 
 pub returns-in-Ok-clause-ok : goal.returns-in-Ok-clause-ok
 returns-in-Ok-clause-ok c before read =
