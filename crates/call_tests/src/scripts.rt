@@ -1,7 +1,7 @@
 //! Scripts with their faults and their requests, derived by hand from the rules of scripts.
 
 use dita_doc::{Body, Edit, List, Name, Request, Stop};
-use script_text::{ScriptCode, ScriptFault, read_script};
+use script_text::{RequestReader, ScriptCode, ScriptFault, read_script};
 use std::alloc::{AllocError, Global};
 use std::test::Fail;
 
@@ -383,6 +383,61 @@ fn edits_of_a_group_are_at_most_1000(rt: HostRuntime) -> Result<(), Fail> {
         let mut longer = text.clone()?;
         longer.append(last)?;
         assert_eq!(rt; fault(alloc, longer.as_slice())?, found);
+    }
+    Ok(())
+}
+
+// The requests that a piece completes, each in one form.
+fn answered(
+    alloc: Global,
+    reader: &mut RequestReader,
+    piece: &[u8],
+) -> Result<List<u8>, Stop<ScriptFault>> {
+    let requests = reader.feed(alloc, piece)?;
+    let mut text = List::new(alloc);
+    for request in requests.as_slice() {
+        append_request(alloc, &mut text, request)?;
+    }
+    Ok(text)
+}
+
+// The requests of what comes in two pieces.
+fn answered_to_two(
+    alloc: Global,
+    first: &[u8],
+    second: &[u8],
+) -> Result<List<u8>, Stop<ScriptFault>> {
+    let mut reader = RequestReader::new(alloc)?;
+    let mut text = answered(alloc, &mut reader, first)?;
+    let more = answered(alloc, &mut reader, second)?;
+    text.append(more.as_slice())?;
+    Ok(text)
+}
+
+#[test]
+fn requests_are_the_same_wherever_they_are_cut(rt: HostRuntime) -> Result<(), Fail> {
+    let alloc = rt.alloc();
+    let text = b"put a\n(p\n)p\n.\n\n# 1 names\n group \nremove b\nend\nnames\nget".as_slice();
+    let requests = b" put a[(p\n)p\n] read\n group remove b end\n names\n".as_slice();
+    for at in 0..text.len() {
+        let all = answered_to_two(alloc, &text[..at], &text[at..]).map_err(|_| AllocError)?;
+        assert!(rt; all.as_slice() == requests, "{at}");
+    }
+    Ok(())
+}
+
+#[test]
+fn a_fault_waits_for_the_requests_in_front(rt: HostRuntime) -> Result<(), Fail> {
+    let alloc = rt.alloc();
+    let mut reader = RequestReader::new(alloc).map_err(|_| AllocError)?;
+    let first = answered(alloc, &mut reader, b"names\n1 names\nget a\n").map_err(|_| AllocError)?;
+    assert!(rt; first.as_slice() == b" names\n".as_slice());
+    for piece in [b"".as_slice(), b"get b\n".as_slice()] {
+        let told = match reader.feed(alloc, piece) {
+            Err(Stop::Fault(fault)) => Some(fault),
+            _ => None,
+        };
+        assert_eq!(rt; told, at(ScriptCode::BadCommand, 2));
     }
     Ok(())
 }

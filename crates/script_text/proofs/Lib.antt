@@ -4,4 +4,7 @@ pub mod StepLaws
 pub mod TextLaws
 pub mod ScriptTurns
 pub mod ScriptLaws
+pub mod RequestLaws
+pub mod ReaderLaws
+pub mod StateLaws
 pub mod ScriptFacts

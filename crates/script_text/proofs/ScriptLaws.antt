@@ -34,7 +34,7 @@ record AreWithinLimits (count : ℕ) (steps : List Step) : Type 0 where
   edits : All HasFewStep steps
 
 abbrev AreSound : ℕ → Option Begun → List (List ℕ) → List Step → Type 0
-AreSound count begun lines steps = IsSound count begun → AreWithinLimits count steps
+AreSound count begun lines steps = IsSound IsSession count begun → AreWithinLimits count steps
 
 sound_follow : Follows AreSound
 sound_follow = record {
@@ -269,7 +269,7 @@ group_utf8 (edit ∷ edits) all =
     let both = utf8_both (edit_texts edit) (group_texts edits) all in
     All-cons IsUtf8Edit edit edits (edit_utf8 edit both.0) (group_utf8 edits both.1)
 
-request_utf8 : (request : Request) → All IsUtf8 (texts_of request) → IsUtf8Request request
+pub request_utf8 : (request : Request) → All IsUtf8 (texts_of request) → IsUtf8Request request
 request_utf8 (Single edit) all = edit_utf8 edit all
 request_utf8 (Get name) all = first_utf8 name [] all
 request_utf8 Names all = tt
@@ -277,7 +277,7 @@ request_utf8 (Build root None) all = first_utf8 root [] all
 request_utf8 (Build root (Some val)) all = two_utf8 root val all
 request_utf8 (Group edits) all = group_utf8 edits all
 
-more_utf8 : (line : List ℕ) (before after : Texts) → is_utf8 line ≡ true → HasMore line before after
+pub more_utf8 : (line : List ℕ) (before after : Texts) → is_utf8 line ≡ true → HasMore line before after
     → All IsUtf8 before → All IsUtf8 after
 more_utf8 line before after utf8 more known =
     rw more.is (All-append IsUtf8 before more.texts known (asked_utf8 line more.texts utf8 more.last))
@@ -291,7 +291,7 @@ one_utf8 : (text : List ℕ) → IsUtf8 text → All IsUtf8 (text ∷ [])
 one_utf8 text is = All-cons IsUtf8 text [] is (All-nil IsUtf8)
 
 -- texts behind a line of UTF-8 are UTF-8 where those before it are
-turned_utf8 : (line : List ℕ) (before after : Texts) → is_utf8 line ≡ true → AreTurned line before after
+pub turned_utf8 : (line : List ℕ) (before after : Texts) → is_utf8 line ≡ true → AreTurned line before after
     → All IsUtf8 before → All IsUtf8 after
 turned_utf8 line before after utf8 (Adds more) known = more_utf8 line before after utf8 more known
 turned_utf8 line before after utf8 (Opens name last is) known =

@@ -65,23 +65,23 @@ module _ (reads : LineReading) (long : Bool) (P : Claim) (rules : GoesOn reads l
 
 -- Lines
 
--- what a line that asks something has: texts among its words, a session, and room for one request more
-pub record IsAsked (count : ℕ) (line : List ℕ) (asked : AskedLine) : Type 0 where
+-- what a line that asks something has: texts among its words, a session of this kind, and room for one request more
+pub record IsAsked (IsNumbered : ℕ → Type 0) (count : ℕ) (line : List ℕ) (asked : AskedLine) : Type 0 where
   pub from : IsFrom (spaced_words line) asked.command
-  pub numbered : IsSession asked.session
+  pub numbered : IsNumbered asked.session
   pub room : count < request_limit
 
 -- what the line asks, it has
-abbrev AsksFrom : ℕ → List ℕ → Result (Option AskedLine) ScriptCode → Type 0
-AsksFrom count line found = IfOk found (λ asked. IfSome asked (IsAsked count line))
+abbrev pub AsksFrom : (ℕ → Type 0) → ℕ → List ℕ → Result (Option AskedLine) ScriptCode → Type 0
+AsksFrom IsNumbered count line found = IfOk found (λ asked. IfSome asked (IsAsked IsNumbered count line))
 
 one_command : (count : ℕ) (line : List ℕ) (session : ℕ) (words : Texts) (command : Result Command ScriptCode)
     → IsSession session → AreLast words (spaced_words line) → IfOk command (IsFrom words)
-    → AsksFrom count line (counted count session command)
+    → AsksFrom IsSession count line (counted count session command)
 one_command count line session words (Err code) numbered are is = tt
 one_command count line session words (Ok command) numbered are is =
     cond_both (nat_le request_limit count) (Err faults.TooManyRequests)
-    (Ok (Some (record { session = session; command = command }))) (AsksFrom count line) (λ full. tt)
+    (Ok (Some (record { session = session; command = command }))) (AsksFrom IsSession count line) (λ full. tt)
     (λ room. record {
       from = from_more words (spaced_words line) command are is;
       numbered = numbered;
@@ -89,7 +89,7 @@ one_command count line session words (Ok command) numbered are is =
     })
 
 in_session : (count : ℕ) (line : List ℕ) (session : Result ℕ ScriptCode) (words : Texts)
-    → IfOk session IsSession → AreLast words (spaced_words line) → AsksFrom count line (asked_in count session words)
+    → IfOk session IsSession → AreLast words (spaced_words line) → AsksFrom IsSession count line (asked_in count session words)
 in_session count line (Err code) words is are = tt
 in_session count line (Ok session) words is are =
     one_command count line session words (command_of words) is are (command_from words)
@@ -105,14 +105,14 @@ is_session (Some session) =
     (omega arith, leb-true session session_limit within)) (λ e. tt))
 
 by_words : (count : ℕ) (line : List ℕ) (words : Texts) → words ≡ spaced_words line
-    → AsksFrom count line (asked_by count words)
+    → AsksFrom IsSession count line (asked_by count words)
 by_words count line [] e = tt
 by_words count line (session ∷ words) e =
     in_session count line (session_of (number_of session)) words (is_session (number_of session)) (session ∷ [], e)
 
-line_asks : (count : ℕ) (line : List ℕ) → AsksFrom count line (script_line count line)
+line_asks : (count : ℕ) (line : List ℕ) → AsksFrom IsSession count line (script_line count line)
 line_asks count line =
-    cond_both (is_passed line) (Ok None) (asked_by count (spaced_words line)) (AsksFrom count line) (λ e. tt)
+    cond_both (is_passed line) (Ok None) (asked_by count (spaced_words line)) (AsksFrom IsSession count line) (λ e. tt)
     (λ e. by_words count line (spaced_words line) refl)
 
 -- what the line of an edit has: texts among its words, and room for one edit more
@@ -162,20 +162,20 @@ edits_in (InPut session put) = 0
 edits_in (InGroup session edits) = length edits
 edits_in (InGroupPut session edits put) = length edits + 1
 
--- what is begun keeps within the limits
-pub record IsHeld (count : ℕ) (begun : Begun) : Type 0 where
+-- what is begun keeps within the limits, in a session of this kind
+pub record IsHeld (IsNumbered : ℕ → Type 0) (count : ℕ) (begun : Begun) : Type 0 where
   pub room : count < request_limit
-  pub numbered : IsSession (session_in begun)
+  pub numbered : IsNumbered (session_in begun)
   pub few : edits_in begun ≤ edit_limit
 
-abbrev pub IsSound : ℕ → Option Begun → Type 0
-IsSound count None = count ≤ request_limit
-IsSound count (Some begun) = IsHeld count begun
+abbrev pub IsSound : (ℕ → Type 0) → ℕ → Option Begun → Type 0
+IsSound IsNumbered count None = count ≤ request_limit
+IsSound IsNumbered count (Some begun) = IsHeld IsNumbered count begun
 
 -- and so does a step behind so many
-pub record IsFit (count : ℕ) (step : Step) : Type 0 where
+pub record IsFit (IsNumbered : ℕ → Type 0) (count : ℕ) (step : Step) : Type 0 where
   pub room : count < request_limit
-  pub numbered : IsSession step.session
+  pub numbered : IsNumbered step.session
   pub few : HasFewEdits step.request
 
 -- Turns
@@ -195,23 +195,25 @@ pub data AreTurned (line : List ℕ) (before after : Texts) : Type 0 where
       → after ≡ front ++ (body ++ line ++ line_feed ∷ []) ∷ [] → AreTurned line before after
 
 -- a line that ends a step
-pub record IsEnd (count : ℕ) (before : Option Begun) (line : List ℕ) (step : Step) : Type 0 where
+pub record IsEnd (IsNumbered : ℕ → Type 0) (count : ℕ) (before : Option Begun) (line : List ℕ) (step : Step)
+    : Type 0 where
   pub texts : HasMore line (pending_texts before) (texts_of step.request)
-  pub fit : IsSound count before → IsFit count step
+  pub fit : IsSound IsNumbered count before → IsFit IsNumbered count step
 
 -- a line that ends none
-pub record IsGoing (count : ℕ) (before : Option Begun) (line : List ℕ) (after : Option Begun) : Type 0 where
+pub record IsGoing (IsNumbered : ℕ → Type 0) (count : ℕ) (before : Option Begun) (line : List ℕ) (after : Option Begun)
+    : Type 0 where
   pub texts : AreTurned line (pending_texts before) (pending_texts after)
-  pub sound : IsSound count before → IsSound count after
+  pub sound : IsSound IsNumbered count before → IsSound IsNumbered count after
 
-abbrev TurnBy : ℕ → Option Begun → List ℕ → Option Step → Option Begun → Type 0
-TurnBy count before line None after = IsGoing count before line after
-TurnBy count before line (Some step) None = IsEnd count before line step
-TurnBy count before line (Some step) (Some after) = ⊥
+abbrev pub TurnBy : (ℕ → Type 0) → ℕ → Option Begun → List ℕ → Option Step → Option Begun → Type 0
+TurnBy IsNumbered count before line None after = IsGoing IsNumbered count before line after
+TurnBy IsNumbered count before line (Some step) None = IsEnd IsNumbered count before line step
+TurnBy IsNumbered count before line (Some step) (Some after) = ⊥
 
 -- what a line leads to is one of the two
-abbrev IsTurn : ℕ → Option Begun → List ℕ → Turn → Type 0
-IsTurn count before line next = TurnBy count before line next.step next.begun
+abbrev pub IsTurn : (ℕ → Type 0) → ℕ → Option Begun → List ℕ → Turn → Type 0
+IsTurn IsNumbered count before line next = TurnBy IsNumbered count before line next.step next.begun
 
 -- no text more
 same_texts : (line : List ℕ) (before after : Texts) → after ≡ before → HasMore line before after
@@ -223,9 +225,9 @@ with_fact : (Q : Type 0) (P : Turn → Type 0) (found : Result Turn ScriptCode) 
 with_fact Q P (Ok next) q is = (q, is)
 with_fact Q P (Err code) q is = tt
 
-module _ (count : ℕ) (line : List ℕ) where
-  command_is : (session : ℕ) (command : Command) → IsAsked count line (record { session = session; command = command })
-      → IsTurn count None line (turn_in session command)
+module _ (IsNumbered : ℕ → Type 0) (count : ℕ) (line : List ℕ) where
+  command_is : (session : ℕ) (command : Command) → IsAsked IsNumbered count line (record { session = session; command = command })
+      → IsTurn IsNumbered count None line (turn_in session command)
   command_is session (Edits (WholeEdit edit)) asked = record {
     texts = record { texts = edit_texts edit; last = asked.from; is = refl };
     fit = λ sound. record { room = asked.room; numbered = asked.numbered; few = tt };
@@ -243,19 +245,19 @@ module _ (count : ℕ) (line : List ℕ) where
     sound = λ sound. record { room = asked.room; numbered = asked.numbered; few = omega arith };
   }
 
-  outside_is : (found : Result (Option AskedLine) ScriptCode) → AsksFrom count line found
-      → IfOk (turn_outside found) (IsTurn count None line)
+  outside_is : (found : Result (Option AskedLine) ScriptCode) → AsksFrom IsNumbered count line found
+      → IfOk (turn_outside found) (IsTurn IsNumbered count None line)
   outside_is (Ok None) asked = record { texts = Adds (same_texts line [] [] refl); sound = λ sound. sound }
   outside_is (Ok (Some asked)) is = command_is asked.session asked.command is
   outside_is (Err code) asked = tt
 
   module _ (session : ℕ) where
     put_is : (put : OpenPut)
-        → IfOk (turn_within (InPut session put) line) (IsTurn count (Some (InPut session put)) line)
+        → IfOk (turn_within (InPut session put) line) (IsTurn IsNumbered count (Some (InPut session put)) line)
     put_is put =
         cond_both (is_body_end line) (Ok (ends session (Single (whole_edit put))))
         (Ok (goes_on (Some (InPut session (with_line put line)))))
-        (λ found. IfOk found (IsTurn count (Some (InPut session put)) line))
+        (λ found. IfOk found (IsTurn IsNumbered count (Some (InPut session put)) line))
         (λ e. record {
           texts = same_texts line (put_texts put) (edit_texts (whole_edit put)) (whole_texts put);
           fit = λ held. record { room = held.room; numbered = held.numbered; few = tt };
@@ -267,7 +269,7 @@ module _ (count : ℕ) (line : List ℕ) where
 
     edit_is : (edits : List Edit) (found : Result (Option EditCommand) ScriptCode)
         → EditsFrom (length edits) line found
-        → IfOk (turn_edit session edits found) (IsTurn count (Some (InGroup session edits)) line)
+        → IfOk (turn_edit session edits found) (IsTurn IsNumbered count (Some (InGroup session edits)) line)
     edit_is edits (Ok None) is =
         record { texts = Adds (same_texts line (group_texts edits) (group_texts edits) refl); sound = λ held. held }
     edit_is edits (Ok (Some (WholeEdit edit))) is = record {
@@ -285,11 +287,11 @@ module _ (count : ℕ) (line : List ℕ) where
     edit_is edits (Err code) is = tt
 
     group_is : (edits : List Edit)
-        → IfOk (turn_within (InGroup session edits) line) (IsTurn count (Some (InGroup session edits)) line)
+        → IfOk (turn_within (InGroup session edits) line) (IsTurn IsNumbered count (Some (InGroup session edits)) line)
     group_is edits =
         cond_both (is_group_end line) (Ok (ends session (Group edits)))
         (turn_edit session edits (edit_line (length edits) line))
-        (λ found. IfOk found (IsTurn count (Some (InGroup session edits)) line))
+        (λ found. IfOk found (IsTurn IsNumbered count (Some (InGroup session edits)) line))
         (λ e. record {
           texts = same_texts line (group_texts edits) (group_texts edits) refl;
           fit = λ held. record { room = held.room; numbered = held.numbered; few = held.few };
@@ -298,12 +300,12 @@ module _ (count : ℕ) (line : List ℕ) where
 
     group_put_is : (edits : List Edit) (put : OpenPut)
         → IfOk (turn_within (InGroupPut session edits put) line)
-        (IsTurn count (Some (InGroupPut session edits put)) line)
+        (IsTurn IsNumbered count (Some (InGroupPut session edits put)) line)
     group_put_is edits put =
         let edit : Edit = whole_edit put in
         cond_both (is_body_end line) (Ok (goes_on (Some (InGroup session (edits ++ edit ∷ [])))))
         (Ok (goes_on (Some (InGroupPut session edits (with_line put line)))))
-        (λ found. IfOk found (IsTurn count (Some (InGroupPut session edits put)) line))
+        (λ found. IfOk found (IsTurn IsNumbered count (Some (InGroupPut session edits put)) line))
         (λ e. record {
           texts = Adds (same_texts line (group_texts edits ++ put_texts put) (group_texts (edits ++ edit ∷ []))
               (more_texts edits edit ∙ ap (λ (texts : Texts). group_texts edits ++ texts) (whole_texts put)));
@@ -322,33 +324,35 @@ module _ (count : ℕ) (line : List ℕ) where
           sound = λ held. record { room = held.room; numbered = held.numbered; few = held.few };
         })
 
-  text_is : (before : Option Begun) → IfOk (turn_of_text script_line count before line) (IsTurn count before line)
-  text_is None = outside_is (script_line count line) (line_asks count line)
-  text_is (Some (InPut session put)) = put_is session put
-  text_is (Some (InGroup session edits)) = group_is session edits
-  text_is (Some (InGroupPut session edits put)) = group_put_is session edits put
+  -- of a line, whichever way it is read outside bodies and groups
+  module _ (reads : LineReading) (asks : AsksFrom IsNumbered count line (reads count line)) where
+    text_is : (before : Option Begun) → IfOk (turn_of_text reads count before line) (IsTurn IsNumbered count before line)
+    text_is None = outside_is (reads count line) asks
+    text_is (Some (InPut session put)) = put_is session put
+    text_is (Some (InGroup session edits)) = group_is session edits
+    text_is (Some (InGroupPut session edits put)) = group_put_is session edits put
 
-  turn_is : (before : Option Begun) → IfOk (turn script_line count before line) (λ next.
-      (is_utf8 line ≡ true) × IsTurn count before line next)
-  turn_is before =
-      cond_both (is_utf8 line) (turn_of_text script_line count before line) (Err faults.NotUtf8)
-      (λ found. IfOk found (λ next. (is_utf8 line ≡ true) × IsTurn count before line next))
-      (λ utf8. with_fact (is_utf8 line ≡ true) (IsTurn count before line) (turn_of_text script_line count before line)
-      utf8 (text_is before)) (λ e. tt)
+    pub turn_is : (before : Option Begun) → IfOk (turn reads count before line) (λ next.
+        (is_utf8 line ≡ true) × IsTurn IsNumbered count before line next)
+    turn_is before =
+        cond_both (is_utf8 line) (turn_of_text reads count before line) (Err faults.NotUtf8)
+        (λ found. IfOk found (λ next. (is_utf8 line ≡ true) × IsTurn IsNumbered count before line next))
+        (λ utf8. with_fact (is_utf8 line ≡ true) (IsTurn IsNumbered count before line)
+        (turn_of_text reads count before line) utf8 (text_is before)) (λ e. tt)
 
 -- what holds of no lines, and of one more line in front, by whether it ends a step
 pub record Follows (P : Claim) : Type 0 where
   pub none : (count : ℕ) → P count None [] []
   pub ends : (count : ℕ) (before : Option Begun) (line : List ℕ) (lines : List (List ℕ)) (step : Step)
-      (steps : List Step) → is_utf8 line ≡ true → IsEnd count before line step
+      (steps : List Step) → is_utf8 line ≡ true → IsEnd IsSession count before line step
       → P (count + 1) None lines steps → P count before (line ∷ lines) (step ∷ steps)
   pub goes : (count : ℕ) (before after : Option Begun) (line : List ℕ) (lines : List (List ℕ)) (steps : List Step)
-      → is_utf8 line ≡ true → IsGoing count before line after
+      → is_utf8 line ≡ true → IsGoing IsSession count before line after
       → P count after lines steps → P count before (line ∷ lines) steps
 
 module _ (P : Claim) (rules : Follows P) where
   by_turn : (count : ℕ) (before : Option Begun) (line : List ℕ) (lines : List (List ℕ)) (step : Option Step)
-      (after : Option Begun) (steps : List Step) → is_utf8 line ≡ true → TurnBy count before line step after
+      (after : Option Begun) (steps : List Step) → is_utf8 line ≡ true → TurnBy IsSession count before line step after
       → P (count_after count step) after lines steps → P count before (line ∷ lines) (option_to_list step ++ steps)
   by_turn count before line lines None after steps utf8 is behind =
       rules.goes count before after line lines steps utf8 is behind
@@ -362,8 +366,8 @@ module _ (P : Claim) (rules : Follows P) where
   steps_follow long = steps_keep script_line long P (record {
     none = rules.none;
     more = λ count begun line lines next steps l t h.
-        let is = subst (λ found. IfOk found (λ next. (is_utf8 line ≡ true) × IsTurn count begun line next)) t
-        (turn_is count line begun) in
+        let is = subst (λ found. IfOk found (λ next. (is_utf8 line ≡ true) × IsTurn IsSession count begun line next)) t
+        (turn_is IsSession count line script_line (line_asks count line) begun) in
         by_turn count begun line lines next.step next.begun steps is.0 is.1 h;
   })
 

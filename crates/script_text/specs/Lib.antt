@@ -8,3 +8,4 @@ pub mod Read
 pub mod Facts
 pub mod Requests
 pub mod Pieces
+pub mod Reader

@@ -1,8 +1,8 @@
 //! Scripts to requests.
 //!
-//! What is used above it: the contract of `read_script`, and the facts that a `Script` keeps. The
-//! steps that are answered are those of the script, and a fault is the first of the first faulty
-//! line.
+//! What is used above it: the contracts of `read_script` and `RequestReader`, and the facts that a
+//! `Script` keeps. The steps that are answered are those of the script, and a fault is the first of
+//! the first faulty line. Requests that come in pieces are read as if they came whole.
 #![tactic(auto)]
 
 ghost use Rattle.dita_doc.specs.Gives.{GivesSeen};
@@ -17,6 +17,9 @@ mod machine;
 mod opened;
 mod outside;
 mod reader;
+mod request_machine;
+mod request_reader;
+mod request_state;
 mod script;
 mod turn;
 mod words;
@@ -24,6 +27,7 @@ mod words;
 use crate::reader::read_lines;
 use dita_doc::Stop;
 pub use fault::{ScriptCode, ScriptFault};
+pub use request_reader::RequestReader;
 pub use script::Script;
 use std::alloc::Global;
 

@@ -4,6 +4,7 @@ ghost use Rattle.std.specs.Prelude.{◌≡◌, ◌∷◌, nat_le, IfOk, IfSome};
 ghost use Rattle.dita_doc.specs.Bytes as bytes_spec;
 ghost use Rattle.dita_doc.specs.Gives.{GivesSeen};
 ghost use Rattle.script_text.specs.Command as command_spec;
+ghost use Rattle.script_text.specs.Requests as requests_spec;
 ghost use Rattle.script_text.specs.Script as script_spec;
 
 use crate::command::{Command, read_command};
@@ -53,6 +54,26 @@ impl LineReader for ScriptLines {
             return Ok(None);
         };
         read_asked(alloc, count, word, words)
+    }
+}
+
+/// The lines of a session over a link: none begins with a session, and as many come as are sent.
+pub struct RequestLines;
+
+impl LineReader for RequestLines {
+    ghost reads = { requests_spec.request_line };
+
+    fn read(
+        &self,
+        alloc: Global,
+        _count: usize,
+        line: &str,
+    ) -> Result<Option<(u32, Command)>, Stop<ScriptCode>> {
+        if is_passed(line) {
+            return Ok(None);
+        }
+        let command = read_command(alloc, line)?;
+        Ok(Some((0, command)))
     }
 }
 
