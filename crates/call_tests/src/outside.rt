@@ -3,7 +3,8 @@
 use crate::given::name;
 use dita_doc::{List, Stop, Text};
 use dita_outside::{
-    Failed, FolderOutlet, MemOutlet, MemSink, MemSource, Outlet, Sink, Source, StdSink, StdSource,
+    Door, Failed, FolderOutlet, Link, MemDoor, MemLink, MemOutlet, MemSink, MemSource, Outlet,
+    Sink, Source, StdSink, StdSource, SureLink,
 };
 use std::alloc::{AllocError, Global};
 use std::io::ErrorKind;
@@ -28,6 +29,20 @@ fn a_source_fails_at_its_second_call(rt: HostRuntime) -> Result<(), Fail> {
     assert!(rt; source.read(&mut buffer) == Err(Failed));
     assert!(rt; source.read(&mut buffer) == Ok(1));
     assert!(rt; buffer[0] == b'c');
+    Ok(())
+}
+
+#[test]
+fn a_source_gives_pieces_of_the_sizes_listed(rt: HostRuntime) -> Result<(), Fail> {
+    let alloc = rt.alloc();
+    let bytes = List::from_slice(alloc, b"abcdefg")?;
+    let mut source = MemSource::in_pieces(bytes, calls(alloc, &[2, 0])?);
+    let mut buffer = [0u8; 8];
+    assert!(rt; source.read(&mut buffer) == Ok(2));
+    assert!(rt; source.read(&mut buffer) == Ok(1));
+    assert!(rt; buffer[0] == b'c');
+    assert!(rt; source.read(&mut buffer) == Ok(4));
+    assert!(rt; source.read(&mut buffer) == Ok(0));
     Ok(())
 }
 
@@ -70,6 +85,95 @@ fn an_outlet_does_not_take_the_page_that_failed(rt: HostRuntime) -> Result<(), F
     assert!(rt; !takes(&mut outlet, alloc, "b1/t.html", b"x")?);
     assert!(rt; takes(&mut outlet, alloc, "b1/t.html", b"y")?);
     assert!(rt; has_one(&outlet, b"y"));
+    Ok(())
+}
+
+// Two messages.
+fn messages(alloc: Global) -> Result<List<List<u8>>, AllocError> {
+    let mut messages = List::new(alloc);
+    messages.push(List::from_slice(alloc, b"one")?)?;
+    messages.push(List::from_slice(alloc, b"two")?)?;
+    Ok(messages)
+}
+
+// Whether a link gives this message next, or its end.
+fn gives<L: Link>(
+    link: &mut L,
+    alloc: Global,
+    message: Option<&[u8]>,
+) -> Result<bool, Stop<Failed>> {
+    let next = link.receive(alloc)?;
+    Ok(next.as_ref().map(List::as_slice) == message)
+}
+
+// Whether these messages were sent, and no other.
+fn were_sent(sent: &List<List<u8>>, messages: &[&[u8]]) -> bool {
+    sent.as_slice()
+        .iter()
+        .map(List::as_slice)
+        .eq(messages.iter().copied())
+}
+
+#[test]
+fn a_link_fails_at_its_second_call_and_loses_nothing(rt: HostRuntime) -> Result<(), Fail> {
+    let alloc = rt.alloc();
+    let mut link = MemLink::new(alloc, messages(alloc)?, calls(alloc, &[2, 4])?);
+    assert_eq!(rt; gives(&mut link, alloc, Some(b"one")), Ok(true));
+    assert_eq!(rt;
+        gives(&mut link, alloc, Some(b"two")),
+        Err(Stop::Fault(Failed))
+    );
+    assert_eq!(rt; gives(&mut link, alloc, Some(b"two")), Ok(true));
+    assert_eq!(rt; link.send(alloc, b"lost"), Err(Stop::Fault(Failed)));
+    assert_eq!(rt; link.send(alloc, b"kept"), Ok(()));
+    assert_eq!(rt; gives(&mut link, alloc, None), Ok(true));
+    assert!(rt; were_sent(link.sent(), &[b"kept"]));
+    Ok(())
+}
+
+#[test]
+fn a_sure_link_keeps_what_is_sent(rt: HostRuntime) -> Result<(), Fail> {
+    let alloc = rt.alloc();
+    let mut link = SureLink::new(alloc, messages(alloc)?);
+    assert_eq!(rt; gives(&mut link, alloc, Some(b"one")), Ok(true));
+    assert_eq!(rt; link.send(alloc, b"three"), Ok(()));
+    assert_eq!(rt; link.send(alloc, b""), Ok(()));
+    assert!(rt; were_sent(link.sent(), &[b"three", b""]));
+    Ok(())
+}
+
+// The links that a door hands out: one to which nothing comes, and one with two messages.
+fn links(alloc: Global) -> Result<List<MemLink>, AllocError> {
+    let mut links = List::new(alloc);
+    let quiet = MemLink::new(alloc, List::new(alloc), List::new(alloc));
+    links.push(quiet)?;
+    links.push(MemLink::new(alloc, messages(alloc)?, List::new(alloc)))?;
+    Ok(links)
+}
+
+// What the links that came back sent: how many messages each.
+fn counts(alloc: Global, door: &MemDoor) -> Result<Vec<usize>, AllocError> {
+    let mut counts = Vec::new(alloc);
+    for link in door.returned().as_slice() {
+        counts.push(link.sent().len())?;
+    }
+    Ok(counts)
+}
+
+#[test]
+fn a_door_keeps_the_links_that_come_back(rt: HostRuntime) -> Result<(), Fail> {
+    let alloc = rt.alloc();
+    let mut door = MemDoor::new(links(alloc)?, calls(alloc, &[2])?);
+    assert!(rt; door.listen(0).is_ok());
+    assert!(rt; door.accept(alloc).is_err());
+    let first = door.accept(alloc).map_err(|_| "no first link")?;
+    let mut second = door.accept(alloc).map_err(|_| "no second link")?;
+    assert!(rt; door.accept(alloc).is_err());
+    assert_eq!(rt; gives(&mut second, alloc, Some(b"one")), Ok(true));
+    assert_eq!(rt; second.send(alloc, b"answer"), Ok(()));
+    door.end(second);
+    door.end(first);
+    assert!(rt; counts(alloc, &door)?.as_slice() == [1, 0].as_slice());
     Ok(())
 }
 

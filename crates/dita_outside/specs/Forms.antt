@@ -1,9 +1,12 @@
 -- What the forms in memory hold, and whether their next call fails.
-use Rattle.std.specs.Prelude.{if◌then◌else◌, ◌+◌, ◌-◌, ◌^◌, ◌==◌, ◌&&◌, ◌||◌, ℕ, Bool, List, length, drop, min, nat_lt}
-use Rattle.std.specs.List.{list_any}
+use Rattle.std.specs.Prelude.{◌==◌, ◌&&◌, ◌||◌, ◌≤◌, ℕ, Bool, List, [], ◌∷◌, Some, ⊤, length, drop, map, max, nat_lt}
 use Rattle.dita_doc.specs.Bytes.{Bytes}
-use Rattle.dita_outside.specs.Cause.{count_after}
+use Rattle.dita_outside.specs.Calls.{Failing, calls_failing, is_listed}
+use Rattle.dita_outside.specs.Links.{DoorTold, LinkTold, Links, Messages}
 use Rattle.dita_outside.specs.Pages.{Pages}
+use Rattle.dita_outside.specs.declared.mem_door.MemDoor.{MemDoor}
+use Rattle.dita_outside.specs.declared.mem_link.MemLink.{MemLink}
+use Rattle.dita_outside.specs.declared.mem_link.SureLink.{SureLink}
 use Rattle.dita_outside.specs.declared.source.MemSource.{MemSource}
 use Rattle.dita_outside.specs.declared.source.SureSource.{SureSource}
 use Rattle.dita_outside.specs.declared.sink.MemSink.{MemSink}
@@ -11,36 +14,21 @@ use Rattle.dita_outside.specs.declared.sink.SureSink.{SureSink}
 use Rattle.dita_outside.specs.declared.outlet.MemOutlet.{MemOutlet}
 use Rattle.dita_outside.specs.declared.outlet.SureOutlet.{SureOutlet}
 
--- which calls of a form fail, how many there were, and how many failed
-pub record Failing : Type 0 where
-  pub listed : List ℕ
-  pub calls : ℕ
-  pub faults : ℕ
-
--- a form that was not called yet
-abbrev pub not_called : List ℕ → Failing
-not_called listed = record { listed = listed; calls = 0; faults = 0 }
-
--- the number of the next call; calls are counted from 1, and the count stands still at its last value
-abbrev pub next_call : Failing → ℕ
-next_call failing = min (failing.calls + 1) (2 ^ 32 - 1)
-
-abbrev pub is_listed : Failing → Bool
-is_listed failing = list_any (λ call. call == next_call failing) failing.listed
-
--- one call more, which failed or not
-abbrev pub after_call : Bool → Failing → Failing
-after_call failed failing = record {
-  listed = failing.listed;
-  calls = next_call failing;
-  faults = if failed then count_after failing.faults else failing.faults;
-}
-
 abbrev pub source_bytes : MemSource → Bytes
 source_bytes source = drop source.place source.bytes
 
 abbrev pub source_failing : MemSource → Failing
-source_failing source = record { listed = source.failing; calls = source.calls; faults = source.faults }
+source_failing source = calls_failing source.calls
+
+-- the sizes of the next reads
+abbrev pub source_sizes : MemSource → List ℕ
+source_sizes source = source.sizes.items
+
+-- A read gives at most as many bytes as the next size says, where a size of 0 counts as 1. Without a size there is no
+-- limit.
+abbrev pub IsWithin : List ℕ → ℕ → Type 0
+IsWithin [] count = ⊤
+IsWithin (size ∷ sizes) count = count ≤ max size 1
 
 abbrev pub sure_source_bytes : SureSource → Bytes
 sure_source_bytes source = drop source.place source.bytes
@@ -49,7 +37,7 @@ abbrev pub sink_bytes : MemSink → Bytes
 sink_bytes sink = sink.content
 
 abbrev pub sink_failing : MemSink → Failing
-sink_failing sink = record { listed = sink.failing; calls = sink.calls; faults = sink.faults }
+sink_failing sink = calls_failing sink.calls
 
 -- how many bytes more it takes
 abbrev pub sink_room : MemSink → ℕ
@@ -66,7 +54,66 @@ abbrev pub outlet_pages : MemOutlet → Pages
 outlet_pages outlet = outlet.content
 
 abbrev pub outlet_failing : MemOutlet → Failing
-outlet_failing outlet = record { listed = outlet.failing; calls = outlet.calls; faults = outlet.faults }
+outlet_failing outlet = calls_failing outlet.calls
 
 abbrev pub sure_outlet_pages : SureOutlet → Pages
 sure_outlet_pages outlet = outlet.content
+
+-- Links
+
+-- the messages that are still to come
+abbrev pub link_left : MemLink → Messages
+link_left link = link.left.items
+
+abbrev pub link_sent : MemLink → Messages
+link_sent link = link.sent
+
+abbrev pub link_failing : MemLink → Failing
+link_failing link = calls_failing link.calls
+
+abbrev pub link_told : MemLink → LinkTold
+link_told link = record {
+  left = Some (link_left link);
+  sent = Some (link_sent link);
+  faults = (link_failing link).faults;
+}
+
+abbrev pub sure_link_left : SureLink → Messages
+sure_link_left link = link.left.items
+
+abbrev pub sure_link_sent : SureLink → Messages
+sure_link_sent link = link.sent
+
+abbrev pub sure_link_told : SureLink → LinkTold
+sure_link_told link = record { left = Some (sure_link_left link); sent = Some (sure_link_sent link); faults = 0 }
+
+-- Doors
+
+-- the links that are still to be handed out
+abbrev pub door_links : MemDoor → List MemLink
+door_links door = door.links.items
+
+-- the links as they were handed out
+abbrev pub door_accepted : MemDoor → List MemLink
+door_accepted door = map (λ accepted. accepted.value) door.accepted.items
+
+-- the links that were taken back
+abbrev pub door_returned : MemDoor → List MemLink
+door_returned door = door.returned
+
+abbrev pub door_failing : MemDoor → Failing
+door_failing door = calls_failing door.calls
+
+-- an accept fails at a call that is listed, and if no link is left
+abbrev pub accept_fails : MemDoor → Bool
+accept_fails door = is_listed (door_failing door) || (length (door_links door) == 0)
+
+abbrev pub told_links : List MemLink → Links
+told_links links = map link_told links
+
+abbrev pub door_told : MemDoor → DoorTold
+door_told door = record {
+  accepted = Some (told_links (door_accepted door));
+  returned = Some (told_links (door_returned door));
+  faults = (door_failing door).faults;
+}

@@ -1,6 +1,6 @@
 -- What links and doors tell (own). A link has messages that are still to come, and messages that were sent on it. A
 -- door has connections as they were accepted, and as they were taken back. Both are told, or are not.
-use Rattle.std.specs.Prelude.{◌≡◌, ℕ, List, [], ◌∷◌, ◌++◌, Option, Some, None, Result, Ok, Err, ⊤}
+use Rattle.std.specs.Prelude.{◌≡◌, ◌<◌, ◌≤◌, ℕ, List, [], ◌∷◌, ◌++◌, Option, Some, None, Result, Ok, Err, ⊤, length}
 use Rattle.dita_doc.specs.Bytes.{Bytes}
 
 abbrev pub Messages : Type 0
@@ -52,3 +52,32 @@ pub record DoorTold : Type 0 where
   pub accepted : Option Links
   pub returned : Option Links
   pub faults : ℕ
+
+-- A connection is asked for: with Ok it is one more, as it tells then. Any other answer leaves those that there are.
+abbrev pub Accepts : {C E : Type 0} → (C → LinkTold) → Option Links → Option Links → Result C E → Type 0
+Accepts told old new (Ok connection) = HasMore old new (told connection ∷ [])
+Accepts told old new (Err stop) = HasMore old new []
+
+-- no more were taken back than were accepted, if the door tells both
+abbrev pub NoMoreReturned : (accepted returned : Option Links) → Type 0
+NoMoreReturned None returned = ⊤
+NoMoreReturned (Some accepted) None = ⊤
+NoMoreReturned (Some accepted) (Some returned) = length returned ≤ length accepted
+
+-- fewer were taken back than were accepted, if the door tells both
+abbrev pub SomeAreOut : (accepted returned : Option Links) → Type 0
+SomeAreOut None returned = ⊤
+SomeAreOut (Some accepted) None = ⊤
+SomeAreOut (Some accepted) (Some returned) = length returned < length accepted
+
+-- both are told, or neither is
+abbrev pub AreToldAlike : Option Links → Option Links → Type 0
+AreToldAlike None None = ⊤
+AreToldAlike None (Some other) = ⊥
+AreToldAlike (Some links) None = ⊥
+AreToldAlike (Some links) (Some other) = ⊤
+
+-- two doors of which each tells what the other tells
+pub record TellAlike (old new : DoorTold) : Type 0 where
+  pub accepted : AreToldAlike old.accepted new.accepted
+  pub returned : AreToldAlike old.returned new.returned

@@ -5,7 +5,7 @@ ghost use Rattle.dita_outside.specs.Cause as cause_spec;
 ghost use Rattle.dita_outside.specs.Pages as pages_spec;
 
 use crate::Failed;
-use crate::count::with_fault;
+use crate::calls::Calls;
 use dita_doc::{List, Name, Stop};
 use std::alloc::{AllocError, Global};
 
@@ -29,24 +29,21 @@ pub trait Outlet {
 #[derive(Drop)]
 pub struct MemOutlet {
     content: List<(Name, List<u8>)>,
-    failing: List<u32>,
-    calls: u32,
-    faults: u64,
+    calls: Calls,
 }
 
 impl MemOutlet {
+    ghost use Rattle.dita_outside.specs.Calls as calls_spec;
     ghost use Rattle.dita_outside.specs.Forms as forms_spec;
 
     /// An outlet that took no page yet.
     pub fn new(alloc: Global, failing: List<u32>) -> MemOutlet
         ensures pages { forms_spec.outlet_pages result ≡ [] }
-        ensures failing { forms_spec.outlet_failing result ≡ forms_spec.not_called failing }
+        ensures failing { forms_spec.outlet_failing result ≡ calls_spec.not_called failing }
     {
         MemOutlet {
             content: List::new(alloc),
-            failing,
-            calls: 0,
-            faults: 0,
+            calls: Calls::new(failing),
         }
     }
 
@@ -61,29 +58,29 @@ impl MemOutlet {
 impl Outlet for MemOutlet {
     ghost use Rattle.std.specs.Prelude.{◌≡◌, IsTrue, OnOk, IfErr, false, Some};
     ghost use Rattle.dita_doc.specs.Gives.{OnFault};
+    ghost use Rattle.dita_outside.specs.Calls as calls_spec;
     ghost use Rattle.dita_outside.specs.Cause as cause_spec;
     ghost use Rattle.dita_outside.specs.Pages as pages_spec;
     ghost use Rattle.dita_outside.specs.Forms as forms_spec;
 
     ghost pages = { λ o. Some (forms_spec.outlet_pages o) };
 
-    ghost faults = { λ o. o.faults };
+    ghost faults = { λ o. (forms_spec.outlet_failing o).faults };
 
     fn put_page(&mut self, alloc: Global, name: &Name, bytes: &[u8]) -> Result<(), Stop<Failed>>
         ensures page { pages_spec.PutsPage (Some (forms_spec.outlet_pages self.old))
             (Some (forms_spec.outlet_pages self.new)) result (name.now, bytes.now) }
-        ensures cause { cause_spec.HasCauseOrNoMemory self.old.faults self.new.faults result }
+        ensures cause { cause_spec.HasCauseOrNoMemory (forms_spec.outlet_failing self.old).faults
+            (forms_spec.outlet_failing self.new).faults result }
         // It fails at the calls listed, and at no other.
         ensures failed { IfErr result (λ stop. OnFault stop
-            (IsTrue (forms_spec.is_listed (forms_spec.outlet_failing self.old)))) }
+            (IsTrue (calls_spec.is_listed (forms_spec.outlet_failing self.old)))) }
         ensures took { OnOk result
-            (forms_spec.is_listed (forms_spec.outlet_failing self.old) ≡ false) }
-        ensures counted { forms_spec.outlet_failing self.new ≡ forms_spec.after_call
+            (calls_spec.is_listed (forms_spec.outlet_failing self.old) ≡ false) }
+        ensures counted { forms_spec.outlet_failing self.new ≡ calls_spec.after_call
             (cause_spec.is_fault result) (forms_spec.outlet_failing self.old) }
     {
-        self.calls = self.calls.saturating_add(1);
-        if self.failing.as_slice().contains(&self.calls) {
-            self.faults = with_fault(self.faults);
+        if self.calls.call().is_err() {
             return Err(Stop::Fault(Failed));
         }
         self.content.push(page_of(alloc, name, bytes)?)?;

@@ -7,6 +7,7 @@ ghost use Rattle.dita_doc.specs.Bytes.{Bytes};
 ghost use Rattle.dita_outside.specs.Cause as cause_spec;
 
 use crate::Failed;
+use crate::calls::Calls;
 use crate::count::with_fault;
 use dita_doc::{List, Stop};
 use std::alloc::Global;
@@ -35,41 +36,36 @@ pub trait Sink {
 pub struct MemSink {
     content: List<u8>,
     room: u64,
-    failing: List<u32>,
-    calls: u32,
-    faults: u64,
+    calls: Calls,
 }
 
 impl MemSink {
+    ghost use Rattle.dita_outside.specs.Calls as calls_spec;
     ghost use Rattle.dita_outside.specs.Forms as forms_spec;
 
     /// A sink with more room than can be filled.
     pub fn new(alloc: Global, failing: List<u32>) -> MemSink
         ensures bytes { forms_spec.sink_bytes result ≡ [] }
-        ensures failing { forms_spec.sink_failing result ≡ forms_spec.not_called failing }
+        ensures failing { forms_spec.sink_failing result ≡ calls_spec.not_called failing }
         ensures room { forms_spec.sink_room result ≡ 2 ^ 64 - 1 }
     {
         MemSink {
             content: List::new(alloc),
             room: u64::MAX,
-            failing,
-            calls: 0,
-            faults: 0,
+            calls: Calls::new(failing),
         }
     }
 
     /// A sink that takes so many bytes in all, and then fails.
     pub fn with_room(alloc: Global, room: u64) -> MemSink
         ensures bytes { forms_spec.sink_bytes result ≡ [] }
-        ensures failing { forms_spec.sink_failing result ≡ forms_spec.not_called [] }
+        ensures failing { forms_spec.sink_failing result ≡ calls_spec.not_called [] }
         ensures room { forms_spec.sink_room result ≡ room }
     {
         MemSink {
             content: List::new(alloc),
             room,
-            failing: List::new(alloc),
-            calls: 0,
-            faults: 0,
+            calls: Calls::new(List::new(alloc)),
         }
     }
 
@@ -86,19 +82,21 @@ impl Sink for MemSink {
     ghost use Rattle.std.specs.Io.{WritesAtMost};
     ghost use Rattle.std.specs.Io.KnownBytes.{WriteAppends};
     ghost use Rattle.dita_doc.specs.Gives.{OnFault};
+    ghost use Rattle.dita_outside.specs.Calls as calls_spec;
     ghost use Rattle.dita_outside.specs.Cause as cause_spec;
     ghost use Rattle.dita_outside.specs.Forms as forms_spec;
 
     ghost taken = { λ s. Some (forms_spec.sink_bytes s) };
 
-    ghost faults = { λ s. s.faults };
+    ghost faults = { λ s. (forms_spec.sink_failing s).faults };
 
     fn write(&mut self, bytes: &[u8]) -> Result<usize, Stop<Failed>>
         ensures bound { WritesAtMost result bytes.now }
         ensures some { 0 < length bytes.now → IfOk result (λ count. 0 < count) }
         ensures bytes { WriteAppends (Some (forms_spec.sink_bytes self.old))
             (Some (forms_spec.sink_bytes self.new)) result bytes.now }
-        ensures cause { cause_spec.HasCauseOrNoMemory self.old.faults self.new.faults result }
+        ensures cause { cause_spec.HasCauseOrNoMemory (forms_spec.sink_failing self.old).faults
+            (forms_spec.sink_failing self.new).faults result }
         // It fails if the call is listed or the room is full, and else never.
         ensures failed { IfErr result (λ stop. OnFault stop
             (IsTrue (forms_spec.sink_fails self.old bytes.now))) }
@@ -106,14 +104,14 @@ impl Sink for MemSink {
             × (forms_spec.sink_room self.new + count ≡ forms_spec.sink_room self.old)) }
         // A call that takes nothing leaves the room as it was.
         ensures room { OnErr result (forms_spec.sink_room self.new ≡ forms_spec.sink_room self.old) }
-        ensures counted { forms_spec.sink_failing self.new ≡ forms_spec.after_call
+        ensures counted { forms_spec.sink_failing self.new ≡ calls_spec.after_call
             (cause_spec.is_fault result) (forms_spec.sink_failing self.old) }
     {
-        self.calls = self.calls.saturating_add(1);
-        let is_listed = self.failing.as_slice().contains(&self.calls);
-        let is_full = self.room == 0 && !bytes.is_empty();
-        if is_listed || is_full {
-            self.faults = with_fault(self.faults);
+        if self.calls.call().is_err() {
+            return Err(Stop::Fault(Failed));
+        }
+        if self.room == 0 && !bytes.is_empty() {
+            self.calls.fail();
             return Err(Stop::Fault(Failed));
         }
         let count = if bytes.len() as u64 <= self.room {
