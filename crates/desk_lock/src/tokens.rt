@@ -17,6 +17,15 @@ const SESSION_PARTS: u64 = 256;
 
 const HAND_PARTS: u64 = 1;
 
+impl<B> Pass<B> {
+    /// The session of its entries.
+    pub fn session(&self) -> u32
+        ensures { result ≡ self.now.session }
+    {
+        self.session
+    }
+}
+
 impl<B: Shown> Desk<B> {
     /// A pass for another caller, with this session and 256 of the parts of the pass. It has seen
     /// what the pass has seen.
