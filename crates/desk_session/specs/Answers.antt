@@ -1,24 +1,25 @@
 -- What a session answers (own). Each request that is read is one entry of the history, and its answer is the text of
 -- this entry, as it stands in a transcript. Behind the answer to a build that gave pages stands, for each page line,
 -- the text of the row that it names.
-use Rattle.std.specs.Prelude.{◌≡◌, ◌≤◌, ◌+◌, ℕ, List, [], ◌∷◌, Option, None, Some, All, flat_map, map, slice_get}
-use Rattle.build_spec.specs.Built.{BuildOutcome, Done, Page, Stopped, TooLarge}
+use Rattle.std.specs.Prelude.{◌≡◌, ◌≤◌, ◌+◌, ℕ, true, List, [], ◌∷◌, Option, None, Some, All, flat_map, map, slice_get}
+use Rattle.build_spec.specs.Built.{BuildOutcome, Done, Page, Stopped, TooLarge, built_pages}
 use Rattle.dita_doc.specs.Bytes.{Bytes}
 use Rattle.dita_doc.specs.Desk.{Reply, State, reply}
 use Rattle.dita_doc.specs.History.{Entry, sources}
-use Rattle.dita_doc.specs.Lines.{line}
+use Rattle.dita_doc.specs.Lines.{ends_with_line, line, lines_of}
 use Rattle.dita_doc.specs.Request.{Build, Get, Group, Names, Request, Single}
 use Rattle.transcript_text.specs.Transcript.{BuiltPages, InRow, IsContents, IsPage, OfBuild, PageShown, PagesTooLarge, PartShown, RowShown, Shown, StoppedBy, entry_text, entry_with, fault_shown, reply_shown, row_text}
 
 -- Builds
 
--- the row keeps this part of a build of this map with this DITAVAL, and has the page's bytes as its lines
+-- the row keeps this part of a build of this map with this DITAVAL, and has the page's bytes as its lines, cut at each LF
 pub record KeepsPage (root : List ℕ) (val : Option (List ℕ)) (part : PartShown) (page : Page) (row : RowShown)
     : Type 0 where
   pub part_is : row.part ≡ part
   pub map_is : row.map ≡ root
   pub val_is : row.val ≡ val
   pub bytes : flat_map line row.lines ≡ page.1
+  pub lines : row.lines ≡ lines_of page.1
 
 -- there is a row for each page, in order, from the page of this index on; the last page is the contents page
 abbrev pub KeepPages : List ℕ → Option (List ℕ) → ℕ → List Page → List RowShown → Type 0
@@ -46,6 +47,11 @@ ShowsBuild root val (TooLarge total) shown rows = (shown ≡ OfBuild (PagesTooLa
 -- what the build of a map with a DITAVAL gives over what is stored
 abbrev pub CleanBuild : Type 0
 CleanBuild = State → List ℕ → Option (List ℕ) → BuildOutcome
+
+-- each page of each build is lines, and each of them is ended
+abbrev pub PagesEndWithLine : CleanBuild → Type 0
+PagesEndWithLine clean = (state : State) (root : List ℕ) (val : Option (List ℕ))
+    → All (λ (page : Page). ends_with_line page.1 ≡ true) (built_pages (clean state root val))
 
 -- what is shown of a request with this reply, and the rows that it names: of a build what the clean build gives
 abbrev pub ShowsReply : CleanBuild → State → Request → Reply → Shown → List RowShown → Type 0

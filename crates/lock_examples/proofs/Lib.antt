@@ -2,3 +2,4 @@ mod Short
 mod SeenRows
 mod ClaimRows
 mod WorkRows
+mod SessionLaws

@@ -22,3 +22,7 @@ mod toy;
 mod builds;
 #[cfg(test)]
 mod line_language;
+
+// Sessions over links, in the same language.
+#[cfg(test)]
+mod sessions;
