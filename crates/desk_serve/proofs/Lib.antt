@@ -1,0 +1,10 @@
+pub mod BegunLaws
+pub mod DoorLaws
+pub mod EndLaws
+pub mod KnownLaws
+pub mod PlacedLaws
+pub mod RisingLaws
+pub mod RowLaws
+pub mod RunLaws
+pub mod TakesLaws
+pub mod TogetherLaws
