@@ -44,6 +44,8 @@ fn words_are_read_or_not(rt: HostRuntime) -> Result<(), Fail> {
         "dita_desk clean --number 9223372036854775808",
         "dita_desk clean --port 65536",
         "dita_desk clean --connections 0",
+        "dita_desk serve --connections 1025",
+        "dita_desk serve --port 65536",
         "dita_desk clean --out a --out b",
         "dita_desk clean --out=",
         "dita_desk clean --out",
@@ -88,6 +90,47 @@ fn is_project(named: &Mode, number: u64, topics: u32) -> bool {
 }
 
 #[test]
+fn a_server_is_asked_for(rt: HostRuntime) -> Result<(), Fail> {
+    let alloc = rt.alloc();
+    let asked = [
+        ("dita_desk serve", 7070u16, 1u32, 4u32),
+        (
+            "dita_desk --port=0 serve --connections 1024 --workers 16",
+            0,
+            1024,
+            16,
+        ),
+        (
+            "dita_desk serve --connections 2 --port 65535 --workers=1",
+            65535,
+            2,
+            1,
+        ),
+    ];
+    for (line, port, connections, workers) in asked {
+        match mode(alloc, &words(alloc, line)?)? {
+            Some(named) => {
+                assert!(rt; is_server(&named, port, connections, workers), "{line}");
+            }
+            None => assert!(rt; false, "{line}"),
+        }
+    }
+    Ok(())
+}
+
+// Whether the mode serves so many connections at this port, with so many workers for each build.
+fn is_server(named: &Mode, port: u16, connections: u32, workers: u32) -> bool {
+    match named {
+        Mode::Serve(listening, team) => {
+            listening.port() == port
+                && listening.connections() == connections
+                && team.count() == workers
+        }
+        _ => false,
+    }
+}
+
+#[test]
 fn the_folder_is_named(rt: HostRuntime) -> Result<(), Fail> {
     let alloc = rt.alloc();
     let folders = [
@@ -111,6 +154,7 @@ fn help_names_each_option(rt: HostRuntime) -> Result<(), Fail> {
         "clean",
         "terms",
         "gen",
+        "serve",
         "--workers <N>",
         "--number <N>",
         "--topics <N>",

@@ -17,7 +17,7 @@ use Rattle.clap.specs.declared.builder.action.ArgAction.TheVariants as actions
 use Rattle.clap.specs.declared.builder.value_parser.Reading.{Reading}
 use Rattle.clap.specs.declared.parser.matches.ValueSource.{ValueSource}
 use Rattle.clap.specs.declared.parser.matches.ValueSource.TheVariants.{CommandLine, DefaultValue}
-use Rattle.command_line.specs.Command.{command, is_read, mode, mode_called, mode_in, mode_of, modes, one_of_these, project_in, workers_in}
+use Rattle.command_line.specs.Command.{command, is_read, listening_in, mode, mode_called, mode_in, mode_of, modes, one_of_these, project_in, workers_in}
 use Rattle.command_laws.specs.Words.{NamesMode}
 use Rattle.command_laws.proofs.StayLaws.{Each, IsLeft, Stays, StaysByDefault, level_stays}
 
@@ -291,13 +291,15 @@ which (name ∷ names) text named = by_test (bytes_eq name text) refl named (whi
 mode_is : (words : List Text) (text name : Text) → is_read words ≡ true
     → first_of (codes "mode") (matches_of command words) ≡ Some text → text ≡ name
     → (first_of (codes "mode") (matches_of command words) ≡ Some name)
-    × (mode_of words ≡ Some (mode_called (project_in (matches_of command words)) (workers_in (matches_of command words)) name))
+    × (mode_of words ≡ Some (mode_called (project_in (matches_of command words))
+    (listening_in (matches_of command words)) (workers_in (matches_of command words)) name))
 mode_is words text name read first same =
     let here = first ∙ ap Some same in
     let rows = matches_of command words in (
       here,
       ap (λ (is : Bool). if is then Some (mode_in (matches_of command words)) else None) read
-          ∙ ap (λ (found : Option Text). Some (mode_called (project_in rows) (workers_in rows) (unwrap_or found []))) here,
+          ∙ ap (λ (found : Option Text). Some (mode_called (project_in rows) (listening_in rows) (workers_in rows)
+          (unwrap_or found []))) here,
     )
 
 pub names_mode : NamesMode
@@ -310,6 +312,9 @@ names_mode words read =
       | inr (inl terms) ↦ inr (inl (mode_is words mode.text (codes "terms") read mode.first terms))
       | inr (inr (inl gen)) ↦ inr (inr (inl (mode_is words mode.text (codes "gen") read mode.first gen)))
       | inr (inr (inr (inl batch))) ↦ inr (inr (inr (inl (mode_is words mode.text (codes "batch") read mode.first batch))))
-      | inr (inr (inr (inr (inl trial)))) ↦ inr (inr (inr (inr (mode_is words mode.text (codes "trial") read mode.first trial))))
-      | inr (inr (inr (inr (inr none)))) ↦ absurd none
+      | inr (inr (inr (inr (inl trial)))) ↦
+          inr (inr (inr (inr (inl (mode_is words mode.text (codes "trial") read mode.first trial)))))
+      | inr (inr (inr (inr (inr (inl serve))))) ↦
+          inr (inr (inr (inr (inr (mode_is words mode.text (codes "serve") read mode.first serve)))))
+      | inr (inr (inr (inr (inr (inr none))))) ↦ absurd none
     ]

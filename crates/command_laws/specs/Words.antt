@@ -3,9 +3,9 @@ use Rattle.std.specs.Prelude.{◌≡◌, ◌≢◌, ◌⊎◌, ℕ, List, [], �
 use Rattle.clap.specs.ValueTests.{is_unsigned_in}
 use Rattle.clap.specs.Simple.{matches_of}
 use Rattle.clap.specs.Walk.{Text, first_of}
-use Rattle.command_line.specs.Command.{command, is_read, mode_of, out_folder, project_in, workers_in}
+use Rattle.command_line.specs.Command.{command, is_read, listening_in, mode_of, out_folder, project_in, workers_in}
 use Rattle.command_line.specs.declared.modes.Mode.{Mode}
-use Rattle.command_line.specs.declared.modes.Mode.TheVariants.{Clean, Terms, Gen, Batch, Trial}
+use Rattle.command_line.specs.declared.modes.Mode.TheVariants.{Clean, Terms, Gen, Batch, Trial, Serve}
 
 -- the program's name, the mode `clean`, and words behind it
 abbrev pub clean_with : Text → List Text → List Text
@@ -40,7 +40,10 @@ NamesMode = (words : List Text) → is_read words ≡ true
     ⊎ (Names (codes "terms") Terms words
     ⊎ (Names (codes "gen") (Gen (project_in (matches_of command words))) words
     ⊎ (Names (codes "batch") (Batch (workers_in (matches_of command words))) words
-    ⊎ Names (codes "trial") (Trial (project_in (matches_of command words)) (workers_in (matches_of command words))) words)))
+    ⊎ (Names (codes "trial") (Trial (project_in (matches_of command words)) (workers_in (matches_of command words)))
+    words
+    ⊎ Names (codes "serve") (Serve (listening_in (matches_of command words)) (workers_in (matches_of command words)))
+    words))))
 
 -- a folder's name is any text that is not empty, and it is the folder
 abbrev pub NamesFolder : Type 0

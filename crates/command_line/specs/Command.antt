@@ -10,7 +10,8 @@ use Rattle.clap.specs.declared.builder.action.ArgAction.TheVariants.{Set}
 use Rattle.clap.specs.declared.builder.value_parser.ValueParser.{ValueParser}
 use Rattle.clap.specs.declared.builder.value_parser.ValueParser.TheVariants as values
 use Rattle.command_line.specs.declared.modes.Mode.{Mode}
-use Rattle.command_line.specs.declared.modes.Mode.TheVariants.{Clean, Terms, Gen, Batch, Trial}
+use Rattle.command_line.specs.declared.modes.Mode.TheVariants.{Clean, Terms, Gen, Batch, Trial, Serve}
+use Rattle.command_line.specs.Listening.{ListeningAsked, most_port, least_connections, most_connections}
 use Rattle.command_line.specs.Project.{ProjectAsked, most_number, least_topics, most_topics, least_workers, most_workers}
 
 -- texts as references, at no address: what a command reads does not depend on where its own texts lie
@@ -22,7 +23,7 @@ one_of_these texts = values.Names (at_no_address (map at_no_address texts))
 
 -- the modes of the program
 abbrev pub modes : List Text
-modes = codes "clean" ∷ codes "terms" ∷ codes "gen" ∷ codes "batch" ∷ codes "trial" ∷ []
+modes = codes "clean" ∷ codes "terms" ∷ codes "gen" ∷ codes "batch" ∷ codes "trial" ∷ codes "serve" ∷ []
 
 -- an argument of one value
 abbrev pub valued : Text → ValueParser → Rule
@@ -46,8 +47,8 @@ abbrev pub options : List Rule
 options = option (codes "workers") (values.Unsigned least_workers most_workers) (codes "4")
     ∷ option (codes "number") (values.Unsigned 0 most_number) (codes "1")
     ∷ option (codes "topics") (values.Unsigned least_topics most_topics) (codes "40")
-    ∷ option (codes "port") (values.Unsigned 0 65535) (codes "7070")
-    ∷ option (codes "connections") (values.Unsigned 1 1024) (codes "1")
+    ∷ option (codes "port") (values.Unsigned 0 most_port) (codes "7070")
+    ∷ option (codes "connections") (values.Unsigned least_connections most_connections) (codes "1")
     ∷ option (codes "out") values.NonEmptyString default_folder
     ∷ []
 
@@ -96,17 +97,25 @@ project_in rows = record {
 abbrev pub workers_in : List Row → ℕ
 workers_in rows = number_in least_workers most_workers (value_in (codes "workers") rows)
 
+-- where sessions connect, and how many are served
+abbrev pub listening_in : List Row → ListeningAsked
+listening_in rows = record {
+  port = number_in 0 most_port (value_in (codes "port") rows);
+  connections = number_in least_connections most_connections (value_in (codes "connections") rows);
+}
+
 -- the mode of a name: of those that the command reads, the one that is none of the others is `clean`
-abbrev pub mode_called : ProjectAsked → ℕ → Text → Mode
-mode_called asked workers text =
+abbrev pub mode_called : ProjectAsked → ListeningAsked → ℕ → Text → Mode
+mode_called asked listening workers text =
     if bytes_eq text (codes "terms") then Terms
     else if bytes_eq text (codes "gen") then Gen asked
     else if bytes_eq text (codes "batch") then Batch workers
     else if bytes_eq text (codes "trial") then Trial asked workers
+    else if bytes_eq text (codes "serve") then Serve listening workers
     else Clean
 
 abbrev pub mode_in : List Row → Mode
-mode_in rows = mode_called (project_in rows) (workers_in rows) (value_in (codes "mode") rows)
+mode_in rows = mode_called (project_in rows) (listening_in rows) (workers_in rows) (value_in (codes "mode") rows)
 
 -- the mode that the words name, if the command reads them
 abbrev pub mode_of : List Text → Option Mode

@@ -1,2 +1,3 @@
+pub mod Listening
 pub mod Project
 pub mod Command

@@ -12,7 +12,7 @@ use std::alloc::{AllocError, Global};
 
 const VERSION: &str = "0.1.0";
 
-static MODES: [&str; 5] = ["clean", "terms", "gen", "batch", "trial"];
+static MODES: [&str; 6] = ["clean", "terms", "gen", "batch", "trial", "serve"];
 
 /// The command of the program: a mode, and the options of all modes. A mode ignores the options that
 /// are not its own.
@@ -21,7 +21,7 @@ pub fn command<'a>(alloc: Global) -> Result<Command<'a>, AllocError>
 {
     let with_mode = named(alloc).arg(mode(alloc))?;
     let workers = number(alloc, "workers", 1, 16, "4").help(
-        "batch and trial: threads that work on one build",
+        "batch, trial and serve: threads that work on one build",
     );
     let start = with_mode.arg(workers)?;
     let made = with_project(alloc, start)?;
@@ -61,11 +61,11 @@ fn with_sessions<'a>(alloc: Global, command: Command<'a>) -> Result<Command<'a>,
         (spec.option (codes "connections") (value_parsers.Unsigned 1 1024) (codes "1"))) }
 {
     let port = number(alloc, "port", 0, 65535, "7070").help(
-        "No mode uses it yet: the port to which sessions connect",
+        "serve: the port of 127.0.0.1 to which sessions connect; 0 takes a free one",
     );
     let placed = command.arg(port)?;
     let connections = number(alloc, "connections", 1, 1024, "1").help(
-        "No mode uses it yet: sessions that are served",
+        "serve: how many sessions are served before the run ends",
     );
     placed.arg(connections)
 }
@@ -92,7 +92,7 @@ fn mode<'a>(alloc: Global) -> Arg<'a>
         .value_name("MODE")
         .value_parser(MODES.as_slice())
         .help(
-            "clean: answers the script on standard input, on one thread; terms: does the same, and adds a page that lists the index terms of each build; gen: writes the script of a project; batch: answers the script on standard input, each session in a thread of its own; trial: answers the script of a project as one session, and writes how much there was",
+            "clean: answers the script on standard input, on one thread; terms: does the same, and adds a page that lists the index terms of each build; gen: writes the script of a project; batch: answers the script on standard input, each session in a thread of its own; trial: answers the script of a project as one session, and writes how much there was; serve: serves sessions over WebSocket, each connection one session, until as many as `--connections` says have ended",
         )
 }
 

@@ -10,5 +10,5 @@ mod modes;
 mod read;
 
 pub use arguments::command;
-pub use modes::{Mode, Project, Workers};
+pub use modes::{Listening, Mode, Project, Workers};
 pub use read::{mode, out_folder};

@@ -1,6 +1,7 @@
 //! The modes of the program.
 
 ghost use Rattle.std.specs.Prelude.{◌≡◌, ◌≤◌};
+ghost use Rattle.command_line.specs.Listening as listening_spec;
 ghost use Rattle.command_line.specs.Project as project_spec;
 
 use std::marker::Model;
@@ -21,6 +22,9 @@ pub enum Mode {
     /// It answers the script of a project as one session, with so many workers for each build, and
     /// writes how much there was; it reads nothing.
     Trial(Project, Workers),
+    /// It serves sessions that connect to a port, each connection one session, with so many workers
+    /// for each build.
+    Serve(Listening, Workers),
 }
 
 /// What a project is made of: a number of at most 2^63 - 1, and 2 to 4,000 topics.
@@ -92,10 +96,54 @@ impl Workers {
         Workers { count }
     }
 
+    /// How many they are, from 1 to 16.
     pub fn count(&self) -> u32
         ensures count { result ≡ self.now }
         ensures within { project_spec.IsTeam self.now }
     {
         self.count
+    }
+}
+
+/// Where sessions connect, and how many are served: a port of 127.0.0.1, and 1 to 1,024 connections.
+/// Port 0 is any free one.
+#[derive(Clone, Copy, Debug, PartialEq, Eq)]
+pub struct Listening {
+    port: u16,
+    connections: u32,
+}
+
+impl Model for Listening {
+    ghost use Rattle.command_line.specs.Listening.{ListeningAsked, IsListening};
+
+    ghost Value = { ListeningAsked };
+
+    ghost view = { λ l. record { port = l.port; connections = l.connections } };
+
+    ghost invariant = { λ l. IsListening l.port l.connections };
+
+    ghost inverse = { λ asked. record { port = asked.port; connections = asked.connections } };
+}
+
+impl Listening {
+    pub(crate) fn new(port: u16, connections: u32) -> Listening
+        requires { listening_spec.IsListening port connections }
+        ensures port { result.port ≡ port }
+        ensures connections { result.connections ≡ connections }
+    {
+        Listening { port, connections }
+    }
+
+    pub fn port(&self) -> u16
+        ensures { result ≡ self.now.port }
+    {
+        self.port
+    }
+
+    pub fn connections(&self) -> u32
+        ensures connections { result ≡ self.now.connections }
+        ensures within { listening_spec.IsListening self.now.port self.now.connections }
+    {
+        self.connections
     }
 }

@@ -7,7 +7,7 @@ ghost use Rattle.clap.specs.Walk.{rows_of};
 ghost use Rattle.command_line.specs.Command as spec;
 
 use crate::arguments::command;
-use crate::modes::{Mode, Project, Workers};
+use crate::modes::{Listening, Mode, Project, Workers};
 use clap::ArgMatches;
 use clap::error::ErrorKind;
 use dita_doc::{NoMemory, Text};
@@ -22,6 +22,8 @@ const GEN: &str = "gen";
 const BATCH: &str = "batch";
 
 const TRIAL: &str = "trial";
+
+const SERVE: &str = "serve";
 
 /// The mode that the words name, of which the first is the program's name, if the command reads
 /// them. It does not read `--help` and `--version`: these ask for a text.
@@ -47,6 +49,8 @@ fn mode_in(matches: &ArgMatches) -> Mode
         Mode::Batch(workers_in(matches))
     } else if name == TRIAL {
         Mode::Trial(project_in(matches), workers_in(matches))
+    } else if name == SERVE {
+        Mode::Serve(listening_in(matches), workers_in(matches))
     } else {
         Mode::Clean
     }
@@ -58,6 +62,14 @@ fn project_in(matches: &ArgMatches) -> Project
     let number = number_in(0, i64::MAX as u64, value_in(matches, "number"));
     let topics = number_in(2, 4000, value_in(matches, "topics"));
     Project::new(number, topics as u32)
+}
+
+fn listening_in(matches: &ArgMatches) -> Listening
+    ensures { result ≡ spec.listening_in (rows_of (found_of matches.now)) }
+{
+    let port = number_in(0, u16::MAX as u64, value_in(matches, "port"));
+    let connections = number_in(1, 1024, value_in(matches, "connections"));
+    Listening::new(port as u16, connections as u32)
 }
 
 fn workers_in(matches: &ArgMatches) -> Workers

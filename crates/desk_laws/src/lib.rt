@@ -22,7 +22,7 @@ ghost use Rattle.run_spec.specs.declared.status.Status.{Status};
 ghost use Rattle.run_spec.specs.declared.status.Status.TheVariants as statuses;
 ghost use Rattle.script_text.specs.Script as script_spec;
 
-use dita_outside::{Outlet, Sink, Source};
+use dita_outside::{Door, Outlet, Sink, Source};
 
 /// Over objects that do not fail, a run is done, rejects its script, or is out of memory. If it is
 /// not out of memory and its source tells its bytes, it ended as all of these say.
@@ -39,16 +39,24 @@ pub fn sure_run()
 /// Over objects that do not fail, the program answers `Words` only if its words name no mode, is
 /// done only if they name one, and rejects a script only in a mode that reads one. Else it is out of
 /// memory.
-pub fn sure_program<S: Source, K: Sink, O: Outlet>()
-    ensures { let of_source = outside_spec.change S.left S.faults in
-        let of_sink = outside_spec.change K.taken K.faults in
-        let of_outlet = outside_spec.change O.pages O.faults in
-        (mode : Option Mode) (source source' : S) (sink sink' : K) (outlet outlet' : O)
-        (status : Status) → sure_run_spec.NoneFailed (of_source source source')
-        (of_sink sink sink') (of_outlet outlet outlet') → ends_spec.EndsProgram mode
-        (λ named. ends_spec.EndsMode named (source' ≡ source) (outlet' ≡ outlet)
-        (of_source source source') (of_sink sink sink') (of_outlet outlet outlet'))
-        ((source' ≡ source) × (sink' ≡ sink) × (outlet' ≡ outlet)) status →
+pub fn sure_program<S: Source, K: Sink, O: Outlet, D: Door>()
+    ensures { (mode : Option Mode) (source source' : S) (sink sink' : K) (outlet outlet' : O)
+        (door door' : D) (status : Status) →
+        let left : ends_spec.AsBefore = record {
+          source = source' ≡ source;
+          outlet = outlet' ≡ outlet;
+          door = door' ≡ door;
+        } in
+        let told : ends_spec.Objects = record {
+          source = outside_spec.change S.left S.faults source source';
+          sink = outside_spec.change K.taken K.faults sink sink';
+          outlet = outside_spec.change O.pages O.faults outlet outlet';
+          door = D.told door;
+          door_after = D.told door';
+        } in
+        sure_run_spec.NoObjectFailed told →
+        ends_spec.EndsProgram mode (λ named. ends_spec.EndsMode named left told)
+        ((source' ≡ source) × (sink' ≡ sink) × (outlet' ≡ outlet) × (door' ≡ door)) status →
         sure_run_spec.IsSureProgram mode status }
 {}
 

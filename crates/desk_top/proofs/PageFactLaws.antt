@@ -98,12 +98,12 @@ page_found_ends room world plan val index None = refl
 page_found_ends room world plan val index (Some page) =
     root_ends room world plan val index page (root_in world page.id.doc)
 
-part_ends : (room : Rooms) (world : World) (plan : Plan) (val : Option (List ℕ)) (index : ℕ)
+pub part_ends : (room : Rooms) (world : World) (plan : Plan) (val : Option (List ℕ)) (index : ℕ)
     → ends_with_line (page_part room world plan val index).bytes ≡ true
 unfolding page_part
 part_ends room world plan val index = page_found_ends room world plan val index (slice_get plan.pages index)
 
-contents_end : (world : World) (plan : Plan) → ends_with_line (contents_part world plan).bytes ≡ true
+pub contents_end : (world : World) (plan : Plan) → ends_with_line (contents_part world plan).bytes ≡ true
 unfolding contents
 contents_end world plan = page_ends (contents_title world plan) (contents_body world plan) []
 

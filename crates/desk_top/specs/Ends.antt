@@ -1,20 +1,24 @@
--- How a run ends, by its status, over what the source, the sink and the outlet tell before and after it. Each status has its
--- own statement. `run_over` gives the status, the pages and the output for the bytes that were read.
+-- How a run ends, by its status, over what the source, the sink, the outlet and the door tell before and after it. Each
+-- status has its own statement. `run_over` gives the status, the pages and the output for the bytes that were read.
 use Rattle.std.specs.Prelude.{◌≡◌, ◌⊎◌, ℕ, Bool, true, false, [], Option, IsNone, IsSomeAnd}
 use Rattle.std.specs.Io.KnownBytes.{Keeps, Appends}
 use Rattle.command_line.specs.declared.modes.Mode.{Mode}
 use Rattle.command_line.specs.declared.modes.Mode.TheVariants as modes
 use Rattle.dita_doc.specs.Bytes.{Bytes}
 use Rattle.dita_outside.specs.Cause.{Rose}
+use Rattle.dita_outside.specs.Links.{DoorTold}
 use Rattle.dita_outside.specs.Pages.{Pages, TakesPages, TakesPagesFront}
 use Rattle.run_spec.specs.declared.status.Status.{Status}
 use Rattle.run_spec.specs.declared.status.Status.TheVariants as statuses
 use Rattle.run_spec.specs.CleanRun.{HasForm, read_limit, run_over}
 use Rattle.run_spec.specs.EndsBatch.{EndsBatch}
+use Rattle.run_spec.specs.EndsServe.{EndsServe}
 use Rattle.run_spec.specs.EndsTrial.{EndsGen, EndsTrial}
+use Rattle.run_spec.specs.Language.{dita}
 use Rattle.run_spec.specs.Reads.{Reads}
 use Rattle.run_spec.specs.Written.{AppendsFront}
 use Rattle.script_text.specs.Script.{script_of}
+use Rattle.desk_session.specs.Serving.{breaks, serves}
 use Rattle.desk_top.specs.Outside.{Change, streams_after, streams_before, sunk_after, sunk_before}
 
 -- nothing reached the sink and the outlet
@@ -91,18 +95,41 @@ EndsTerms source sink outlet status = EndsRun true source sink outlet status
 abbrev pub EndsProject : (number topics : ℕ) → (sink : Change Bytes) → Status → Type 0
 EndsProject number topics sink status = EndsGen number topics (sunk_before sink) (sunk_after sink) status
 
--- the run of a mode; `gen` and `trial` take the sink alone, and `batch` takes no outlet: what they do not take is as it
--- was, which is said by what is left of the source and of the outlet
-abbrev pub EndsMode : Mode → (source_left outlet_left : Type 0) → (source sink : Change Bytes) → (outlet : Change Pages)
-    → Status → Type 0
-EndsMode modes.Clean source_left outlet_left source sink outlet status = EndsClean source sink outlet status
-EndsMode modes.Terms source_left outlet_left source sink outlet status = EndsTerms source sink outlet status
-EndsMode (modes.Gen asked) source_left outlet_left source sink outlet status =
-    EndsProject asked.number asked.topics sink status × source_left × outlet_left
-EndsMode (modes.Batch workers) source_left outlet_left source sink outlet status =
-    EndsBatch (streams_before source sink) (streams_after source sink) status × outlet_left
-EndsMode (modes.Trial asked workers) source_left outlet_left source sink outlet status =
-    EndsTrial asked.number asked.topics (sunk_before sink) (sunk_after sink) status × source_left × outlet_left
+-- what the objects of a run tell, before it and after it
+pub record Objects : Type 0 where
+  pub source : Change Bytes
+  pub sink : Change Bytes
+  pub outlet : Change Pages
+  pub door : DoorTold
+  pub door_after : DoorTold
+
+-- what says of the source, the outlet and the door that each is as it was before the run
+pub record AsBefore : Type 1 where
+  pub source : Type 0
+  pub outlet : Type 0
+  pub door : Type 0
+
+-- the run of the mode `serve`: the builds of its sessions are those of the language that is published
+abbrev pub EndsServed : (connections : ℕ) → Objects → Status → Type 0
+EndsServed connections told status = EndsServe (serves dita.clean) (breaks dita.clean) connections
+    (record { sink = sunk_before told.sink; door = told.door })
+    (record { sink = sunk_after told.sink; door = told.door_after }) status
+
+-- The run of a mode. What it does not take is as it was: `serve` alone takes a door, and neither the source nor the
+-- outlet; `gen` and `trial` take the sink alone, and `batch` takes no outlet.
+abbrev pub EndsMode : Mode → AsBefore → Objects → Status → Type 0
+EndsMode modes.Clean left told status = EndsClean told.source told.sink told.outlet status × left.door
+EndsMode modes.Terms left told status = EndsTerms told.source told.sink told.outlet status × left.door
+EndsMode (modes.Gen asked) left told status =
+    EndsProject asked.number asked.topics told.sink status × left.source × left.outlet × left.door
+EndsMode (modes.Batch workers) left told status =
+    EndsBatch (streams_before told.source told.sink) (streams_after told.source told.sink) status
+    × left.outlet × left.door
+EndsMode (modes.Trial asked workers) left told status =
+    EndsTrial asked.number asked.topics (sunk_before told.sink) (sunk_after told.sink) status
+    × left.source × left.outlet × left.door
+EndsMode (modes.Serve listening workers) left told status =
+    EndsServed listening.connections told status × left.source × left.outlet
 
 -- an output was written: whole, by a sink that has not failed, and then the status is that of the run; or its beginning,
 -- because the sink failed or memory ran out

@@ -2,8 +2,8 @@
 //! out.
 //!
 //! What is used above it: `desk_top` answers the status of the run that its words name, which is
-//! `run_clean`, `run_terms`, `run_gen`, `run_batch` or `run_trial`. The status says what the source,
-//! the sink and the outlet tell afterwards.
+//! `run_clean`, `run_terms`, `run_gen`, `run_batch`, `run_trial` or `run_serve`. The status says what
+//! the source, the sink, the outlet and the door tell afterwards.
 #![tactic(auto)]
 
 mod batch;
@@ -16,6 +16,7 @@ mod modes;
 mod outside;
 mod path;
 mod run;
+mod serve;
 mod told;
 mod top;
 mod trial;
@@ -25,5 +26,6 @@ pub use command_line::out_folder;
 pub use generate::run_gen;
 pub use modes::{run_clean, run_terms};
 pub use run_spec::Status;
+pub use serve::run_serve;
 pub use top::desk_top;
 pub use trial::run_trial;

@@ -1,6 +1,6 @@
 //! The program `dita_desk`: the words of the command, standard input as the source, standard output
-//! as the sink, and the folder that the words name as the outlet. Its exit status is that of the
-//! run.
+//! as the sink, the folder that the words name as the outlet, and a port of this machine as the door.
+//! Its exit status is that of the run.
 #![tactic(auto)]
 
 use command_line::command;
@@ -11,6 +11,7 @@ use std::io::ErrorKind;
 use std::process::ExitCode;
 use std::{env, io};
 use thiserror::Error;
+use ws_link::TcpDoor;
 
 // A run that did not end as it should, and what the system said if it failed.
 #[derive(Debug, Drop, Error)]
@@ -27,8 +28,10 @@ enum Ended<'a> {
     },
 }
 
+type Prepared = (Vec<String>, FolderOutlet<HostRuntime>, TcpDoor<HostRuntime>);
+
 fn main(rt: HostRuntime) -> ExitCode {
-    let (words, mut outlet) = match prepared(&rt) {
+    let (words, mut outlet, mut door) = match prepared(&rt) {
         Ok(prepared) => prepared,
         Err(status) => return end(&rt, status),
     };
@@ -43,6 +46,7 @@ fn main(rt: HostRuntime) -> ExitCode {
         &mut source,
         &mut sink,
         &mut outlet,
+        &mut door,
         &NoGate,
     );
     match status {
@@ -54,20 +58,26 @@ fn main(rt: HostRuntime) -> ExitCode {
             Some(page) => end_by(&rt, status, page.path.as_str(), Some(page.error)),
             None => end(&rt, status),
         },
+        Status::Port => end_by_door(&rt, &door),
         _ => end(&rt, status),
     }
 }
 
-// The words of the command, and the outlet of pages: the folder that they name.
-fn prepared(rt: &HostRuntime) -> Result<(Vec<String>, FolderOutlet<HostRuntime>), Status> {
+// The words of the command, the outlet of pages, which is the folder that they name, and the door of
+// this machine.
+fn prepared(rt: &HostRuntime) -> Result<Prepared, Status> {
     let words = words_of(rt)?;
     let Ok(folder) = out_folder(rt.alloc(), words.as_slice()) else {
         return Err(Status::NoMemory);
     };
-    match rt.clone() {
-        Ok(rt) => Ok((words, FolderOutlet::new(rt, folder))),
-        Err(_) => Err(Status::NoMemory),
-    }
+    let Ok(writer) = rt.clone() else {
+        return Err(Status::NoMemory);
+    };
+    let Ok(listener) = rt.clone() else {
+        return Err(Status::NoMemory);
+    };
+    let outlet = FolderOutlet::new(writer, folder);
+    Ok((words, outlet, TcpDoor::new(listener)))
 }
 
 fn words_of(rt: &HostRuntime) -> Result<Vec<String>, Status> {
@@ -123,6 +133,15 @@ fn end_by(rt: &HostRuntime, status: Status, place: &str, error: Option<io::Error
             ExitCode::from(status.number())
         }
         None => end(rt, status),
+    }
+}
+
+// The exit status of a door that failed, with the port at which it listened, or was to listen.
+fn end_by_door(rt: &HostRuntime, door: &TcpDoor<HostRuntime>) -> ExitCode {
+    let port = door.port().unwrap_or(door.asked());
+    match format!(in rt.alloc(); "127.0.0.1:{port}") {
+        Ok(place) => end_by(rt, Status::Port, &place, door.last_error()),
+        Err(_) => end(rt, Status::Port),
     }
 }
 

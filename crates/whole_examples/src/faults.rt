@@ -2,7 +2,9 @@
 
 use desk_top::{Status, desk_top, run_clean};
 use dita_doc::List;
-use dita_outside::{MemOutlet, MemSink, MemSource, NoGate, SureOutlet, SureSink, SureSource};
+use dita_outside::{
+    MemDoor, MemOutlet, MemSink, MemSource, NoGate, SureOutlet, SureSink, SureSource,
+};
 use std::alloc::{AllocError, Global};
 use std::sync::Wait;
 use std::test::Fail;
@@ -104,6 +106,7 @@ fn run_words<R: Threads + Wait + Sync>(
     let mut sink = SureSink::new(alloc);
     let mut outlet = SureOutlet::new(alloc);
     let mut source = source(alloc, script)?;
+    let mut door = MemDoor::new(List::new(alloc), List::new(alloc));
     let status = desk_top(
         rt,
         alloc,
@@ -111,6 +114,7 @@ fn run_words<R: Threads + Wait + Sync>(
         &mut source,
         &mut sink,
         &mut outlet,
+        &mut door,
         &NoGate,
     );
     Ok((status, List::from_slice(alloc, sink.bytes().as_slice())?))

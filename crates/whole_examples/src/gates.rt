@@ -86,8 +86,22 @@ fn two_workers_make_parts_at_one_time(rt: HostRuntime) -> Result<(), Fail> {
 
 // Holds each pass for one of two maps until one for the other has begun.
 #[derive(Drop)]
-struct OfMaps {
+pub struct OfMaps {
     meeting: Meeting,
+}
+
+impl OfMaps {
+    /// A gate that nobody has come to.
+    pub fn new() -> OfMaps {
+        OfMaps {
+            meeting: Meeting::new(),
+        }
+    }
+
+    /// Whether nobody waited too long.
+    pub fn all_met(&self) -> bool {
+        self.meeting.all_met()
+    }
 }
 
 impl Gate for OfMaps {
@@ -114,15 +128,13 @@ fn two_maps(alloc: Global) -> Result<String, Fail> {
 #[test]
 fn two_sessions_build_at_one_time(rt: HostRuntime) -> Result<(), Fail> {
     let alloc = rt.alloc();
-    let gate = OfMaps {
-        meeting: Meeting::new(),
-    };
+    let gate = OfMaps::new();
     let script = two_maps(alloc)?;
     let mut source = SureSource::new(List::from_slice(alloc, script.as_bytes())?);
     let mut sink = SureSink::new(alloc);
     let status = run_batch(&rt, alloc, 2, &mut source, &mut sink, &gate);
     assert!(rt; status == Status::Done);
-    assert!(rt; gate.meeting.all_met());
+    assert!(rt; gate.all_met());
     Ok(())
 }
 

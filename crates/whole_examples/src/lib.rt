@@ -16,10 +16,14 @@ mod gates;
 #[cfg(test)]
 mod generated;
 #[cfg(test)]
+mod no_room;
+#[cfg(test)]
 mod pages;
 #[cfg(test)]
 mod replies;
 #[cfg(test)]
 mod runs;
+#[cfg(test)]
+mod serving;
 #[cfg(test)]
 mod terms;
