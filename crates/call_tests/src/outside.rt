@@ -3,8 +3,8 @@
 use crate::given::name;
 use dita_doc::{List, Stop, Text};
 use dita_outside::{
-    Door, Failed, FolderOutlet, Link, MemDoor, MemLink, MemOutlet, MemSink, MemSource, Outlet,
-    Sink, Source, StdSink, StdSource, SureLink,
+    Failed, FolderOutlet, Link, MemLink, MemOutlet, MemSink, MemSource, Outlet, Sink, Source,
+    StdSink, StdSource, SureLink,
 };
 use std::alloc::{AllocError, Global};
 use std::io::ErrorKind;
@@ -139,41 +139,6 @@ fn a_sure_link_keeps_what_is_sent(rt: HostRuntime) -> Result<(), Fail> {
     assert_eq!(rt; link.send(alloc, b"three"), Ok(()));
     assert_eq!(rt; link.send(alloc, b""), Ok(()));
     assert!(rt; were_sent(link.sent(), &[b"three", b""]));
-    Ok(())
-}
-
-// The links that a door hands out: one to which nothing comes, and one with two messages.
-fn links(alloc: Global) -> Result<List<MemLink>, AllocError> {
-    let mut links = List::new(alloc);
-    let quiet = MemLink::new(alloc, List::new(alloc), List::new(alloc));
-    links.push(quiet)?;
-    links.push(MemLink::new(alloc, messages(alloc)?, List::new(alloc)))?;
-    Ok(links)
-}
-
-// What the links that came back sent: how many messages each.
-fn counts(alloc: Global, door: &MemDoor) -> Result<Vec<usize>, AllocError> {
-    let mut counts = Vec::new(alloc);
-    for link in door.returned().as_slice() {
-        counts.push(link.sent().len())?;
-    }
-    Ok(counts)
-}
-
-#[test]
-fn a_door_keeps_the_links_that_come_back(rt: HostRuntime) -> Result<(), Fail> {
-    let alloc = rt.alloc();
-    let mut door = MemDoor::new(links(alloc)?, calls(alloc, &[2])?);
-    assert!(rt; door.listen(0).is_ok());
-    assert!(rt; door.accept(alloc).is_err());
-    let first = door.accept(alloc).map_err(|_| "no first link")?;
-    let mut second = door.accept(alloc).map_err(|_| "no second link")?;
-    assert!(rt; door.accept(alloc).is_err());
-    assert_eq!(rt; gives(&mut second, alloc, Some(b"one")), Ok(true));
-    assert_eq!(rt; second.send(alloc, b"answer"), Ok(()));
-    door.end(second);
-    door.end(first);
-    assert!(rt; counts(alloc, &door)?.as_slice() == [1, 0].as_slice());
     Ok(())
 }
 

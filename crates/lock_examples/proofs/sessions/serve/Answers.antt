@@ -1,5 +1,5 @@
 use Rattle.lock_examples.proofs.SessionLaws.{pages_end}
 use Rattle.lock_examples.proofs.sessions.serve.Goals as goal
 
-pub serve_link-requires-clause-pages : goal.serve_link-requires-clause-pages
-serve_link-requires-clause-pages g c = pages_end
+pub serve_link-end-requires-clause-pages : goal.serve_link-end-requires-clause-pages
+serve_link-end-requires-clause-pages g c κs within = pages_end
