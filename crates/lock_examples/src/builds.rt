@@ -113,7 +113,7 @@ fn store<R: Wait>(
     }
 }
 
-// A build of the document 10 by so many workers, as the request 9 of the pass.
+// A build of the map of this name by so many workers, numbered behind what was stored before.
 fn built<R: Threads + Wait + Sync, O: Outlet, G: Gate + Sync>(
     rt: &R,
     alloc: Global,

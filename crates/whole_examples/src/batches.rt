@@ -56,7 +56,7 @@ impl Batch {
 const ONE_TOPIC: &str =
     "1 put m.ditamap\n(map\nAclass - map/map \n(topicref\nAclass - map/topicref \nAhref t.dita\n)topicref\n)map\n.\n1 put t.dita\n(topic\nAclass - topic/topic \nAid t\n(title\nAclass - topic/title \n-Hello\n)title\n(body\nAclass - topic/body \n(p\nAclass - topic/p \n-A & B\n)p\n)body\n)topic\n.\n1 build m.ditamap\n";
 
-// Its transcript. Row 1 is the plan.
+// Its transcript. The plan has the first serial, and no line.
 const ONE_TOPIC_TOLD: &str =
     "dita transcript 1\nentry 0 1 1 stored 1\nentry 1 1 2 stored 2\nentry 2 1 3 built 2 0\n|page t.html row 2\n|page index.html row 3\nrow 2 page m.ditamap - 0 5\n|<!DOCTYPE html>\n|<html><head><meta charset=\"utf-8\"><title>Hello</title></head>\n|<body>\n|<article id=\"t\"><h1>Hello</h1><div class=\"body\"><p>A &amp; B</p></div></article>\n|</body></html>\nrow 3 contents m.ditamap - 0 5\n|<!DOCTYPE html>\n|<html><head><meta charset=\"utf-8\"><title>Contents</title></head>\n|<body>\n|<nav class=\"toc\"><h1>Contents</h1><ul><li><a href=\"t.html\">Hello</a></li></ul></nav>\n|</body></html>\nend 3 3 0\n";
 
