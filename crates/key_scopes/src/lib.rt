@@ -1,7 +1,7 @@
 //! Key scopes, and the search for the definition of a key.
 //!
-//! What is used above it: `scopes` makes the table once for a map, and `find` looks up keys in it
-//! without memory; each exactly.
+//! What is used above it: `scopes` makes the table once for a map, `scope_table` once for a plan whose
+//! nodes have their scopes, and `find` looks up keys in it without memory; each exactly.
 #![tactic(auto)]
 
 mod children;
@@ -14,6 +14,6 @@ mod search;
 mod spans;
 mod table;
 
-pub use made::{ScopesMade, into_scopes, scopes};
+pub use made::{ScopesMade, into_scopes, scope_table, scopes};
 pub use search::find;
 pub use table::ScopeTable;

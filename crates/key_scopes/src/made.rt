@@ -95,6 +95,29 @@ pub fn into_scopes<R: Reader>(
     scopes_of(alloc, reader, nodes)
 }
 
+/// The table alone, of nodes of which the elements are known. Nothing is copied and nothing is asked.
+///
+/// # Errors
+///
+/// Out of memory.
+pub fn scope_table(
+    alloc: Global,
+    homes: &NodeElements,
+    nodes: &[PlanNode],
+) -> Result<ScopeTable, NoMemory>
+    ensures { (world : World) → homes.now ≡ map (cascade_spec.whole_at world) nodes.now
+        → preorder_spec.IsTree nodes.now
+        → IfOk result (λ table. made_spec.IsTableOf world nodes.now table) }
+{
+    let Numbering {
+        scopes,
+        written,
+        ..
+    } = Numbering::of(alloc, homes, nodes)?;
+    let table = table_of(alloc, scopes, written, nodes.len())?;
+    Ok(table)
+}
+
 // What `into_scopes` says, but of the reader's own world.
 #[tactic(auto, using(crate::proofs::Walking::walking))]
 fn scopes_of<R: Reader>(
