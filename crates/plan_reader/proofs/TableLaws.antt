@@ -4,8 +4,7 @@ use Rattle.dita_doc.specs.declared.plan.PagePlan.{PagePlan}
 use Rattle.dita_doc.specs.declared.plan.PlanNode.{PlanNode}
 use Rattle.dita_doc.specs.declared.stop.NoMemory.{NoMemory}
 use Rattle.conref_push.specs.Aimed.{push_targets}
-use Rattle.key_scopes.specs.Made.{AreScopes}
-use Rattle.key_scopes.specs.declared.made.ScopesMade.{ScopesMade}
+use Rattle.key_scopes.specs.Made.{IsTableOf}
 use Rattle.key_scopes.specs.Table.{Table}
 use Rattle.map_spec.specs.Cascade.{whole_at}
 use Rattle.map_spec.specs.Written.{Whole}
@@ -22,11 +21,11 @@ use Rattle.readers.proofs.AmongLaws.{among_back, among_front}
 use Rattle.readers.proofs.DocumentLaws.{asks_after, asks_among, covers_nothing, covers_same}
 use Rattle.readers.proofs.FoundedLaws.{stays_after, stays_among}
 
-pub are_keyed : (world : World) (nodes : List PlanNode) (homes : List (Option Whole)) (made : ScopesMade)
-    → homes ≡ map (whole_at world) nodes → CarryValues world nodes → CarryScopes nodes → AreScopes world nodes made
-    → AreKeyed world nodes homes made.table
-are_keyed world nodes homes made elements values scopes are =
-    record { elements = elements; values = values; scopes = scopes; tabled = ∣ are.table ∣₁ }
+pub are_keyed : (world : World) (nodes : List PlanNode) (homes : List (Option Whole)) (table : Table)
+    → homes ≡ map (whole_at world) nodes → CarryValues world nodes → CarryScopes nodes → IsTableOf world nodes table
+    → AreKeyed world nodes homes table
+are_keyed world nodes homes table elements values scopes tabled =
+    record { elements = elements; values = values; scopes = scopes; tabled = ∣ tabled ∣₁ }
 
 -- a call about documents in which nodes stand, and one about the documents of the plan
 module _ (nodes documents : List (List ℕ)) where

@@ -13,7 +13,7 @@ ghost use Rattle.readers.specs.Founded.{Grows, StaysFounded};
 
 use conref_push::PushTable;
 use dita_doc::{List, Name, NoMemory, Plan, PlanNode};
-use key_scopes::{ScopeTable, ScopesMade, scopes};
+use key_scopes::{ScopeTable, scope_table};
 use page_table::PageTable;
 use plan_nodes::NodeElements;
 use readers::Reader;
@@ -114,7 +114,6 @@ fn keyed<R: Reader>(
     ensures grows { Grows (R.told reader.old) (R.told reader.new) }
 {
     let homes = NodeElements::of(alloc, reader, nodes.as_slice())?;
-    let made = scopes(alloc, reader, nodes)?;
-    let ScopesMade { table, .. } = made;
+    let table = scope_table(alloc, &homes, nodes.as_slice())?;
     Ok((homes, table))
 }
