@@ -1,18 +1,43 @@
 //! Which pages may open a connection.
 
+ghost use Rattle.std.specs.Prelude.{◌≡◌};
+ghost use Rattle.std.specs.List.{list_all};
+ghost use Rattle.dita_doc.specs.Bytes.{is_digit};
+ghost use Rattle.ws_link.specs.Origin as spec;
+
 /// Whether a header `Origin` names this machine: the host 127.0.0.1 or localhost, by http or https,
 /// at any port. A browser sends this header with each WebSocket that a page opens.
-pub fn is_local_origin(origin: &[u8]) -> bool {
-    let host = origin
-        .strip_prefix(b"http://")
-        .or_else(|| origin.strip_prefix(b"https://"));
-    let port = host.and_then(|host| {
-        host.strip_prefix(b"127.0.0.1")
-            .or_else(|| host.strip_prefix(b"localhost"))
-    });
-    match port {
-        Some([]) => true,
-        Some([b':', digits @ ..]) => !digits.is_empty() && digits.iter().all(u8::is_ascii_digit),
-        _ => false,
+pub fn is_local_origin(origin: &[u8]) -> bool
+    ensures { result ≡ spec.is_local origin.now }
+{
+    is_behind(origin, b"http://127.0.0.1")
+        || is_behind(origin, b"http://localhost")
+        || is_behind(origin, b"https://127.0.0.1")
+        || is_behind(origin, b"https://localhost")
+}
+
+// Whether an origin has this beginning, and a port behind it.
+fn is_behind(origin: &[u8], front: &[u8]) -> bool
+    ensures { result ≡ spec.is_behind origin.now front.now }
+{
+    match origin.strip_prefix(front) {
+        Some(port) => is_port(port),
+        None => false,
     }
+}
+
+// No port, or a colon and the digits of one.
+fn is_port(bytes: &[u8]) -> bool
+    ensures { result ≡ spec.is_port bytes.now }
+{
+    match bytes {
+        [] => true,
+        [first, digits @ ..] => *first == b':' && !digits.is_empty() && are_digits(digits),
+    }
+}
+
+fn are_digits(bytes: &[u8]) -> bool
+    ensures { result ≡ list_all is_digit bytes.now }
+{
+    bytes.iter().all(|byte| *byte >= b'0' && *byte <= b'9')
 }
