@@ -14,7 +14,13 @@ from publishing.publication import Publication
 PUBLISHED, FAULTY, NOTHING = 0, 1, 2
 
 
+SIGNALS = (signal.SIGINT, signal.SIGTERM, signal.SIGHUP)
+
+
 def interrupt(_number: int, _frame: object) -> None:
+    """Interrupts the call, once: what comes behind that does not disturb the clearing up."""
+    for number in SIGNALS:
+        signal.signal(number, signal.SIG_IGN)
     raise KeyboardInterrupt
 
 
@@ -37,6 +43,7 @@ def publish(asked: options.Options) -> int:
         publication.run()
     except KeyboardInterrupt:
         publication.progress.clear()
+        publication.clear()
         if not publication.is_put:
             raise
         say("publish: interrupted, and the pages are there", sys.stderr)
@@ -54,7 +61,7 @@ def prepare() -> None:
     for stream in (sys.stdout, sys.stderr):
         if stream is not None:
             stream.reconfigure(errors="backslashreplace")
-    for number in (signal.SIGINT, signal.SIGTERM, signal.SIGHUP):
+    for number in SIGNALS:
         if signal.getsignal(number) != signal.SIG_IGN:
             signal.signal(number, interrupt)
 

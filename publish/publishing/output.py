@@ -78,9 +78,10 @@ class Output:
 
     def __enter__(self) -> Output:
         try:
-            self.make_parents()
-            for folder in (self.work, self.desk, self.pages):
-                folder.mkdir()
+            with uninterrupted():
+                self.make_parents()
+                for folder in (self.work, self.desk, self.pages):
+                    folder.mkdir()
         except OSError as error:
             self.remove()
             raise Stop(f"{self.named}: no folder can be made beside it: {error.strerror}") from None
@@ -92,15 +93,15 @@ class Output:
             self.made_parents.append(parent)
 
     def __exit__(self, kind: type[BaseException] | None, _fault: BaseException | None, _trace: types.TracebackType | None) -> None:
-        with uninterrupted():
-            self.remove()
+        self.remove()
 
     def remove(self) -> None:
-        """Removes what does not take the place of OUT, and the folders made for nothing."""
-        shutil.rmtree(self.work, ignore_errors=True)
-        for parent in reversed(self.made_parents):
-            with contextlib.suppress(OSError):
-                parent.rmdir()
+        """Removes what does not take the place of OUT, and the folders made for nothing. A second call finds nothing to do."""
+        with uninterrupted():
+            shutil.rmtree(self.work, ignore_errors=True)
+            for parent in reversed(self.made_parents):
+                with contextlib.suppress(OSError):
+                    parent.rmdir()
 
     def put(self) -> None:
         """Moves what was made into the place of OUT."""

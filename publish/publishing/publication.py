@@ -32,6 +32,11 @@ class Publication:
         """Whether the pages stand in OUT."""
         return self.output is not None and self.output.is_put
 
+    def clear(self) -> None:
+        """Removes the folder beside OUT, if an interrupt came where the call would have done so itself."""
+        if self.output is not None:
+            self.output.remove()
+
     def messages(self) -> list[Message]:
         return sorted(self.told)
 
@@ -43,8 +48,8 @@ class Publication:
         """Publishes, or stops with OUT as it was."""
         words = program.find()
         roots = self.roots()
-        with Output(self.asked.out, self.asked.folder, self.asked.clean) as output:
-            self.output = output
+        self.output = Output(self.asked.out, self.asked.folder, self.asked.clean)
+        with self.output as output:
             self.read(roots)
             documents = script.in_order(self.sources.documents.values())
             given = script.script_of(documents, roots)

@@ -1,5 +1,7 @@
 """OUT: what is replaced, what stays, and that nothing is lost when a call does not end as it should."""
+import contextlib
 import ctypes
+import io
 import os
 import pty
 import resource
@@ -10,6 +12,7 @@ import time
 from unittest import mock
 
 from cases import PUBLISH, Case, map_of, topic
+from publishing import command
 from publishing.output import MARKER, Output
 
 FILES = {"m.ditamap": map_of("t.dita", "u.dita"), "t.dita": topic("<image href='a.png'/>"), "u.dita": topic("", "u"), "a.png": b"x"}
@@ -168,6 +171,26 @@ class Ends(Case):
                 output.put()
         self.assertTrue(output.is_put)
         self.assertEqual(((self.out / "new.html").is_file(), (self.out / "t.html").exists(), self.left()), (True, False, ["out"]))
+
+    def test_an_interrupt_where_the_folder_beside_out_is_made_or_removed(self):
+        """It comes behind the making, before the folder is in use, or before the removing."""
+        enter = Output.__enter__
+
+        def made(output: Output) -> None:
+            enter(output)
+            os.kill(os.getpid(), signal.SIGTERM)
+
+        def left(*_: object) -> None:
+            os.kill(os.getpid(), signal.SIGTERM)
+
+        for number in command.SIGNALS:
+            self.addCleanup(signal.signal, number, signal.getsignal(number))
+        for name, interrupting in (("__enter__", made), ("__exit__", left)):
+            with mock.patch.object(Output, name, interrupting), contextlib.redirect_stderr(io.StringIO()) as errors:
+                signal.signal(signal.SIGTERM, command.interrupt)
+                with mock.patch.object(command, "prepare"):
+                    status = command.main([str(self.docs), "m.ditamap", str(self.out), "-q"])
+            self.assertEqual((name, status, self.left()), (name, 2 if name == "__enter__" else 0, ["out"]), errors.getvalue())
 
     def test_a_desk_that_fails(self):
         for words, said in [("false", "the desk ended with status 1"), ("true", "the desk's answer has not as many entries"),
