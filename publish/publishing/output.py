@@ -5,6 +5,7 @@ that are not in the list stay, unless the call asks to remove them."""
 from __future__ import annotations
 
 import contextlib
+import ctypes
 import os
 import pathlib
 import shutil
@@ -18,6 +19,7 @@ from publishing.message import Stop
 MARKER = ".publish-made-this"
 HEAD = "Files of this folder that `publish` made. It replaces them when it publishes here again, and leaves all others.\n"
 SIGNALS = (signal.SIGINT, signal.SIGTERM, signal.SIGHUP)
+HERE, EXCHANGE = -100, 2  # AT_FDCWD and RENAME_EXCHANGE of Linux
 
 
 @contextlib.contextmanager
@@ -137,16 +139,27 @@ class Output:
         """Puts the new folder in the place of the old one; if that fails, the old one stands there again."""
         with uninterrupted():
             is_there = self.out.is_dir()
-            if is_there:
-                os.rename(self.out, self.old)
-            try:
-                os.rename(self.pages, self.out)
-            except OSError:
-                if is_there:
-                    os.rename(self.old, self.out)
-                raise
+            if not (is_there and exchange(self.pages, self.out)):
+                self.rename(is_there)
             self.made_parents.clear()
             self.is_put = True
+
+    def rename(self, is_there: bool) -> None:
+        """The same where the system exchanges no folders. Between the two calls OUT is not there."""
+        if is_there:
+            os.rename(self.out, self.old)
+        try:
+            os.rename(self.pages, self.out)
+        except OSError:
+            if is_there:
+                os.rename(self.old, self.out)
+            raise
+
+
+def exchange(one: pathlib.Path, other: pathlib.Path) -> bool:
+    """Has two folders change places in one step, if the system can do that."""
+    call = getattr(ctypes.CDLL(None), "renameat2", None)
+    return call is not None and call(HERE, os.fsencode(one), HERE, os.fsencode(other), EXCHANGE) == 0
 
 
 def link(source: pathlib.Path, target: pathlib.Path) -> None:

@@ -5,6 +5,7 @@ import io
 import os
 import pty
 import resource
+import shutil
 import signal
 import subprocess
 import sys
@@ -13,7 +14,7 @@ from unittest import mock
 
 from cases import PUBLISH, Case, map_of, topic
 from publishing import command
-from publishing.output import MARKER, Output
+from publishing.output import MARKER, Output, exchange
 
 FILES = {"m.ditamap": map_of("t.dita", "u.dita"), "t.dita": topic("<image href='a.png'/>"), "u.dita": topic("", "u"), "a.png": b"x"}
 
@@ -167,9 +168,22 @@ class Ends(Case):
         self.addCleanup(signal.signal, signal.SIGINT, before)
         with self.assertRaises(KeyboardInterrupt), output:
             (output.pages / "new.html").write_text("new")
-            with mock.patch("os.rename", interrupting):
+            with mock.patch("publishing.output.exchange", return_value=False), mock.patch("os.rename", interrupting):
                 output.put()
         self.assertTrue(output.is_put)
+        self.assertEqual(((self.out / "new.html").is_file(), (self.out / "t.html").exists(), self.left()), (True, False, ["out"]))
+
+    def test_out_is_replaced_in_one_step(self):
+        """No call of two takes OUT away first, if the system exchanges folders."""
+        (self.root / "one").mkdir()
+        (self.root / "other").mkdir()
+        if not exchange(self.root / "one", self.root / "other"):
+            self.skipTest("this system exchanges no folders")
+        shutil.rmtree(self.root / "one")
+        shutil.rmtree(self.root / "other")
+        with Output(self.out, self.docs, False) as output, mock.patch("os.rename", side_effect=OSError):
+            (output.pages / "new.html").write_text("new")
+            output.put()
         self.assertEqual(((self.out / "new.html").is_file(), (self.out / "t.html").exists(), self.left()), (True, False, ["out"]))
 
     def test_an_interrupt_where_the_folder_beside_out_is_made_or_removed(self):
