@@ -22,7 +22,7 @@ HERE = pathlib.Path(__file__).resolve().parent
 PUBLISH = HERE.parent / "publish"
 MANUAL = HERE.parent.parent / "examples/manual/source"
 SIGNALS = (signal.SIGINT, signal.SIGTERM, signal.SIGKILL)
-SECONDS = 60
+SECONDS, LATEST = 60, 1.5
 OLD = {"m.ditamap": "<map><title>Old</title><topicref href='old.dita'/></map>", "old.dita": "<topic id='old'><title>Old</title><body/></topic>"}
 
 
@@ -116,7 +116,7 @@ def tried(project: Project, number: signal.Signals, tries: int, chance: random.R
     came: collections.Counter[str] = collections.Counter()
     faults = []
     for _ in range(tries):
-        wait = chance.uniform(0, 1.1 * project.seconds)
+        wait = chance.uniform(0, LATEST * project.seconds)
         how, wrong = project.stopped(number, wait)
         came[how] += 1
         faults += [f"{number.name} after {wait:.3f} s: {fault}" for fault in wrong]
@@ -138,7 +138,7 @@ def main() -> None:
             for number in SIGNALS:
                 came, faults = tried(project, number, tries, chance)
                 count += len(faults)
-                print(f"{title:14} {number.name:8} {tries} times within {1.1 * project.seconds:.2f} s: "
+                print(f"{title:14} {number.name:8} {tries} times within {LATEST * project.seconds:.2f} s: "
                       f"{', '.join(f'{times} {how}' for how, times in sorted(came.items()))}", *faults, sep="\n  ", flush=True)
     sys.exit(f"{count} faults" if count else 0)
 
