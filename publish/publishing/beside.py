@@ -10,10 +10,14 @@ from publishing.message import Stop
 from publishing.pages import Page
 
 
+def targets(pages: dict[str, Page]) -> set[str]:
+    """The files to which pages lead, whether or not they are there."""
+    return {link.path for page in pages.values() for link in page.links if link.path is not None and link.path not in pages}
+
+
 def wanted(folder: pathlib.Path, pages: dict[str, Page]) -> list[str]:
     """The files of FOLDER to which pages lead, by their paths."""
-    paths = {link.path for page in pages.values() for link in page.links if link.path is not None and link.path not in pages}
-    return sorted(path for path in paths if os.path.isfile(folder / path))  # no name is too long for this one
+    return sorted(path for path in targets(pages) if os.path.isfile(folder / path))  # no name is too long for this one
 
 
 def copy(folder: pathlib.Path, paths: Iterable[str], to: pathlib.Path) -> None:

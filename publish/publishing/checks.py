@@ -175,3 +175,9 @@ def passed_over(sources: Sources, pages: Collection[str], has_index: bool) -> It
     show = "the index shows" if has_index else "pages show"
     for kind, places in sorted(found.items()):
         yield Message(*min(places), f"{show} nothing of {kind}: {counted(len(places), 'element')} of the sources", is_warning=True)
+
+
+def told(sources: Sources, pages: dict[str, Page], place_of_page: Callable[[str], str], has_index: bool) -> Iterator[Message]:
+    """All that pages lack, and of what they show nothing."""
+    yield from Checks(sources, pages, place_of_page).all()
+    yield from passed_over(sources, pages, has_index)

@@ -10,7 +10,7 @@ from collections.abc import Callable, Iterator
 
 from publishing import names, reader
 from publishing.document import Document
-from publishing.message import Message
+from publishing.message import Message, Stop
 
 ENDINGS = (".dita", ".ditamap", ".bookmap", ".ditaval", ".xml")
 OUTSIDE = "outside:"
@@ -73,7 +73,7 @@ class Sources:
             return self.documents.get(name)
         has_ending = name.endswith(ENDINGS)
         try:
-            document = reader.read(self.real_folder, name, self.path(name))
+            document = self.fetch(name)
         except reader.Unread as unread:
             if has_ending:
                 self.unread[name] = unread.message
@@ -89,6 +89,11 @@ class Sources:
         else:
             self.documents[name] = document
         return self.documents.get(name)
+
+
+    def fetch(self, name: str) -> Document | None:
+        """The document of the file of a name, whatever it is; none if there is no file."""
+        return reader.read(self.real_folder, name, self.path(name))
 
 
 def leads(document: Document) -> Iterator[tuple[str, bool]]:
@@ -113,6 +118,19 @@ def reach(sources: Sources, roots: list[str], tell: Callable[[int], None] = lamb
                 waiting.append(name)
             elif not is_followed:
                 sources.read(name)
+
+
+def left_out(sources: Sources) -> Iterator[Message]:
+    """A message for each document that is reached and can't be read."""
+    return (Message(it.path, it.line, it.column, f"{it.sentence}: the document is left out") for it in sources.unread.values())
+
+
+def check_roots(sources: Sources, roots: list[str]) -> None:
+    """Stops if the map or the DITAVAL was not read."""
+    for name in roots:
+        if name not in sources.documents:
+            why = "can't be read" if sources.is_there(name) else "is not there any more"
+            raise Stop(f"{sources.place(name)}: {why}")
 
 
 def files_below(folder: pathlib.Path) -> Iterator[str]:

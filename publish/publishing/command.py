@@ -8,13 +8,12 @@ from collections.abc import Sequence
 from typing import TextIO
 
 from publishing import options
+from publishing.interrupts import SIGNALS
+from publishing.live import Live
 from publishing.message import Stop
 from publishing.publication import Publication
 
 PUBLISHED, FAULTY, NOTHING = 0, 1, 2
-
-
-SIGNALS = (signal.SIGINT, signal.SIGTERM, signal.SIGHUP)
 
 
 def interrupt(_number: int, _frame: object) -> None:
@@ -56,6 +55,25 @@ def publish(asked: options.Options) -> int:
     return FAULTY if asked.strict and publication.faults() else PUBLISHED
 
 
+def publish_live(asked: options.Options) -> int:
+    """Publishes again and again, until an interrupt."""
+    site = Live(asked, lambda text: say(text, sys.stdout))
+    try:
+        site.run()
+    except KeyboardInterrupt:
+        if not site.is_put:
+            raise
+        if not asked.quiet:
+            say(f"publish: ended; the pages are in {os.path.abspath(asked.out)}", sys.stderr)
+    except Stop as stop:
+        for message in site.messages():
+            say(str(message), sys.stdout)
+        so = "the pages are those of the last build" if site.is_put else "nothing is published"
+        say(f"publish: {stop}\npublish: {so}", sys.stderr)
+        return NOTHING
+    return PUBLISHED
+
+
 def prepare() -> None:
     """Has messages hold any text, and interrupts come as KeyboardInterrupt."""
     for stream in (sys.stdout, sys.stderr):
@@ -70,7 +88,8 @@ def main(words: Sequence[str]) -> int:
     """The status of a call."""
     prepare()
     try:
-        return publish(options.read(words))
+        asked = options.read(words)
+        return publish_live(asked) if asked.live else publish(asked)
     except options.BadWords as refused:
         say(f"publish: {refused}", sys.stderr)
         return NOTHING

@@ -22,7 +22,7 @@ HINTS = {
 }
 
 
-def why(status: int, output: str, errors: str, folder: pathlib.Path) -> str:
+def why(status: int, output: str, errors: str, folder: pathlib.Path | None = None) -> str:
     """What is told of a run that did not end as it should."""
     if status < 0:
         return f"the desk was stopped by signal {-status}"

@@ -65,7 +65,8 @@ class Term:
 class Document:
     """A document that is well formed. `parts` are its lines for the desk, one or several in each. `ids` has each id as pages have it,
     with the id as written and its places. `away` are the references that lead elsewhere by their scope. `pages` are the targets of which
-    a map makes pages, with the place of their key scope, and `nodes` counts its nodes, as the desk counts them."""
+    a map makes pages, with the place of their key scope, and `nodes` counts its nodes, as the desk counts them. `beside` are the files of
+    entities and DTDs that it asks for."""
 
     name: str
     path: str
@@ -79,6 +80,7 @@ class Document:
     away: set[str] = dataclasses.field(default_factory=set)
     pages: list[tuple[str, Place]] = dataclasses.field(default_factory=list)
     nodes: int = 0
+    beside: set[str] = dataclasses.field(default_factory=set)
     split: list[str] | None = None
 
     def text(self) -> str:

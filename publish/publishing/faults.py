@@ -5,11 +5,11 @@ import collections
 import posixpath
 from collections.abc import Iterable, Iterator
 
-from publishing import names
+from publishing import limits, names
 from publishing.closure import ENDINGS, Sources
 from publishing.document import Document, Place, Reference
-from publishing.message import Message, counted
-from publishing.sentences import REFUSALS, sentence_of
+from publishing.message import Message, Stop, counted
+from publishing.sentences import REFUSALS, STOPS, sentence_of
 from publishing.transcript import Fault
 
 MISSING = {
@@ -98,6 +98,14 @@ def refusals(sources: Sources, replies: Iterable[tuple[str, list[str]]]) -> dict
             sentence = REFUSALS.get(reply[1], "the document is left out")
             told[name] = Message(sources.place(name), *place, sentence, reply[1])
     return told
+
+
+def check_built(sources: Sources, roots: list[str], reply: list[str]) -> None:
+    """Stops if a build, whose reply this is, gave no pages."""
+    if reply[0] != "built":
+        place, beyond = sources.place(roots[0]), limits.beyond(sources, roots[0], reply)
+        words = " ".join(sources.shown(name) for name in roots)
+        raise Stop(f"{place}: {beyond}" if beyond else f"{place}: {STOPS.get(reply[0], '`{}`').format(words)}")
 
 
 def only_images(sources: Sources) -> dict[str, bool]:

@@ -2,6 +2,7 @@
 from __future__ import annotations
 
 import dataclasses
+from collections.abc import Collection
 
 
 @dataclasses.dataclass(frozen=True, order=True)
@@ -33,3 +34,9 @@ class Stop(Exception):
 def counted(count: int, one: str) -> str:
     """`1 page`, `2,000 pages`."""
     return f"{count:,} {one}{'' if count == 1 else 's'}"
+
+
+def count_of(messages: Collection[Message]) -> str:
+    """`2 faults`, `1 fault, 3 warnings`."""
+    warnings = sum(message.is_warning for message in messages)
+    return counted(len(messages) - warnings, "fault") + (f", {counted(warnings, 'warning')}" if warnings else "")

@@ -15,6 +15,7 @@ DESCRIPTION = """Publishes DITA 1.3 documents as HTML.
 
   publish docs manual.ditamap pages               the pages of docs/manual.ditamap, into the folder `pages`
   publish -m docs/manual.ditamap -o pages         the same
+  publish --live docs manual.ditamap pages        the same again and again, whenever a file is saved
   publish docs manual.ditamap pages pro.ditaval   filtered and flagged"""
 
 EPILOG = """What the map reaches is published; what is wrong with it is told by file, line and column, and the rest is published
@@ -39,6 +40,8 @@ class Options:
     keep: pathlib.Path | None
     quiet: bool
     verbose: bool
+    live: bool = False
+    port: int = 0
 
 
 class BadWords(Exception):
@@ -65,6 +68,13 @@ def workers(word: str) -> int:
     return int(word)
 
 
+def port(word: str) -> int:
+    """The port that a word is."""
+    if not word.isascii() or not word.isdecimal() or int(word) > 65_535:
+        raise argparse.ArgumentTypeError(f"`{word}` is no number from 0 to 65535")
+    return int(word)
+
+
 def parser() -> Parser:
     it = Parser(prog="publish", description=DESCRIPTION, epilog=EPILOG, allow_abbrev=False,
                 usage="publish [OPTIONS] [FOLDER MAP OUT [DITAVAL]]", formatter_class=argparse.RawDescriptionHelpFormatter)
@@ -85,6 +95,9 @@ def parser() -> Parser:
     loud = it.add_mutually_exclusive_group()
     loud.add_argument("-q", "--quiet", action="store_true", help="tells what is wrong and nothing else")
     loud.add_argument("-v", "--verbose", action="store_true", help="names each file")
+    it.add_argument("--live", action="store_true",
+                    help="stays, publishes again what is saved, and shows the pages in a browser, until Ctrl-C")
+    it.add_argument("--port", type=port, metavar="N", help="with --live: the port of 127.0.0.1 at which the pages are shown; else a free one")
     it.add_argument("--version", action="version", version=VERSION)
     return it
 
@@ -116,10 +129,24 @@ def inside(folder: pathlib.Path, path: pathlib.Path) -> pathlib.Path:
     return folder / path if not path.is_absolute() and ((folder / path).exists() or not path.exists()) else path
 
 
+NOT_LIVE = {"index": "an index is made by a mode of the desk that serves no sessions", "strict": "its status is 0 if it was ended by Ctrl-C",
+            "keep": "a live site has no script and no transcript"}
+
+
+def check_live(given: argparse.Namespace) -> None:
+    """Refuses options that have no meaning with --live, or without it."""
+    for name, why in NOT_LIVE.items():
+        if given.live and getattr(given, name):
+            raise BadWords(f"--{name} can't stand beside --live: {why}")
+    if given.port is not None and not given.live:
+        raise BadWords("--port stands beside --live alone; `publish --help` says how")
+
+
 def read(words: Sequence[str]) -> Options:
     """What the words ask for; BadWords says why it is nothing. `--help` and `--version` end the program with 0."""
     given = parser().parse_args(list(words))
     by_position(given)
+    check_live(given)
     if given.input is None:
         folder = given.map.parent if given.map is not None else pathlib.Path(".")
         map_path = given.map if given.map is not None else only_map(folder)
@@ -130,4 +157,4 @@ def read(words: Sequence[str]) -> Options:
         map_path = inside(folder, given.map) if given.map is not None else only_map(folder)
     filter_path = inside(folder, given.filter) if given.filter is not None else None
     return Options(folder, map_path, given.out or pathlib.Path("out"), filter_path, given.index, given.workers, given.strict,
-                   given.clean, given.style, given.no_style, given.keep, given.quiet, given.verbose)
+                   given.clean, given.style, given.no_style, given.keep, given.quiet, given.verbose, given.live, given.port or 0)

@@ -9,33 +9,27 @@ import ctypes
 import os
 import pathlib
 import shutil
-import signal
 import types
-from collections.abc import Iterator
+from collections.abc import Iterable, Iterator
 
 from publishing import names
+from publishing.interrupts import uninterrupted
 from publishing.message import Stop
 
 MARKER = ".publish-made-this"
 HEAD = "Files of this folder that `publish` made. It replaces them when it publishes here again, and leaves all others.\n"
-SIGNALS = (signal.SIGINT, signal.SIGTERM, signal.SIGHUP)
 HERE, EXCHANGE = -100, 2  # AT_FDCWD and RENAME_EXCHANGE of Linux
-
-
-@contextlib.contextmanager
-def uninterrupted() -> Iterator[None]:
-    """Holds interrupts back for a few calls that belong together."""
-    before = signal.pthread_sigmask(signal.SIG_BLOCK, SIGNALS)
-    try:
-        yield
-    finally:
-        signal.pthread_sigmask(signal.SIG_SETMASK, before)
 
 
 def made_before(out: pathlib.Path) -> set[str]:
     """The files that the marker of a folder lists."""
     lines = (out / MARKER).read_text(encoding="utf-8").split("\n")
     return {names.decoded(line) for line in lines[1:] if line}
+
+
+def listing(paths: Iterable[str]) -> str:
+    """The text of the marker of a folder in which the tool made these files."""
+    return HEAD + "".join(f"{name}\n" for name in sorted(names.encoded(path) for path in paths))
 
 
 def files_of(folder: pathlib.Path) -> Iterator[str]:
@@ -105,11 +99,19 @@ class Output:
                 with contextlib.suppress(OSError):
                     parent.rmdir()
 
+    def write(self, path: str, data: bytes) -> None:
+        """Makes a file."""
+        target = self.pages / path
+        try:
+            target.parent.mkdir(parents=True, exist_ok=True)
+            target.write_bytes(data)
+        except OSError as error:
+            raise Stop(f"{names.shown(target.name)}: can't be written beside {self.named}: {error.strerror}") from None
+
     def put(self) -> None:
         """Moves what was made into the place of OUT."""
         try:
-            made = sorted(names.encoded(path) for path in files_of(self.pages))
-            (self.pages / MARKER).write_text(HEAD + "".join(f"{path}\n" for path in made), encoding="utf-8")
+            (self.pages / MARKER).write_text(listing(files_of(self.pages)), encoding="utf-8")
             if self.out.is_dir() and (self.out / MARKER).is_file():
                 if not self.is_clean:
                     self.keep_others()
@@ -154,6 +156,54 @@ class Output:
             if is_there:
                 os.rename(self.old, self.out)
             raise
+
+    def can_patch(self, fresh: Iterable[str]) -> bool:
+        """Whether OUT was made by this tool, and has room for files that it did not have: nothing stands at their places, nor a file or
+        a link where they need a folder."""
+        if not (self.out / MARKER).is_file():
+            return False
+        return not any(self.is_taken(path) for path in fresh)
+
+    def is_taken(self, path: str) -> bool:
+        target = self.out / path
+        around = [it for it in target.parents if self.out in it.parents]
+        return os.path.lexists(target) or any(os.path.lexists(it) and (it.is_symlink() or not it.is_dir()) for it in around)
+
+    def patch(self, gone: Iterable[str]) -> None:
+        """Moves what was made to its places in OUT, file by file, and removes files that the tool made before. At each moment each file is
+        whole, and the marker lists it."""
+        made = list(files_of(self.pages))
+        try:
+            with uninterrupted():
+                listed = made_before(self.out)
+                self.mark(listed.union(made))
+                for path in gone:
+                    self.drop(path)
+                for path in made:
+                    (self.out / path).parent.mkdir(parents=True, exist_ok=True)
+                    os.replace(self.pages / path, self.out / path)
+                self.mark(listed.difference(gone).union(made))
+                self.is_put = True
+        except OSError as error:
+            raise Stop(f"{self.named}: a page can't be replaced: {error.strerror}") from None
+
+    def mark(self, paths: Iterable[str]) -> None:
+        """Has the marker of OUT list these files."""
+        text = listing(paths)
+        if (self.out / MARKER).read_text(encoding="utf-8") != text:
+            (self.work / MARKER).write_text(text, encoding="utf-8")
+            os.replace(self.work / MARKER, self.out / MARKER)
+
+    def drop(self, path: str) -> None:
+        """Removes a file of OUT, and the folders around it that are empty then."""
+        (self.out / path).unlink(missing_ok=True)
+        for around in (self.out / path).parents:
+            if around == self.out:
+                return
+            try:
+                around.rmdir()
+            except OSError:
+                return
 
 
 def exchange(one: pathlib.Path, other: pathlib.Path) -> bool:

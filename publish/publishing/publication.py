@@ -3,17 +3,16 @@ from __future__ import annotations
 
 import os
 import pathlib
-import posixpath
 from collections.abc import Callable
 
 import style
-from publishing import beside, checks, closure, desk, faults, limits, names, pages, program, script, transcript
+from publishing import beside, checks, closure, desk, dressing, faults, limits, names, pages, program, script, transcript
 from publishing.document import Document
-from publishing.message import Message, Stop, counted
+from publishing.message import Message, Stop, count_of, counted
 from publishing.options import Options
 from publishing.output import Output
 from publishing.progress import Progress
-from publishing.sentences import STOPS
+from publishing.roots import roots_of
 
 
 class Publication:
@@ -47,7 +46,7 @@ class Publication:
     def run(self) -> None:
         """Publishes, or stops with OUT as it was."""
         words = program.find()
-        roots = self.roots()
+        roots = roots_of(self.asked, self.sources)
         self.output = Output(self.asked.out, self.asked.folder, self.asked.clean)
         with self.output as output:
             self.read(roots)
@@ -60,36 +59,11 @@ class Publication:
             self.take_pages(output, len(documents) + 1)
             self.finish(output)
 
-    def roots(self) -> list[str]:
-        """The names of the map and of the DITAVAL of the call."""
-        found = []
-        for path in (self.asked.map, self.asked.filter):
-            if path is not None:
-                name = self.sources.name_of(str(path))
-                if not path.is_file():
-                    raise Stop(self.no_such(path))
-                found.append(name)
-        if found[0].startswith(closure.OUTSIDE):
-            raise Stop(f"{self.asked.map}: the map does not lie in {self.asked.folder}: name a folder around it by -i")
-        return found
-
-    def no_such(self, path: pathlib.Path) -> str:
-        """That a file of the call is not there, and which of its kind are."""
-        if path.is_dir():
-            return f"{path}: is a folder and no file"
-        ending = path.suffix
-        others = [it for it in closure.files_below(self.asked.folder) if posixpath.splitext(it)[1] == ending]
-        return f"{path}: there is no such file; the files of {self.asked.folder} that end in {ending or 'nothing'}: " \
-               f"{names.shown(', '.join(others[:20])) or 'none'}{', ..' if len(others) > 20 else ''}"
-
     def read(self, roots: list[str]) -> None:
         """Reads what the map reaches; what else is not well formed is only a warning."""
         closure.reach(self.sources, roots, lambda count: self.progress.tell(f"reading document {count:,}", is_now=False))
-        self.told.update(Message(it.path, it.line, it.column, f"{it.sentence}: the document is left out")
-                         for it in self.sources.unread.values())
-        for name in roots:
-            if name not in self.sources.documents:
-                raise Stop(f"{self.sources.place(name)}: can't be read")
+        self.told.update(closure.left_out(self.sources))
+        closure.check_roots(self.sources, roots)
         self.told.update(closure.not_reached(
             self.sources, lambda count: self.progress.tell(f"looking at file {count:,}, which is not reached", is_now=False)))
         if self.asked.verbose:
@@ -110,13 +84,8 @@ class Publication:
         refused = faults.refusals(self.sources, zip((it.name for it in documents), (it.reply for it in entries)))
         self.told.update(refused.values())
         built = entries[-1]
-        if built.reply[0] != "built":
-            place = self.sources.place(roots[0])
-            beyond = limits.beyond(self.sources, roots[0], built.reply)
-            words = " ".join(self.sources.shown(name) for name in roots)
-            raise Stop(f"{place}: {beyond}" if beyond else f"{place}: {STOPS.get(built.reply[0], '`{}`').format(words)}")
-        teller = faults.Teller(self.sources, refused)
-        self.told.update(faults.told_all(teller, map(transcript.fault_of, built.faults())))
+        faults.check_built(self.sources, roots, built.reply)
+        self.told.update(faults.told_all(faults.Teller(self.sources, refused), map(transcript.fault_of, built.faults())))
 
     def take_pages(self, output: Output, number: int) -> None:
         """Reads the desk's pages, and puts them dressed where they are to stand."""
@@ -128,38 +97,24 @@ class Publication:
             data = (made / name).read_bytes()
             page = pages.page_of(name, data.decode("utf-8"))
             self.pages[page.path] = page
-            self.write(output.pages / page.path, dress(data, page.path))
+            output.write(page.path, dress(data, page.path))
             (made / name).unlink()
             if self.asked.verbose:
                 self.say(f"page {self.shown(page.path)}")
 
-    def write(self, path: pathlib.Path, data: bytes) -> None:
-        try:
-            path.parent.mkdir(parents=True, exist_ok=True)
-            path.write_bytes(data)
-        except OSError as error:
-            raise Stop(f"{names.shown(path.name)}: can't be written beside {self.asked.out}: {error.strerror}") from None
-
     def dresser(self, output: Output, made: pathlib.Path) -> Callable[[bytes, str], bytes]:
-        """What gives a page its style sheet, which is put there, and the line to the contents and the index; nothing, if the call wants
-        none."""
-        if self.asked.no_style:
-            return lambda page, path: page
-        try:
-            sheet = style.sheet_bytes(self.asked.style)
-        except OSError as error:
-            raise Stop(f"{self.asked.style}: the style sheet can't be read: {error.strerror}") from None
-        self.write(output.pages / style.SHEET, sheet)
-        title = style.title_of((made / style.CONTENTS_PAGE).read_bytes())
+        """What dresses a page; its style sheet is put there."""
+        sheet = dressing.sheet_of(self.asked)
+        if sheet is not None:
+            output.write(style.SHEET, sheet)
         index = made / style.TERMS_PAGE
         terms = style.title_of(index.read_bytes()) if index.is_file() else None
-        return lambda page, path: style.dress(page, path, title, terms)
+        return dressing.dresser(self.asked, style.title_of((made / style.CONTENTS_PAGE).read_bytes()), terms)
 
     def finish(self, output: Output) -> None:
         """Checks the pages, copies the files to which they lead, and puts all in the place of OUT."""
         self.progress.tell("checking the links")
-        self.told.update(checks.Checks(self.sources, self.pages, self.shown).all())
-        self.told.update(checks.passed_over(self.sources, self.pages, self.asked.index))
+        self.told.update(checks.told(self.sources, self.pages, self.shown, self.asked.index))
         copied = beside.wanted(self.asked.folder, self.pages)
         self.progress.tell(f"copying {counted(len(copied), 'file')}")
         beside.copy(self.asked.folder, copied, output.pages)
@@ -181,9 +136,7 @@ class Publication:
         if not self.asked.quiet:
             if self.asked.index and style.TERMS_PAGE not in self.pages:
                 self.say("there is no index: no page has an index term with a text")
-            wrong, warnings = len(self.faults()), len(self.told) - len(self.faults())
-            and_warnings = f", {counted(warnings, 'warning')}" if warnings else ""
-            self.say(f"{counted(len(self.pages), 'page')} in {os.path.abspath(self.asked.out)}, {counted(wrong, 'fault')}{and_warnings}")
+            self.say(f"{counted(len(self.pages), 'page')} in {os.path.abspath(self.asked.out)}, {count_of(self.told)}")
 
     def keep(self, name: str, data: bytes) -> None:
         """Leaves a file in the folder that the call names for it."""

@@ -19,11 +19,11 @@ BLANKS = " \t\r\n"
 
 
 class Unread(Exception):
-    """Why a file can't be read."""
+    """Why a file can't be read. `beside` are the files of entities and DTDs for which it asked by then."""
 
-    def __init__(self, message: Message) -> None:
+    def __init__(self, message: Message, beside: set[str] | None = None) -> None:
         super().__init__(str(message))
-        self.message = message
+        self.message, self.beside = message, beside or set()
 
 
 @dataclasses.dataclass(slots=True)
@@ -150,7 +150,7 @@ class Reader:
         last = self.files[-1]
         line = last.parser.CurrentLineNumber if line is None else line
         column = last.parser.CurrentColumnNumber if column is None else column
-        return Unread(Message(names.shown(last.path), line, column + 1, sentence))
+        return Unread(Message(names.shown(last.path), line, column + 1, sentence), self.document.beside)
 
     def start(self, name: str, attributes: list[str]) -> None:
         around = self.open[-1] if self.open else None
@@ -271,6 +271,7 @@ class Reader:
     def bring_in(self, context: str | None, base: str, system: str | None, _public: str | None) -> int:
         """An entity or a part of a DTD that is a file of its own: files of FOLDER are read, and no others."""
         path = os.path.normpath(os.path.join(os.path.dirname(names.decoded(base)), system or ""))
+        self.document.beside.add(path)
         if not system or not os.path.isfile(path) or not os.path.realpath(path).startswith(self.folder + os.sep):
             if context is not None:
                 raise self.unread(f"the file `{system}` of an entity is not in the folder")

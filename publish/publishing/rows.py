@@ -57,11 +57,16 @@ class Transcript:
     def page_bytes(self, serial: int) -> bytes:
         """The bytes of a page: the lines of its row, each without its `|`."""
         row = self.rows[serial]
-        return self.data[row.start:row.end][1:].replace(b"\n|", b"\n")
+        return bytes_of(self.data[row.start:row.end])
 
     def built(self) -> list[Entry]:
         """The entries of the builds that are finished."""
         return [entry for entry in self.entries if entry.reply[0] == "built"]
+
+
+def bytes_of(lines: bytes) -> bytes:
+    """The bytes of a page: its lines, each without the `|` in front."""
+    return lines[1:].replace(b"\n|", b"\n")
 
 
 def is_name(name: str) -> bool:
@@ -76,6 +81,15 @@ def lines_end(data: bytes, start: int) -> int:
         return start
     found = NEXT.search(data, start)
     return found.end() if found else len(data)
+
+
+def wrong_below(entry: Entry) -> str | None:
+    """What is wrong with the count of the lines below an entry, by its reply."""
+    told = entry.reply[1:] if entry.reply[0] in COUNTS else []
+    are_numbers = len(told) == COUNTS.get(entry.reply[0], 0) and all(re.fullmatch(NUMBER, word) for word in told)
+    if are_numbers and sum(map(int, told)) == len(entry.below):
+        return None
+    return f"the reply `{' '.join(entry.reply)}` does not tell the {len(entry.below):,} lines below"
 
 
 class Reader:
@@ -123,10 +137,8 @@ class Reader:
 
     def entry(self, entry: Entry, start: int, end: int) -> None:
         entry.below.extend(line[1:] for line in self.text(start, end).split("\n")[:-1])
-        told = entry.reply[1:] if entry.reply[0] in COUNTS else []
-        are_numbers = len(told) == COUNTS.get(entry.reply[0], 0) and all(re.fullmatch(NUMBER, word) for word in told)
-        if not are_numbers or sum(map(int, told)) != len(entry.below):
-            raise self.fault(f"the reply `{' '.join(entry.reply)}` does not tell the {len(entry.below):,} lines below")
+        if wrong := wrong_below(entry):
+            raise self.fault(wrong)
         self.made.entries.append(entry)
 
     def row(self, serial: int, row: Row, told: int, count: int) -> None:
@@ -146,22 +158,55 @@ def read(data: bytes) -> Transcript:
     return Reader(data).whole()
 
 
-def pages_of(transcript: Transcript, entry: Entry) -> list[Page]:
-    """The pages of a finished build, each of which has its row."""
+def page_lines(entry: Entry) -> list[Page]:
+    """The pages of a finished build, each in a row."""
     pages: list[Page] = []
     for line in entry.below[:int(entry.reply[1])]:
         found = PAGE.fullmatch(line)
         if found is None:
             raise Unread(f"request {entry.number}: `{line[:60]}` is no line of a page")
-        name, kind, serial = found[1], found[2], int(found[3])
-        if kind == "bytes":
+        if found[2] == "bytes":
             raise Unread("it has no pages: the modes `clean` and `terms` put them into the folder that `--out` named")
-        if not is_name(name):
-            raise Unread(f"request {entry.number}: `{name}` is no name of a page: it could lead out of the folder")
-        if serial not in transcript.rows:
-            raise Unread(f"request {entry.number}: the page `{name}` is in row {serial}, which is not there")
-        pages.append(Page(name, serial))
+        if not is_name(found[1]):
+            raise Unread(f"request {entry.number}: `{found[1]}` is no name of a page: it could lead out of the folder")
+        pages.append(Page(found[1], int(found[3])))
     return pages
+
+
+def pages_of(transcript: Transcript, entry: Entry) -> list[Page]:
+    """The pages of a finished build, each of which has its row."""
+    pages = page_lines(entry)
+    for page in pages:
+        if page.serial not in transcript.rows:
+            raise Unread(f"request {entry.number}: the page `{page.name}` is in row {page.serial}, which is not there")
+    return pages
+
+
+def entry_in(message: bytes) -> Entry:
+    """The entry that a message of a session is."""
+    try:
+        line, *below = message.decode("utf-8").split("\n")
+    except UnicodeDecodeError:
+        raise Unread("this is not UTF-8") from None
+    if ENTRY.fullmatch(line) is None or below[-1:] != [""] or not all(it.startswith("|") for it in below[:-1]):
+        raise Unread(f"`{line[:60]}` begins no entry")
+    entry = entry_of(line)
+    entry.below.extend(it[1:] for it in below[:-1])
+    if wrong := wrong_below(entry):
+        raise Unread(wrong)
+    return entry
+
+
+def page_in(message: bytes, page: Page) -> bytes:
+    """The bytes of a page, by the message of a session that is its row."""
+    line, _, lines = message.partition(b"\n")
+    found = ROW.fullmatch(line.decode("utf-8", "replace"))
+    if found is None or int(found[1]) != page.serial:
+        raise Unread(f"the row of the page `{page.name}` does not follow")
+    count = lines.count(b"\n|") + 1 if lines else 0
+    if count != int(found[6]) or (lines and (lines[:1] != b"|" or lines[-1:] != b"\n")):
+        raise Unread(f"row {page.serial} tells {int(found[6]):,} lines, and others stand there")
+    return bytes_of(lines)
 
 
 def write_pages(transcript: Transcript, entry: Entry, folder: pathlib.Path, shown: str = "") -> int:

@@ -41,3 +41,9 @@ def dress(page: bytes, page_path: str, contents: bytes = b"Contents", terms: byt
     line = b'<nav class="contents">%s</nav>\n' % b" ".join(links) if links else b""
     sheet = b'<link rel="stylesheet" href="%s%s">' % (up, SHEET.encode())
     return b"".join([head, b"\n", _VIEWPORT, sheet, b"\n", seam, line, body])
+
+
+def add_line(page: bytes, line: bytes) -> bytes:
+    """The page with this line at the end of its head. Bytes that are no page of the desk stay as they are."""
+    head, seam, body = page.partition(_SEAM)
+    return b"".join([head, b"\n", line, b"\n", seam, body]) if seam else page
