@@ -82,6 +82,7 @@ class Document:
     nodes: int = 0
     beside: set[str] = dataclasses.field(default_factory=set)
     split: list[str] | None = None
+    bytes: int = 0
 
     def text(self) -> str:
         """Its lines for the desk, the last one without its end."""
@@ -95,4 +96,6 @@ class Document:
 
     def size(self) -> int:
         """How many bytes its lines have, with their ends."""
-        return len(self.text().encode("utf-8")) + 1
+        if not self.bytes:
+            self.bytes = len(self.text().encode("utf-8")) + 1
+        return self.bytes

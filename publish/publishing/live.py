@@ -2,6 +2,7 @@
 from __future__ import annotations
 
 import os
+import sys
 from collections.abc import Callable
 
 import style
@@ -18,6 +19,8 @@ from publishing.session import Built, Ended, Session
 from publishing.site import Change, Site
 from publishing.terminal import Terminal
 from publishing.watch import Watcher
+
+SWITCH_SECONDS = 0.001  # so long a thread that answers a browser waits at most while messages are put together
 
 
 class Live:
@@ -46,6 +49,7 @@ class Live:
         self.roots = roots_of(self.asked, self.sources)
         self.output()
         preview = Preview(self.asked.out, self.asked.port)
+        sys.setswitchinterval(SWITCH_SECONDS)
         try:
             self.publish({}, preview)
             preview.start()
