@@ -26,7 +26,7 @@ def why(status: int, output: str, errors: str, folder: pathlib.Path | None = Non
     """What is told of a run that did not end as it should."""
     if status < 0:
         return f"the desk was stopped by signal {-status}"
-    lines = errors.strip().replace(f"{folder}/", "").split("\n")
+    lines = (errors.replace(f"{folder}/", "") if folder is not None else errors).strip().split("\n")
     detail = output.strip() if status == 6 else lines[0] if status == 2 else lines[-1]
     return f"{ENDS.get(status, f'the desk ended with status {status}')}: {detail}"
 

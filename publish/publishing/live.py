@@ -158,11 +158,14 @@ class Live:
             is_whole = standing is None or standing != self.identity() or not output.can_patch(files - self.files)
             made, gone = files if is_whole else files & changed, self.files - files
             self.stage(output, pages, made)
-            if is_whole:
-                output.put()
-            elif made or gone:
-                output.patch(gone)
-        self.is_put, self.files, self.standing = True, files, self.identity()
+            try:
+                if is_whole:
+                    output.put()
+                elif made or gone:
+                    output.patch(gone)
+            finally:
+                self.is_put |= output.is_put
+        self.files, self.standing = files, self.identity()
         self.progress.clear()
         self.terminal.wrote(made, gone, pages)
         return made | gone
