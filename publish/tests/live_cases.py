@@ -14,7 +14,7 @@ import time
 from cases import PUBLISH, TOOL, Case, map_of, topic
 
 DESK = f"{sys.executable} {TOOL / 'tests' / 'serve_desk.py'}"
-SECONDS = 60
+SECONDS = 180
 GIVEN = os.environ.get("DITA_DESK")  # what the tests as a whole were given
 FILES = {"m.ditamap": map_of("t.dita", "b/u.dita"), "t.dita": topic("<image href='p/a.png'/>"), "b/u.dita": topic("<p>One</p>", "u", "U"),
          "p/a.png": b"a"}
