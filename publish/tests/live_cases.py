@@ -101,6 +101,15 @@ class Live(Case):
         os.environ.update({"DITA_DESK": DESK, "DESK_LOG": str(self.root.parent / f"{self.root.name}.log"), "LIVE_ROOT": str(self.root)})
         self.addCleanup(pathlib.Path(os.environ["DESK_LOG"]).unlink, missing_ok=True)
 
+    def put(self, files: dict[str, str | bytes], folder: pathlib.Path | None = None) -> None:
+        """Writes files, each beside its place, and renames it there: on a busy machine a look could else find it empty twice."""
+        for name, data in files.items():
+            path = (folder or self.docs) / name
+            path.parent.mkdir(parents=True, exist_ok=True)
+            fresh = path.with_name(f".{path.name}.fresh")
+            fresh.write_bytes(data.encode("utf-8") if isinstance(data, str) else data)
+            os.replace(fresh, path)
+
     def live(self, files: dict[str, str | bytes], *words: str, **how: object) -> Site:
         """A call that runs."""
         self.put(files)
