@@ -92,15 +92,25 @@ class Chance(Live):
             with self.subTest(seed=SEED, count=count):
                 (self.docs / "t0.dita").write_text(self.topic("t0"))
                 site = self.live({})
+                self.wait_until_signals_are_heeded(site.call.pid)
                 end = time.monotonic() + self.chance.choice([0.3, 1.2]) * self.chance.random() * 2
                 while time.monotonic() < end and site.call.poll() is None:
                     (self.docs / "t2.dita").write_text(self.topic("t2"))
                     time.sleep(self.chance.random() * 0.2)
                 number = self.chance.choice([signal.SIGINT, signal.SIGTERM, signal.SIGHUP, signal.SIGKILL])
                 status, errors = site.end(number)
-                self.assertNotIn(str(TOOL), errors)  # Python itself shows one where it starts
+                self.assertNotIn(str(TOOL), errors)
                 self.assertIn(status, (-signal.SIGKILL,) if number == signal.SIGKILL else (0, 2, -number), errors)
                 self.assert_whole(number)
+
+    def wait_until_signals_are_heeded(self, process: int) -> None:
+        """Waits until a call has begun: before that Python itself answers a signal."""
+        until, caught = time.monotonic() + SECONDS, 0
+        while not caught >> (signal.SIGTERM - 1) & 1:
+            self.assertLess(time.monotonic(), until)
+            time.sleep(0.01)
+            status = pathlib.Path(f"/proc/{process}/status").read_text()
+            caught = int(re.search("^SigCgt:\\s*([0-9a-f]+)$", status, re.MULTILINE)[1], 16)
 
     def assert_whole(self, number: int) -> None:
         """No process is left, nothing beside OUT unless the call was killed, and each page ends as a page does."""

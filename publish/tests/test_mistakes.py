@@ -65,6 +65,13 @@ ELSEWHERE = {
     "a full disk, status 2": "test_a_full_disk",
     "an interrupt, status 2": "test_interrupts",
     "closed input, output or pipe": "test_closed_input_and_output",
+    "with `--live`: XML that is broken while one writes": "test_a_file_that_is_not_well_formed_leaves_the_last_good_page",
+    "with `--live`: the map or the DITAVAL is removed": "test_maps_and_ditavals_that_are_not_there_for_a_while",
+    "with `--live`: the map is no map any more": "test_maps_and_ditavals_that_are_not_there_for_a_while",
+    "with `--live`: the desk fails": "test_a_desk_that_dies",
+    "`--live` with a program that is older, status 2": "test_a_program_that_does_not_know_serve",
+    "`--live` with `--index`, `--strict` or `--keep`, status 2": "test_options",
+    "`--port` of which another program has hold, status 2": "test_it_listens_on_this_machine_alone",
 }
 
 
@@ -84,8 +91,12 @@ def spans(text: str) -> list[str]:
 class Mistakes(Case):
     def test_each_row_is_tried(self):
         self.assertEqual(sorted(rows()), sorted({**CASES, **ELSEWHERE}))
+        import test_live
+        import test_live_desks
         import test_out
-        names = {name for it in vars(test_out).values() if isinstance(it, type) and issubclass(it, unittest.TestCase) for name in dir(it)}
+        import test_preview
+        found = [it for module in (test_out, test_live, test_live_desks, test_preview) for it in vars(module).values()]
+        names = {name for it in found if isinstance(it, type) and issubclass(it, unittest.TestCase) for name in dir(it)}
         self.assertEqual(set(ELSEWHERE.values()) - names, set())
 
     def test_what_the_rows_say_is_told(self):
