@@ -19,11 +19,11 @@ NAME = "dita_desk"
 SOURCES = (".rt", ".antt")
 MODES = re.compile(rb"<MODE>[^\[]*\[possible values: ([a-z, ]+)\]")
 HELP_SECONDS = 20
-STACK = 64 << 20  # bytes; the deepest key scopes that a map can have take less than 16 MiB
+STACK = 64 << 20  # bytes; the deepest key scopes that were tried, 64,000 within one another, take more than 16 MiB
 
 
 def give_stack() -> None:
-    """Has the programs that are started from here on have a stack on which the deepest key scopes fit, if the system allows that."""
+    """Has the programs that are started from here on have a large stack, for deep key scopes, if the system allows that."""
     soft, hard = resource.getrlimit(resource.RLIMIT_STACK)
     wanted = STACK if hard == resource.RLIM_INFINITY else min(STACK, hard)
     if soft != resource.RLIM_INFINITY and soft < wanted:
