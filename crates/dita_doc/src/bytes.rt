@@ -1,7 +1,9 @@
 //! Tests of bytes, and bytes and texts cut at a byte.
 
 ghost use Rattle.std.specs.Prelude.{◌≡◌, ◌<◌, MatchOption, bytes_eq};
+ghost use Rattle.std.specs.List.{list_all};
 ghost use Rattle.std.specs.Str.{is_utf8 as is_utf8_of};
+ghost use Rattle.dita_doc.specs.Bytes.{is_digit};
 ghost use Rattle.dita_doc.specs.Cut as cut_spec;
 ghost use Rattle.dita_doc.specs.PlainText as plain_text_spec;
 
@@ -24,6 +26,13 @@ pub fn is_blank(text: &[u8]) -> bool
     ensures { result ≡ plain_text_spec.is_blank text.now }
 {
     text.iter().all(|byte| is_blank_byte(*byte))
+}
+
+/// Whether bytes are decimal digits alone.
+pub fn are_digits(bytes: &[u8]) -> bool
+    ensures { result ≡ list_all is_digit bytes.now }
+{
+    bytes.iter().all(|byte| *byte >= b'0' && *byte <= b'9')
 }
 
 /// Whether two texts are one. Their lengths are compared first: names that are compared often, as

@@ -31,7 +31,8 @@ mod text;
 
 pub use body::Body;
 pub use bytes::{
-    is_blank, is_blank_byte, is_same, is_utf8, split_at_first, split_at_last, split_text_at_first,
+    are_digits, is_blank, is_blank_byte, is_same, is_utf8, split_at_first, split_at_last,
+    split_text_at_first,
 };
 pub use class::{ClassFault, ClassList, Sign, is_token, split_sign, split_word};
 pub use content::{

@@ -1,12 +1,10 @@
 //! How many rows a cell spans.
 
 ghost use Rattle.std.specs.Prelude.{◌≡◌, ◌+◌, ℕ, List, nat_le, if◌then◌else◌};
-ghost use Rattle.std.specs.List.{list_all};
-ghost use Rattle.dita_doc.specs.Bytes.{is_digit};
 ghost use Rattle.doc_elements.specs.Walk as walk_spec;
 ghost use Rattle.html_spec.specs.Tables as tables_spec;
 
-use dita_doc::Node;
+use dita_doc::{Node, are_digits};
 
 // The most rows that a cell can add to its own.
 const MORE_LIMIT: u32 = 9999;
@@ -45,10 +43,4 @@ fn is_decimal(text: &str) -> bool
     ensures { result ≡ tables_spec.is_decimal text.now }
 {
     !text.is_empty() && are_digits(text.as_bytes())
-}
-
-fn are_digits(bytes: &[u8]) -> bool
-    ensures { result ≡ list_all is_digit bytes.now }
-{
-    bytes.iter().all(|byte| *byte >= b'0' && *byte <= b'9')
 }

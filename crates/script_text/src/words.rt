@@ -9,7 +9,7 @@ ghost use Rattle.script_text.specs.Script as script_spec;
 ghost use Rattle.script_text.specs.Words as words_spec;
 
 use crate::fault::ScriptCode;
-use dita_doc::{Name, Stop, split_text_at_first};
+use dita_doc::{Name, Stop, are_digits, split_text_at_first};
 use std::alloc::Global;
 
 // The most digits of a number; its value then fits 64 bits.
@@ -75,12 +75,6 @@ pub fn number_of(word: &str) -> Option<u64>
         return None;
     }
     Some(value_of(digits))
-}
-
-fn are_digits(bytes: &[u8]) -> bool
-    ensures { result ≡ list_all bytes_spec.is_digit bytes.now }
-{
-    bytes.iter().all(|b| *b >= b'0' && *b <= b'9')
 }
 
 fn value_of(digits: &[u8]) -> u64

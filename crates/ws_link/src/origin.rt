@@ -1,9 +1,9 @@
 //! Which pages may open a connection.
 
 ghost use Rattle.std.specs.Prelude.{◌≡◌};
-ghost use Rattle.std.specs.List.{list_all};
-ghost use Rattle.dita_doc.specs.Bytes.{is_digit};
 ghost use Rattle.ws_link.specs.Origin as spec;
+
+use dita_doc::are_digits;
 
 /// Whether a header `Origin` names this machine: the host 127.0.0.1 or localhost, by http or https,
 /// at any port. A browser sends this header with each WebSocket that a page opens.
@@ -34,10 +34,4 @@ fn is_port(bytes: &[u8]) -> bool
         [] => true,
         [first, digits @ ..] => *first == b':' && !digits.is_empty() && are_digits(digits),
     }
-}
-
-fn are_digits(bytes: &[u8]) -> bool
-    ensures { result ≡ list_all is_digit bytes.now }
-{
-    bytes.iter().all(|byte| *byte >= b'0' && *byte <= b'9')
 }
