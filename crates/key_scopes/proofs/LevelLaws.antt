@@ -1,5 +1,5 @@
 -- A list that rises by a number: its elements of each number in turn, of which a stable sort keeps the order.
-use Rattle.std.specs.Prelude.{◌≡◌, ◌+◌, ◌<◌, ◌≤◌, ◌==◌, ◌&&◌, ◌++◌, ℕ, zero, suc, Bool, true, false, not, List, [], ◌∷◌, filter, length, map, nat_lt}
+use Rattle.std.specs.Prelude.{◌≡◌, ◌+◌, ◌≤◌, ◌==◌, ◌&&◌, ◌++◌, ℕ, zero, suc, Bool, true, false, not, List, [], ◌∷◌, filter, map, nat_lt}
 use Rattle.std.specs.List.{All, flat_map}
 use Rattle.std.specs.Borrow.{Bor}
 use Rattle.std.specs.Fn.{Called, ComputesKey}
@@ -11,7 +11,7 @@ use Rattle.std.proofs.lemmas.List.Elements.{All-cons, All-from_get_or, All-head,
 use Rattle.std.proofs.lemmas.List.Sorted.{IsNonDecreasingBy-from_sort, answers_always}
 use denote.Param.Members.{Mut}
 use Rattle.key_scopes.specs.Defined.{is_level_within}
-use Rattle.key_scopes.specs.Numbered.{KeyEntry, entries, entry_of}
+use Rattle.key_scopes.specs.Numbered.{entries, entry_of}
 use Rattle.key_scopes.specs.OwnKeys.{by_level, is_at, numbers}
 use Rattle.key_scopes.proofs.DefineLaws.{WrittenKey}
 

@@ -24,6 +24,7 @@ pub mod DotLaws
 pub mod WayLaws
 pub mod RisingLaws
 pub mod SearchLaws
+pub mod LookupLaws
 pub mod PastLaws
 pub mod RiseLaws
 pub mod FindLaws

@@ -1,5 +1,5 @@
 -- Values that may be missing: the first of several, and the one at a place in a list.
-use Rattle.std.specs.Prelude.{◌≡◌, [], Option, Some, None}
+use Rattle.std.specs.Prelude.{◌≡◌, Option, Some, None}
 use Rattle.std.specs.Option.{option_or}
 use Rattle.std.proofs.Common.{refl}
 

@@ -18,7 +18,7 @@ use Rattle.key_scopes.specs.OwnKeys.{KeyPlace, by_level, first_of_each, in_scope
 use Rattle.key_scopes.proofs.DefineLaws.{WrittenKey}
 use Rattle.key_scopes.proofs.LevelLaws.{map_both, through}
 use Rattle.key_scopes.proofs.OwnLaws.{level_is}
-use Rattle.map_spec.specs.Scopes.{is_at_level, is_in_scope, keys_defined, own_places, places, places_from, scope_at, scopes}
+use Rattle.map_spec.specs.Scopes.{is_at_level, is_in_scope, keys_defined, places, places_from, scope_at, scopes}
 use Rattle.plan_nodes.proofs.OnceLaws.{firsts, firsts_push}
 use Rattle.reader_spec.specs.World.{World}
 

@@ -26,3 +26,4 @@ left key step = key * 2 ^ 98 + (2 ^ 97 - step_order step)
 pub record IsStepBehind (key last rest order : ℕ) : Type 0 where
   pub shorter : rest < key
   pub behind : last < order
+  pub low : order < 2 ^ 97

@@ -6,6 +6,7 @@
 
 mod children;
 mod definitions;
+mod lookup;
 mod made;
 mod names;
 mod numbering;
@@ -14,6 +15,7 @@ mod search;
 mod spans;
 mod table;
 
+pub use lookup::look_up;
 pub use made::{ScopesMade, into_scopes, scope_table, scopes};
 pub use search::find;
 pub use table::ScopeTable;

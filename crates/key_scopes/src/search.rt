@@ -1,6 +1,6 @@
 //! The search for a key.
 
-ghost use Rattle.std.specs.Prelude.{◌≡◌, ◌&&◌, ◌<◌, Option, true, find, length, nat_lt, option_map, IfSome};
+ghost use Rattle.std.specs.Prelude.{◌≡◌, ◌&&◌, ◌<◌, ◌^◌, Option, true, find, length, nat_lt, option_map, IfSome};
 ghost use Rattle.std.specs.Option.{option_copied, option_or};
 ghost use Rattle.dita_doc.specs.declared.plan.Scope as scope_spec;
 ghost use Rattle.key_scopes.specs.Found as found_spec;
@@ -15,10 +15,10 @@ use crate::table::ScopeTable;
 // The way into a scope by one of its names, with which a key begins: the scope, where the name
 // stands among those of the scope, and what is left of the key behind the name and its dot.
 #[derive(Clone, Copy)]
-struct SearchStep<'k> {
-    child: u32,
+pub(crate) struct SearchStep<'k> {
+    pub child: u32,
     rank: usize,
-    rest: &'k [u8],
+    pub rest: &'k [u8],
 }
 
 impl SearchStep<'_> {
@@ -44,7 +44,7 @@ pub fn find(table: &ScopeTable, scope: u32, key: &[u8]) -> Option<u32>
 }
 
 // The scope, or the root scope if it is not in the table.
-fn scope_within(table: &ScopeTable, scope: u32) -> u32
+pub(crate) fn scope_within(table: &ScopeTable, scope: u32) -> u32
     ensures { result ≡ rising_spec.scope_within table.now.scopes scope }
 {
     if (scope as usize) < table.scopes.len() {
@@ -55,7 +55,7 @@ fn scope_within(table: &ScopeTable, scope: u32) -> u32
 }
 
 // The innermost scope whose qualified keys count before the outermost own definition.
-fn from_of(table: &ScopeTable, scope: u32, own: Option<&Definition>) -> Option<u32>
+pub(crate) fn from_of(table: &ScopeTable, scope: u32, own: Option<&Definition>) -> Option<u32>
     ensures { result ≡ rising_spec.from_of table.now.scopes scope (option_copied own.entry) }
 {
     match own {
@@ -65,7 +65,7 @@ fn from_of(table: &ScopeTable, scope: u32, own: Option<&Definition>) -> Option<u
 }
 
 // The node that was found further out, or else that of the own definition.
-fn outer_or_own(outer: Option<u32>, own: Option<&Definition>) -> Option<u32>
+pub(crate) fn outer_or_own(outer: Option<u32>, own: Option<&Definition>) -> Option<u32>
     ensures { result ≡ option_or outer
         (rising_spec.node_of (option_copied own.entry)) }
 {
@@ -138,7 +138,7 @@ fn qualified(table: &ScopeTable, scope: u32, key: &[u8]) -> Option<u32>
 
 // The first way behind this one from a scope into one of those in it. A key is cut at no dot behind
 // the longest name.
-fn next_step<'k>(
+pub(crate) fn next_step<'k>(
     table: &ScopeTable,
     scope: u32,
     key: &'k [u8],
@@ -146,6 +146,7 @@ fn next_step<'k>(
 ) -> Option<SearchStep<'k>>
     ensures rest { IfSome result (λ step. length step.rest.now < length key.now) }
     ensures behind { IfSome result (λ step. spec.last_order after.entry < spec.step_order step) }
+    ensures low { IfSome result (λ step. spec.step_order step < 2 ^ 97) }
     ensures value { option_map ways_spec.way_of result ≡ ways_spec.next_way table.now.scopes scope
         key.now (option_map ways_spec.way_of after.entry) }
 {
@@ -160,15 +161,22 @@ fn next_step<'k>(
         }
         if let Some(name) = name_behind(children.named(scope, &key[..dot]), after) {
             if is_earlier(name, first) {
-                first = Some(SearchStep {
-                    child: name.child,
-                    rank: name.rank,
-                    rest: &key[dot + 1..],
-                });
+                first = Some(step_into(name.child, name.rank, &key[dot + 1..]));
             }
         }
     }
     first
+}
+
+// The way into a scope by its name of this rank.
+fn step_into(child: u32, rank: usize, rest: &[u8]) -> SearchStep<'_>
+    ensures way { ways_spec.way_of result
+        ≡ record { child = child; rank = rank; rest = rest.now } }
+    ensures order { spec.step_order result ≡ spec.order_of child rank }
+    ensures rest { result.rest.now ≡ rest.now }
+    ensures low { spec.step_order result < 2 ^ 97 }
+{
+    SearchStep { child, rank, rest }
 }
 
 // Whether no way stands before that by a name.

@@ -1,4 +1,4 @@
-use Rattle.std.proofs.Common.{[], ◌∙◌, ap, arith, filter, sym, rules}
+use Rattle.std.proofs.Common.{[], ◌∙◌, ap, filter, rules}
 use Rattle.std.proofs.lemmas.List.{take_all}
 use Rattle.key_scopes.specs.Defined.{is_level_within}
 use Rattle.key_scopes.specs.Numbered.{entries}

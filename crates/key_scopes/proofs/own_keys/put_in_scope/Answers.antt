@@ -1,4 +1,4 @@
-use Rattle.std.proofs.Common.{◌<◌, ◌≤◌, arith, length, rules}
+use Rattle.std.proofs.Common.{◌<◌, ◌≤◌, length, rules}
 use Rattle.key_scopes.proofs.OwnKeyLaws.{put_in, put_past}
 use Rattle.key_scopes.proofs.own_keys.put_in_scope.Goals as goal
 

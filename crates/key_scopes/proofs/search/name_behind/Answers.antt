@@ -1,4 +1,4 @@
-use Rattle.std.proofs.Common.{◌∙◌, false, ap, arith, length, refl, sym, rules, tests, find, option_map}
+use Rattle.std.proofs.Common.{◌∙◌, ap, arith, length, refl, sym, rules, tests, find, option_map}
 use Rattle.std.proofs.lemmas.Bool.{true≢false}
 use Rattle.std.proofs.lemmas.Bool.Decides.{nat_tests}
 use Rattle.std.specs.Option.{option_copied}

@@ -43,6 +43,7 @@ loop-dot-preserved c =
         short = search rules;
         value =
             ap (option_map way_of) w.first-is
+            ∙ ap Some w.step_into.ensures.way
             ∙ ap (λ r. Some (record { child = w.in-Some.name.now.child; rank = w.in-Some.name.now.rank; rest = r }))
             (take_rest key (dot + 1))
             ∙ ap (λ n. Some (record {

@@ -1,4 +1,4 @@
-use Rattle.std.proofs.Common.{◌≡◌, ◌<◌, ◌∙◌, ap, arith, length}
+use Rattle.std.proofs.Common.{◌≡◌, ◌∙◌, ap, arith, length}
 use Rattle.key_scopes.specs.Table.{Table}
 use Rattle.key_scopes.proofs.OwnKeyLaws.{own_at}
 use Rattle.key_scopes.proofs.table.ScopeTable.own.Goals as goal
