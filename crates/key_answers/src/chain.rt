@@ -8,7 +8,7 @@ ghost use Rattle.key_answers.specs.Seen as spec;
 
 use crate::defined::Defined;
 use dita_doc::{Fault, FaultCode, List, NoMemory};
-use key_scopes::find;
+use key_scopes::look_up;
 use std::alloc::{AllocError, Global};
 use std::collections::BTreeSet;
 use targets::split_key;
@@ -56,7 +56,8 @@ fn followed<'a>(
     let mut scope = scope;
     let mut key = key;
     for _step in 0..defined.nodes.len() + 1 {
-        let Some(at) = find(defined.table, scope, key.as_bytes()) else {
+        let found = look_up(alloc, defined.table, scope, key.as_bytes())?;
+        let Some(at) = found else {
             let fault = undefined(alloc, defined, last_of(&met), key)?;
             return Ok(ended(alloc, met, fault)?);
         };

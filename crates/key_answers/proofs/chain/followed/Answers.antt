@@ -1,4 +1,4 @@
-use Rattle.std.proofs.Common.{◌≡◌, ◌+◌, ◌-◌, ◌∙◌, ap, arith, codes, length, sym, []}
+use Rattle.std.proofs.Common.{◌≡◌, ◌+◌, ◌-◌, ◌∙◌, ap, arith, codes, length, rules, sym, None, []}
 use Rattle.std.specs.BTreeSet as set
 use Rattle.std.specs.BTreeMap.{is_at}
 use Rattle.std.specs.List.{list_any}
@@ -38,7 +38,7 @@ loop-step-preserved c = record {
       let more : suc left + c.loop-step._step ≡ length nodes + 1 = omega (arith, all) in
       goes_on world nodes left c.loop-step.met.items c.loop-step.scope c.loop-step.key.now c.as_bytes.result.now _
       (c.loop-step.invariant.same world are (suc left) more) c.as_bytes.ensures.value at
-      (c.in-Some.ensures ∙ are.table.found c.loop-step.scope c.as_bytes.result.now) c.contains.result
+      (sym c.in-Some.is ∙ c.in_ok-found.ensures ∙ are.table.found c.loop-step.scope c.as_bytes.result.now) c.contains.result
       (c.contains.ensures ∙ c.loop-step.invariant.known at) (value_at c.args.defined.homes.now at (codes "keyref"))
       (value_same world c.args.defined.homes.now nodes at (codes "keyref") are.homes) c.if-contains.false
       c.push.new.self.items c.in_ok-push.ensures.items c.in-Some-value.keyref.now c.scope-scope.result
@@ -51,9 +51,11 @@ returns-in_default c = λ world are.
     let nodes = c.args.defined.nodes.now in
     let left = length nodes - c.loop-step._step in
     let more : suc left + c.loop-step._step ≡ length nodes + 1 = omega (arith, c.loop-step-test.true) in
+    let none : c.in_ok-found.found ≡ None = search rules in
     ends_undefined world nodes left c.loop-step.met.items c.loop-step.scope c.loop-step.key.now c.as_bytes.result.now _
     (c.loop-step.invariant.same world are (suc left) more) c.as_bytes.ensures.value _ _ c.last_of.result
-    c.deref.result.now (c.in_default.ensures ∙ are.table.found c.loop-step.scope c.as_bytes.result.now) c.in_ok-ended.ensures
+    c.deref.result.now (sym none ∙ c.in_ok-found.ensures ∙ are.table.found c.loop-step.scope c.as_bytes.result.now)
+    c.in_ok-ended.ensures
     (c.in_ok-fault.ensures world are) c.last_of.ensures c.deref.ensures.value
 
 pub returns-then-contains : goal.returns-then-contains
@@ -64,7 +66,8 @@ returns-then-contains c = λ world are.
     let more : suc left + c.loop-step._step ≡ length nodes + 1 = omega (arith, c.loop-step-test.true) in
     ends_again world nodes left c.loop-step.met.items c.loop-step.scope c.loop-step.key.now c.as_bytes.result.now _
     (c.loop-step.invariant.same world are (suc left) more) c.as_bytes.ensures.value at
-    (c.in-Some.ensures ∙ are.table.found c.loop-step.scope c.as_bytes.result.now) c.contains.result (c.contains.ensures ∙ c.loop-step.invariant.known at)
+    (sym c.in-Some.is ∙ c.in_ok-found.ensures ∙ are.table.found c.loop-step.scope c.as_bytes.result.now)
+    c.contains.result (c.contains.ensures ∙ c.loop-step.invariant.known at)
     _ _ c.if-contains.true c.in_ok-ended-2.ensures c.in_ok-fault-2.ensures
 
 pub returns-in_default-value : goal.returns-in_default-value
@@ -75,7 +78,8 @@ returns-in_default-value c = λ world are.
     let more : suc left + c.loop-step._step ≡ length nodes + 1 = omega (arith, c.loop-step-test.true) in
     ends_here world nodes left c.loop-step.met.items c.loop-step.scope c.loop-step.key.now c.as_bytes.result.now _
     (c.loop-step.invariant.same world are (suc left) more) c.as_bytes.ensures.value at
-    (c.in-Some.ensures ∙ are.table.found c.loop-step.scope c.as_bytes.result.now) c.contains.result (c.contains.ensures ∙ c.loop-step.invariant.known at)
+    (sym c.in-Some.is ∙ c.in_ok-found.ensures ∙ are.table.found c.loop-step.scope c.as_bytes.result.now)
+    c.contains.result (c.contains.ensures ∙ c.loop-step.invariant.known at)
     (value_at c.args.defined.homes.now at (codes "keyref"))
     (value_same world c.args.defined.homes.now nodes at (codes "keyref") are.homes) c.if-contains.false
     c.push.new.self.items c.in_ok-push.ensures.items _ c.in_default-value.ensures c.in_ok-ended-3.ensures
