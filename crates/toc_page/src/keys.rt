@@ -1,57 +1,37 @@
 //! Whether a node has its target by its key.
 
-ghost use Rattle.std.specs.Prelude.{◌≡◌, ℕ, true, false, map, slice_get, IfOk, OnOk, Some};
+ghost use Rattle.std.specs.Prelude.{◌≡◌, ℕ, true, false, map, slice_get, IfOk, Some};
 ghost use Rattle.dita_doc.specs.declared.plan.Plan as plan_spec;
 ghost use Rattle.map_spec.specs.Cascade as cascade_spec;
 ghost use Rattle.html_spec.specs.Contents as contents_spec;
 ghost use Rattle.link_spec.specs.Links as links_spec;
 ghost use Rattle.plan_nodes.specs.Preorder as preorder_spec;
 ghost use Rattle.reader_spec.specs.World.{World};
-ghost use Rattle.readers.specs.Documents as documents_spec;
-ghost use Rattle.readers.specs.Documents.{AsksOnly};
-ghost use Rattle.readers.specs.Founded as founded_spec;
-ghost use Rattle.readers.specs.Founded.{Grows, StaysFounded};
-ghost use Rattle.readers.specs.Only.{TellsOnly};
-ghost use Rattle.readers.specs.Only as only_spec;
-ghost use Rattle.readers.specs.Told.{Agrees};
 ghost use Rattle.toc_page.specs.Toc as spec;
 
 use crate::href::target_at;
 use dita_doc::{NoMemory, Plan, PlanNode, Target};
-use key_scopes::{ScopeTable, find, scopes};
+use key_scopes::{ScopeTable, look_up, scope_table};
 use plan_nodes::NodeElements;
-use readers::Asker;
 use std::alloc::Global;
 use targets::split_key;
 
 /// The keys of a plan, if there is a node of whose label a key decides: it refers to a key, and its
 /// target is a file. Few plans have one.
-#[tactic(auto, using(crate::proofs::Walking::walking))]
-pub(crate) fn key_table<A: Asker>(
+pub(crate) fn key_table(
     alloc: Global,
-    asker: &mut A,
     plan: &Plan,
     homes: &NodeElements,
 ) -> Result<Option<ScopeTable>, NoMemory>
-    ensures known { (world : World) → Agrees world (A.told asker.new)
-        → preorder_spec.IsTree plan.now.nodes
+    ensures { (world : World) → preorder_spec.IsTree plan.now.nodes
         → homes.now ≡ map (cascade_spec.whole_at world) plan.now.nodes
         → IfOk result (λ keys. spec.AreKeys world plan.now keys) }
-    ensures stand { A.stand asker.new ≡ A.stand asker.old }
-    ensures founded { StaysFounded (founded_spec.homes plan.now.nodes) (A.told asker.old)
-        (A.told asker.new) }
-    ensures asks { AsksOnly documents_spec.nothing (founded_spec.homes plan.now.nodes)
-        (A.told asker.old) (A.told asker.new) }
-    ensures only { OnOk result (TellsOnly
-        (only_spec.is_document_of (founded_spec.homes plan.now.nodes)) (A.told asker.old)
-        (A.told asker.new)) }
-    ensures grows { Grows (A.told asker.old) (A.told asker.new) }
 {
     if !needs_keys(plan, homes) {
         return Ok(None);
     }
-    let made = scopes(alloc, asker, &plan.nodes)?;
-    Ok(Some(made.table))
+    let table = scope_table(alloc, homes, plan.nodes.as_slice())?;
+    Ok(Some(table))
 }
 
 // Whether there is a node of whose label a key decides.
@@ -86,20 +66,22 @@ fn is_file(target: &Target) -> bool
 /// Whether a node refers to a key that is defined. The node's target is a file.
 #[tactic(auto, using(crate::proofs::LabelLaws::found_key))]
 pub(crate) fn is_keyed(
+    alloc: Global,
     keys: &Option<ScopeTable>,
     homes: &NodeElements,
     at: usize,
     node: &PlanNode,
-) -> bool
+) -> Result<bool, NoMemory>
     ensures { (world : World) (plan : plan_spec.Plan)
         → homes.now ≡ map (cascade_spec.whole_at world) plan.nodes
         → spec.AreKeys world plan keys.now → slice_get plan.nodes at ≡ Some node.now
         → spec.is_file (links_spec.plan_target plan at) ≡ true
-        → result ≡ contents_spec.is_keyed world plan node.now }
+        → IfOk result (λ is. is ≡ contents_spec.is_keyed world plan node.now) }
 {
     let (Some(keys), Some(keyref)) = (keys, homes.value(at, "keyref")) else {
-        return false;
+        return Ok(false);
     };
     let (key, _) = split_key(keyref);
-    find(keys, node.scope, key.as_bytes()).is_some()
+    let found = look_up(alloc, keys, node.scope, key.as_bytes())?;
+    Ok(found.is_some())
 }

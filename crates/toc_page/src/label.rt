@@ -161,7 +161,7 @@ fn file_label(
     node: &PlanNode,
     name: &Name,
     rest: &Text,
-) -> Result<Text, AllocError>
+) -> Result<Text, NoMemory>
     ensures { (world : World) → spec.IsToc world toc.entry
         → slice_get toc.entry.plan.now.nodes at ≡ Some node.now
         → spec.is_file (links_spec.plan_target toc.entry.plan.now at) ≡ true
@@ -169,8 +169,9 @@ fn file_label(
         ≡ contents_spec.label_by_target world toc.entry.plan.now node.now
         (targets_spec.File name.now rest.now)) }
 {
-    if is_keyed(toc.keys, toc.homes, at, node) {
-        return file_href(alloc, name, rest);
+    if is_keyed(alloc, toc.keys, toc.homes, at, node)? {
+        return Ok(file_href(alloc, name, rest)?);
     }
-    Text::from_str(alloc, toc.homes.value(at, "href").unwrap_or(""))
+    let href = toc.homes.value(at, "href").unwrap_or("");
+    Ok(Text::from_str(alloc, href)?)
 }

@@ -112,7 +112,7 @@ fn body_of<A: Asker>(
         (A.told asker.old) (A.told asker.new)) }
     ensures grows { Grows (A.told asker.old) (A.told asker.new) }
 {
-    let keys = key_table(alloc, asker, plan, homes)?;
+    let keys = key_table(alloc, plan, homes)?;
     let nodes = plan.nodes.as_slice();
     let in_tables = in_tables(alloc, nodes)?;
     let inside = in_tables.as_slice();
