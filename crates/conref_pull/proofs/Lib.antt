@@ -15,6 +15,7 @@ pub mod LinkAskLaws
 pub mod LinkLaws
 pub mod MergeLaws
 pub mod MetLaws
+pub mod NameSetLaws
 pub mod NodeLaws
 pub mod NodeStandLaws
 pub mod OpenedLaws

@@ -3,6 +3,7 @@ pub mod Count
 pub mod Linked
 pub mod Merging
 pub mod Met
+pub mod NameSet
 pub mod PutHrefs
 pub mod Putting
 pub mod Resolved

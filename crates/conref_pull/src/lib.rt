@@ -10,6 +10,7 @@ mod accept;
 mod calls;
 mod chain;
 mod merge;
+mod name_set;
 mod place;
 mod resolver;
 mod tables;

@@ -3,6 +3,7 @@
 ghost use Rattle.std.specs.Prelude.{◌≡◌, ◌&&◌, ℕ, List, [], ◌++◌, not, is_some, filter, IfOk, OnOk, if◌then◌else◌};
 ghost use Rattle.dita_doc.specs.ClassValue as class_value_spec;
 ghost use Rattle.dita_doc.specs.Tree as tree_spec;
+ghost use Rattle.dita_doc.specs.declared.doc.Attribute.{Attribute};
 ghost use Rattle.doc_elements.specs.Walk as walk_spec;
 ghost use Rattle.map_spec.specs.Written.{Element, Written};
 ghost use Rattle.conref_spec.specs.Content as content_spec;
@@ -13,10 +14,12 @@ ghost use Rattle.conref_pull.specs.Linked.{AreGivenTo, IsGivenTo};
 ghost use Rattle.conref_pull.specs.PutHrefs.{MergedNamed};
 ghost use Rattle.conref_pull.specs.Linked as linked_spec;
 ghost use Rattle.conref_pull.specs.Merging as merging_spec;
+ghost use Rattle.conref_pull.specs.NameSet as names_spec;
 ghost use Rattle.conref_pull.specs.Step as step_spec;
 ghost use Rattle.conref_pull.specs.Step.{Taken};
 
 use crate::chain::TakenTarget;
+use crate::name_set::NameSet;
 use dita_doc::{Attribute, List, Name, NoMemory, Node, is_same};
 use std::alloc::Global;
 
@@ -25,6 +28,11 @@ pub(crate) const USE_TARGET: &str = "-dita-use-conref-target";
 
 // The names of attributes that an element does not take from its target.
 const NOT_TAKEN: [&str; 5] = ["id", "conref", "conkeyref", "conrefend", "conaction"];
+
+// An attribute of a target is sought among all of the element's own, one after the other. If both
+// have more than these, that would take too long, and the names of the own are put into a set. Nearly
+// all elements have fewer, and take no memory for it.
+const FEW_ATTRIBUTES: usize = 32;
 
 // The attributes of an element with those that it takes, and the document in which its href was
 // written.
@@ -131,7 +139,7 @@ impl Merged {
             href_doc,
         } = self;
         let mut more = List::new(alloc);
-        append_missing(&mut more, &attributes, target, leaves)?;
+        append_missing(alloc, &mut more, &attributes, target, leaves)?;
         let href_doc = href_from(takes_href(&attributes, &more), origin, href_doc)?;
         let mut all = attributes;
         append(&mut all, more)?;
@@ -240,6 +248,7 @@ fn append_specified(out: &mut List<Attribute>, element: &Node) -> Result<(), NoM
 // Appends the attributes of a target that an element with these takes, without those that the target
 // leaves to another.
 fn append_missing(
+    alloc: Global,
     out: &mut List<Attribute>,
     own: &List<Attribute>,
     target: &Node,
@@ -248,8 +257,31 @@ fn append_missing(
     ensures { OnOk result (out.new ≡ out.old
         ++ filter (merging_spec.is_given leaves own.now) target.now.attributes) }
 {
+    if own.len() > FEW_ATTRIBUTES && target.attributes.len() > FEW_ATTRIBUTES {
+        return append_missing_of_many(alloc, out, own, target, leaves);
+    }
     for attribute in target.attributes.as_slice() {
         if is_given(own, attribute, leaves) {
+            out.push(attribute.clone()?)?;
+        }
+    }
+    Ok(())
+}
+
+// Appends the same, with the names of the element's own attributes in a set.
+fn append_missing_of_many(
+    alloc: Global,
+    out: &mut List<Attribute>,
+    own: &List<Attribute>,
+    target: &Node,
+    leaves: bool,
+) -> Result<(), NoMemory>
+    ensures { OnOk result (out.new ≡ out.old
+        ++ filter (merging_spec.is_given leaves own.now) target.now.attributes) }
+{
+    let names = NameSet::of(alloc, own)?;
+    for attribute in target.attributes.as_slice() {
+        if is_given_beside(&names, attribute, leaves) {
             out.push(attribute.clone()?)?;
         }
     }
@@ -281,6 +313,15 @@ fn is_given(own: &List<Attribute>, other: &Attribute, leaves: bool) -> bool
     ensures { result ≡ merging_spec.is_given leaves own.now other.now }
 {
     (!leaves || is_specified(other)) && is_missing(own, other)
+}
+
+// The same, where these are the names of the element's own attributes.
+fn is_given_beside(names: &NameSet<'_>, other: &Attribute, leaves: bool) -> bool
+    ensures { (own : List Attribute) → names_spec.HasNamesOf names.now own
+        → result ≡ merging_spec.is_given leaves own other.now }
+{
+    let name = other.name.as_str();
+    (!leaves || is_specified(other)) && is_taken(name) && !names.has(name)
 }
 
 // Whether an attribute of a target is taken by an element that has these of its own.
