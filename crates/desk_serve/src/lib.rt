@@ -1,6 +1,7 @@
 //! The mode `serve`: connections come in at a door, and each is a session of one desk.
 //!
-//! What is used above it: how `run_serve` ends, by `EndsServe` of `run_spec`.
+//! What is used above it: how `run_serve` ends, by `EndsServe` of `run_spec`; and `write_all`, by which
+//! the other modes write their output, too.
 #![tactic(auto)]
 
 mod accept;
@@ -11,3 +12,4 @@ mod session;
 mod tell;
 
 pub use run::run_serve;
+pub use tell::write_all;

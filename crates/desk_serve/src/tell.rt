@@ -33,8 +33,8 @@ fn count_line(alloc: Global, connections: u32, entries: u64) -> Result<List<u8>,
     Ok(List::from_vec(text.into_bytes()))
 }
 
-// Writes bytes whole.
-fn write_all<K: Sink>(sink: &mut K, bytes: &[u8]) -> Result<(), Stop<Failed>>
+/// Writes bytes whole.
+pub fn write_all<K: Sink>(sink: &mut K, bytes: &[u8]) -> Result<(), Stop<Failed>>
     ensures ok { OnOk result (Appends (K.taken sink.old) (K.taken sink.new) bytes.now) }
     ensures err { OnErr result
         (written_spec.AppendsFront (K.taken sink.old) (K.taken sink.new) bytes.now) }

@@ -47,4 +47,4 @@ pub mod TrialLaws
 pub mod VersionLaws
 pub mod WholeLaws
 pub mod WritingLaws
-mod PagesEndLaws
+pub mod PagesEndLaws

@@ -8,8 +8,9 @@ ghost use Rattle.script_text.specs.Script as script_spec;
 ghost use Rattle.desk_top.specs.Ends as ends_spec;
 ghost use Rattle.desk_top.specs.Outside as outside_spec;
 
-use crate::outside::{read_all, write_all};
+use crate::outside::read_all;
 use crate::run::answer_all;
+use desk_serve::write_all;
 use dita_doc::{List, Stop};
 use dita_outside::{Failed, Outlet, Sink, Source};
 use run_spec::Status;

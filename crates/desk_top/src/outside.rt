@@ -1,13 +1,11 @@
-//! Whole reads and writes over the objects of the outside.
+//! Whole reads of a source.
 
-ghost use Rattle.std.specs.Prelude.{◌≡◌, IfOk, OnOk, OnErr, vec_len};
-ghost use Rattle.std.specs.Io.KnownBytes.{Appends};
+ghost use Rattle.std.specs.Prelude.{◌≡◌, IfOk, vec_len};
 ghost use Rattle.dita_outside.specs.Cause as cause_spec;
 ghost use Rattle.run_spec.specs.Reads as reads_spec;
-ghost use Rattle.run_spec.specs.Written as written_spec;
 
 use dita_doc::{List, Stop};
-use dita_outside::{Failed, Sink, Source};
+use dita_outside::{Failed, Source};
 use std::alloc::{AllocError, Global};
 
 // The bytes of one read.
@@ -45,18 +43,4 @@ fn zeros(alloc: Global, count: usize) -> Result<Vec<u8>, AllocError>
     ensures { IfOk result (λ bytes. vec_len bytes ≡ count) }
 {
     vec![in alloc; 0u8; count]
-}
-
-/// Writes bytes whole.
-pub fn write_all<K: Sink>(sink: &mut K, bytes: &[u8]) -> Result<(), Stop<Failed>>
-    ensures ok { OnOk result (Appends (K.taken sink.old) (K.taken sink.new) bytes.now) }
-    ensures err { OnErr result
-        (written_spec.AppendsFront (K.taken sink.old) (K.taken sink.new) bytes.now) }
-    ensures cause { cause_spec.HasCauseOrNoMemory (K.faults sink.old) (K.faults sink.new) result }
-{
-    let mut done = 0;
-    while done < bytes.len() {
-        done += sink.write(&bytes[done..])?;
-    }
-    Ok(())
 }
