@@ -1,4 +1,4 @@
-use Rattle.failure_examples.proofs.PagesEndLaws.{pages_end}
+use Rattle.desk_top.proofs.PagesEndLaws.{pages_end}
 use Rattle.failure_examples.proofs.sessions.session.Goals as goal
 
 pub serve_link-end-requires-clause-pages : goal.serve_link-end-requires-clause-pages
