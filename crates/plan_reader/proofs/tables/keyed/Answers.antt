@@ -3,7 +3,6 @@ use Rattle.dita_doc.specs.declared.plan.PlanNode.{PlanNode}
 use Rattle.key_scopes.specs.Made.{IsTableOf}
 use Rattle.map_spec.specs.Cascade.{whole_at}
 use Rattle.plan_nodes.specs.Preorder.{IsTree}
-use Rattle.std.specs.Prelude.{IfOk}
 use Rattle.readers.proofs.DocumentLaws.{homes_asked}
 use Rattle.readers.proofs.FoundedLaws.{homes_founded}
 use Rattle.plan_reader.proofs.TableLaws.{are_keyed}
