@@ -7,7 +7,7 @@ import sys
 from collections.abc import Sequence
 from typing import TextIO
 
-from publishing import options, program
+from publishing import options
 from publishing.interrupts import SIGNALS
 from publishing.live import Live
 from publishing.message import Stop
@@ -75,8 +75,7 @@ def publish_live(asked: options.Options) -> int:
 
 
 def prepare() -> None:
-    """Has messages hold any text, interrupts come as KeyboardInterrupt, and the desk have a large stack."""
-    program.give_stack()
+    """Has messages hold any text, and interrupts come as KeyboardInterrupt."""
     for stream in (sys.stdout, sys.stderr):
         if stream is not None:
             stream.reconfigure(errors="backslashreplace")

@@ -1,12 +1,10 @@
 """Which program the desk is: one that was built here from these sources, else the release."""
 from __future__ import annotations
 
-import contextlib
 import hashlib
 import os
 import pathlib
 import re
-import resource
 import shlex
 import subprocess
 from collections.abc import Iterator
@@ -19,16 +17,6 @@ NAME = "dita_desk"
 SOURCES = (".rt", ".antt")
 MODES = re.compile(rb"<MODE>[^\[]*\[possible values: ([a-z, ]+)\]")
 HELP_SECONDS = 20
-STACK = 64 << 20  # bytes; the deepest key scopes that were tried, 64,000 within one another, take more than 16 MiB
-
-
-def give_stack() -> None:
-    """Has the programs that are started from here on have a large stack, for deep key scopes, if the system allows that."""
-    soft, hard = resource.getrlimit(resource.RLIMIT_STACK)
-    wanted = STACK if hard == resource.RLIM_INFINITY else min(STACK, hard)
-    if soft != resource.RLIM_INFINITY and soft < wanted:
-        with contextlib.suppress(OSError, ValueError):
-            resource.setrlimit(resource.RLIMIT_STACK, (wanted, hard))
 
 
 def crates_of(text: str) -> dict[str, list[str]]:

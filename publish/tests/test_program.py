@@ -2,12 +2,10 @@
 import hashlib
 import os
 import pathlib
-import subprocess
-import sys
 import unittest
 from unittest import mock
 
-from cases import PUBLISH, Case, map_of, topic
+from cases import Case
 from publishing import program
 from publishing.message import Stop
 
@@ -61,17 +59,6 @@ class Program(Case):
     def test_the_program_of_a_developer(self):
         os.environ["DITA_DESK"] = "some 'program of mine'"
         self.assertEqual(program.find(self.root), ["some", "program of mine"])
-
-
-class Stack(Case):
-    def test_the_desk_has_a_large_stack(self):
-        desk = "import os, resource, sys; print(resource.getrlimit(resource.RLIMIT_STACK)[0], file=open(os.environ['LIMIT'], 'a')); sys.exit(5)"
-        self.put({"desk.py": desk}, self.root)
-        self.put({"m.ditamap": map_of("t.dita"), "t.dita": topic("")})
-        given = {**os.environ, "DITA_DESK": f"{sys.executable} {self.root / 'desk.py'}", "LIMIT": str(self.root / "limit")}
-        words = ["sh", "-c", 'ulimit -Ss 8192; exec "$@"', "sh", sys.executable, str(PUBLISH), "docs", "m.ditamap", "out"]
-        subprocess.run(words, cwd=self.root, env=given, capture_output=True, timeout=60)
-        self.assertGreaterEqual(min(map(int, (self.root / "limit").read_text().split())), 64 << 20)
 
 
 class Crates(unittest.TestCase):
