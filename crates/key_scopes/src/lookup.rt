@@ -1,9 +1,10 @@
 //! The search for a key among scopes of any depth.
 
-ghost use Rattle.std.specs.Prelude.{◌≡◌, IfOk, OnOk};
+ghost use Rattle.std.specs.Prelude.{◌≡◌, ℕ, List, None, false, IfOk, OnOk};
 ghost use Rattle.key_scopes.specs.Found as found_spec;
 ghost use Rattle.key_scopes.specs.Lookup as spec;
 ghost use Rattle.key_scopes.specs.Rising as rising_spec;
+ghost use Rattle.key_scopes.specs.Table.{Table};
 
 use crate::search::{SearchStep, from_of, next_step, outer_or_own, scope_within};
 use crate::table::ScopeTable;
@@ -27,8 +28,8 @@ struct OpenScope<'k> {
 }
 
 /// As `find`, but it calls itself for no scope and remembers where it found nothing, so that scopes
-/// may lie within one another as deep as they do and no scope is looked into twice for the same rest
-/// of the key.
+/// may lie within one another as deep as they do, and none is looked into twice for the same rest of
+/// the key unless a million are remembered, which are forgotten then.
 pub fn look_up(
     alloc: Global,
     table: &ScopeTable,
@@ -63,6 +64,8 @@ fn outer_of(
     }
 }
 
+// The definition by a key with a dot at the outermost scope that has one, of this scope and those
+// around it. What one scope shows to hold nothing is remembered for those around it.
 fn outermost_by_ways(
     alloc: Global,
     table: &ScopeTable,
@@ -117,7 +120,7 @@ fn by_ways(
             last: Some(step),
             ..inner
         })?;
-        if !dead_ends.contains(&(step.child, step.rest.len())) {
+        if may_hold(dead_ends, step) {
             entered.push(OpenScope {
                 scope: step.child,
                 rest: step.rest,
@@ -126,6 +129,17 @@ fn by_ways(
         }
     }
     Ok(None)
+}
+
+// Whether something may be found in the scope of this way: what is left of the key has a dot, and it
+// is not remembered that there is nothing.
+fn may_hold(dead_ends: &DeadEnds, step: SearchStep<'_>) -> bool
+    ensures { result ≡ false → (table : Table) (key : List ℕ)
+        → spec.AreDeadEnds table key dead_ends.now → spec.EndsWith key step.entry.rest.now
+        → rising_spec.by_names table.scopes (found_spec.own_of table) step.entry.rest.now
+        step.entry.child ≡ None }
+{
+    step.rest.contains(&b'.') && !dead_ends.contains(&(step.child, step.rest.len()))
 }
 
 // Remembers that nothing is found in a scope for so many last bytes of a key. If too many such scopes

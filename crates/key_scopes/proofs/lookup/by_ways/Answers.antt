@@ -57,7 +57,7 @@ loop-inner-smaller-in-Continue-branch-4 c =
     let outer = c.pop.new.self.items in
     let inner = c.in-Some.inner in
     let step = c.in-Some-next_step.step in
-    subst (λ l. steps_left c.push-then-not-contains.new.self.items < steps_left l) (sym c.in-Some.ensures.items)
+    subst (λ l. steps_left c.push-then-may_hold.new.self.items < steps_left l) (sym c.in-Some.ensures.items)
     (subst (λ l. steps_left l < steps_left (outer ++ inner ∷ []))
     (sym (c.in_ok-push-3.ensures.items ∙ ap (λ l. l ++ opened step ∷ []) c.in_ok-push-2.ensures.items))
     (steps_opened outer inner step (search rules) (search rules) (search rules)))
@@ -111,7 +111,6 @@ loop-inner-preserved c =
     record {
       looks = subst (LooksInto table c.args.key.now c.args.scope) (sym c.in_ok-push-2.ensures.items)
           (looks_passed table c.args.key.now c.args.scope outer inner looks step next (sym own ∙ none)
-          (c.loop-inner.invariant.ends step.child step.rest.now ends
-          (sym c.contains.ensures ∙ c.if-not-contains.false)));
+          (c.may_hold.ensures c.if-may_hold.false table c.args.key.now c.loop-inner.invariant.ends ends));
       ends = c.loop-inner.invariant.ends;
     }
