@@ -1,4 +1,3 @@
-pub mod NumberLaws
 pub mod NodeLaws
 pub mod OnceLaws
 pub mod OrderLaws

@@ -1,10 +1,7 @@
 -- The list of a page, with one link more, and as it is written.
 use Rattle.std.specs.Prelude.{◌≡◌, ◌+◌, ◌<◌, ◌==◌, ◌||◌, ℕ, zero, suc, Bool, true, false, List, [], ◌∷◌, ◌++◌, Option, Some, None, IsTrue, length, map, option_map, slice_get, take}
-use Rattle.std.specs.BTreeMap.{is_at}
-use Rattle.std.specs.BTreeSet.{insert_key}
 use Rattle.std.specs.List.{filter_map, list_any}
 use Rattle.std.specs.Option.{option_map_or, option_to_list}
-use Rattle.std.specs.Ordering.{nat_cmp}
 use Rattle.std.proofs.Common.{refl, sym, ap, subst, ◌∙◌, append-nil, append_assoc, arith, get_or}
 use Rattle.std.proofs.lemmas.Bool.Decides.{nat_tests}
 use Rattle.std.proofs.lemmas.List.{map-append, take_more}
@@ -15,7 +12,6 @@ use Rattle.dita_doc.specs.declared.content.PageLink.{PageLink}
 use Rattle.dita_doc.specs.declared.plan.PagePlan.{PagePlan}
 use Rattle.dita_doc.specs.declared.plan.Plan.{Plan}
 use Rattle.dita_doc.proofs.Lists.{any_push}
-use Rattle.dita_doc.proofs.Orders.{at_number}
 use Rattle.dita_doc.proofs.Tests.{number_swaps}
 use Rattle.link_spec.specs.Links.{LinkTo, page_link, page_links, to_each_once}
 use Rattle.reader_spec.specs.World.{World}
@@ -23,11 +19,12 @@ use Rattle.readers.specs.Founded.{is_among}
 use Rattle.readers.proofs.FoundedLaws.{among_behind, among_first}
 use Rattle.link_groups.specs.LinkLists.{HoldsLinks, leads_to, link_beside, link_shown, links_to_nodes, page_link_in, page_link_to, with_link}
 use Rattle.link_groups.specs.LinkNodes.{names_of_pages}
+use Rattle.link_groups.specs.PageMarks.{has_mark}
 use Rattle.link_groups.specs.declared.link_list.LinkList.{LinkList}
 use Rattle.link_groups.specs.declared.link_list.LinkTo as declared
 use Rattle.link_groups.specs.declared.link_nodes.LinkNode.{LinkNode}
-use Rattle.link_groups.proofs.NumberLaws.{any_number_put}
-use Rattle.link_groups.proofs.OnceLaws.{holds_same, once_again, once_new}
+use Rattle.link_groups.specs.declared.page_marks.PageMarks.{PageMarks}
+use Rattle.link_groups.proofs.OnceLaws.{once_again, once_new}
 
 abbrev link_of : LinkKind → ℕ → LinkTo
 link_of kind page = record { kind = kind; page = page }
@@ -54,50 +51,50 @@ held_own own all kind page list same holds =
 another : (own page : ℕ) (list : LinkList) → (page ≡ list.page → ⊥) → list.page ≡ own → (page == own) ≡ false
 another own page list apart is = let differs : page ≡ own → ⊥ = λ e. apart (e ∙ sym is) in grind (arith, nat_tests)
 
--- a link to a page that the list has a link to
-held_there : (own : ℕ) (all : List LinkTo) (kind : LinkKind) (page : ℕ) (list : LinkList)
-    → (page ≡ list.page → ⊥) → list_any (is_at (nat_cmp page)) list.seen.keys ≡ true → HoldsLinks own all list
-    → HoldsLinks own (with_link own all kind page) list
-held_there own all kind page list apart there holds =
-    let link = ap (λ l. all ++ option_to_list l)
-    (other_some own kind page (page == own) refl (another own page list apart holds.page)) in
-    holds_same own all (with_link own all kind page) list
-    (sym (ap to_each_once link ∙ once_again all (link_of kind page) (sym (holds.seen page) ∙ there))) holds
+-- the marks of a list with one link more
+marks_more : (all : List LinkTo) (kind : LinkKind) (page : ℕ) (old new : PageMarks)
+    → ((other : ℕ) → has_mark other new ≡ ((other == page) || has_mark other old))
+    → ((other : ℕ) → has_mark other old ≡ list_any (leads_to other) all)
+    → (other : ℕ) → has_mark other new ≡ list_any (leads_to other) (all ++ link_of kind page ∷ [])
+marks_more all kind page old new put seen other =
+    put other
+    ∙ (λ i. number_swaps other page i || seen other i)
+    ∙ sym (any_push (leads_to other) all (link_of kind page))
 
--- the same, if the set of pages was given the page once more
+-- a link to a page that the list has a link to
 pub held_again : (own : ℕ) (all : List LinkTo) (kind : LinkKind) (page : ℕ) (old new : LinkList)
-    → (page ≡ old.page → ⊥) → list_any (is_at (nat_cmp page)) old.seen.keys ≡ true → new.page ≡ old.page
-    → new.links.items ≡ old.links.items → new.seen.keys ≡ old.seen.keys → HoldsLinks own all old
+    → (page ≡ old.page → ⊥) → has_mark page old.seen ≡ true → new.page ≡ old.page
+    → new.links.items ≡ old.links.items
+    → ((other : ℕ) → has_mark other new.seen ≡ ((other == page) || has_mark other old.seen)) → HoldsLinks own all old
     → HoldsLinks own (with_link own all kind page) new
-held_again own all kind page old new apart there same links seen holds =
-    let held = held_there own all kind page old apart there holds in
-    record {
-      page = same ∙ held.page;
-      are = ap (map link_shown) links ∙ held.are;
-      seen = λ other. ap (list_any (is_at (nat_cmp other))) seen ∙ held.seen other;
-    }
+held_again own all kind page old new apart there same links put holds =
+    let link : with_link own all kind page ≡ all ++ link_of kind page ∷ [] = ap (λ l. all ++ option_to_list l)
+    (other_some own kind page (page == own) refl (another own page old apart holds.page)) in
+    subst (λ l. HoldsLinks own l new) (sym link) (record {
+      page = same ∙ holds.page;
+      are =
+          ap (map link_shown) links ∙ holds.are
+          ∙ sym (once_again all (link_of kind page) (sym (holds.seen page) ∙ there));
+      seen = marks_more all kind page old.seen new.seen put holds.seen;
+    })
 
 -- a link to a new page
 pub held_new : (own : ℕ) (all : List LinkTo) (kind : LinkKind) (page : ℕ) (old new : LinkList)
-    → (page ≡ old.page → ⊥) → list_any (is_at (nat_cmp page)) old.seen.keys ≡ false → new.page ≡ old.page
+    → (page ≡ old.page → ⊥) → has_mark page old.seen ≡ false → new.page ≡ old.page
     → new.links.items ≡ old.links.items ++ record { kind = kind; page = page } ∷ []
-    → new.seen.keys ≡ insert_key nat_cmp old.seen.keys page → HoldsLinks own all old
+    → ((other : ℕ) → has_mark other new.seen ≡ ((other == page) || has_mark other old.seen)) → HoldsLinks own all old
     → HoldsLinks own (with_link own all kind page) new
-held_new own all kind page old new apart absent same put set holds =
+held_new own all kind page old new apart absent same links put holds =
     let made : declared.LinkTo = record { kind = kind; page = page } in
     let link : with_link own all kind page ≡ all ++ link_of kind page ∷ [] = ap (λ l. all ++ option_to_list l)
     (other_some own kind page (page == own) refl (another own page old apart holds.page)) in
     subst (λ l. HoldsLinks own l new) (sym link) (record {
       page = same ∙ holds.page;
       are =
-          ap (map link_shown) put ∙ map-append link_shown old.links.items (made ∷ [])
+          ap (map link_shown) links ∙ map-append link_shown old.links.items (made ∷ [])
           ∙ ap (λ l. l ++ link_of kind page ∷ []) holds.are
           ∙ sym (once_new all (link_of kind page) (sym (holds.seen page) ∙ absent));
-      seen = λ other.
-          ap (list_any (is_at (nat_cmp other))) set
-          ∙ any_number_put (is_at (nat_cmp other)) page old.seen.keys
-          ∙ (λ i. (at_number other page ∙ number_swaps other page) i || holds.seen other i)
-          ∙ sym (any_push (leads_to other) all (link_of kind page));
+      seen = marks_more all kind page old.seen new.seen put holds.seen;
     })
 
 -- The documents of pages

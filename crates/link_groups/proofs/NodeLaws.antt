@@ -1,5 +1,5 @@
 -- The nodes that links go from and to, and those that were found before.
-use Rattle.std.specs.Prelude.{◌≡◌, ℕ, Bool, true, false, List, [], ◌++◌, Option, Some, IsTrue, cond, codes, option_map, slice_get, unwrap_or}
+use Rattle.std.specs.Prelude.{◌≡◌, ℕ, Bool, true, false, List, ◌++◌, Option, Some, IsTrue, cond, codes, option_map, slice_get, unwrap_or}
 use Rattle.std.specs.BTreeMap.{is_at}
 use Rattle.std.specs.List.{filter_map}
 use Rattle.std.specs.Map.{lookup}
@@ -12,7 +12,6 @@ use Rattle.dita_doc.specs.ClassValue.{value_of}
 use Rattle.dita_doc.specs.declared.plan.PagePlan.{PagePlan}
 use Rattle.dita_doc.specs.declared.plan.Plan.{Plan}
 use Rattle.dita_doc.specs.declared.plan.PlanNode.{PlanNode}
-use Rattle.dita_doc.specs.declared.plan.Target.TheVariants as targets
 use Rattle.dita_doc.proofs.Orders.{at_number}
 use Rattle.map_spec.specs.Cascade.{cascaded_on, cascaded_value, walk}
 use Rattle.map_spec.specs.Pages.{local_name, page_for}

@@ -1,3 +1,4 @@
 pub mod LinkNodes
 pub mod LinkLists
 pub mod Asked
+pub mod PageMarks

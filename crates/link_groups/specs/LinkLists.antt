@@ -1,15 +1,14 @@
 -- The links of a page before they are written (own): as `to_each_once` has them, with the set of the pages that they lead
 -- to.
 use Rattle.std.specs.Prelude.{◌≡◌, ◌==◌, ℕ, Bool, List, [], ◌++◌, Option, Some, None, map, option_map, slice_get, if◌then◌else◌}
-use Rattle.std.specs.BTreeMap.{is_at}
 use Rattle.std.specs.List.{filter_map, list_any}
 use Rattle.std.specs.List.Sorted.{IsNonDecreasingBy, IsPermutation}
 use Rattle.std.specs.Option.{option_to_list}
-use Rattle.std.specs.Ordering.{nat_cmp}
 use Rattle.dita_doc.specs.declared.content.LinkKind.{LinkKind}
 use Rattle.dita_doc.specs.declared.content.PageLink.{PageLink}
 use Rattle.dita_doc.specs.declared.plan.PagePlan.{PagePlan}
 use Rattle.href_text.specs.Joined.{relative_path}
+use Rattle.link_groups.specs.PageMarks.{has_mark}
 use Rattle.link_groups.specs.declared.link_list.LinkList.{LinkList}
 use Rattle.link_groups.specs.declared.link_list.LinkTo as declared
 use Rattle.link_groups.specs.declared.link_nodes.LinkNode.{LinkNode}
@@ -30,7 +29,7 @@ leads_to page link = link.page == page
 pub record HoldsLinks (own : ℕ) (all : List LinkTo) (list : LinkList) : Type 0 where
   pub page : list.page ≡ own
   pub are : map link_shown list.links.items ≡ to_each_once all
-  pub seen : (other : ℕ) → list_any (is_at (nat_cmp other)) list.seen.keys ≡ list_any (leads_to other) all
+  pub seen : (other : ℕ) → has_mark other list.seen ≡ list_any (leads_to other) all
 
 -- a link to a page, unless it is the list's own
 abbrev pub link_beside : ℕ → LinkKind → ℕ → Option LinkTo

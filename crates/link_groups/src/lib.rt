@@ -8,6 +8,7 @@
 
 mod link_list;
 mod link_nodes;
+mod page_marks;
 
 pub use link_list::LinkList;
 pub use link_nodes::{LinkNode, LinkNodes, name_at, node_at};

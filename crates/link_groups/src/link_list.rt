@@ -1,7 +1,6 @@
 //! The links of one page.
 
 ghost use Rattle.std.specs.Prelude.{◌≡◌, ◌++◌, [], ◌∷◌, ℕ, IfOk, OnOk, map, slice_get};
-ghost use Rattle.std.specs.BTreeSet.{insert_key};
 ghost use Rattle.std.specs.List.{filter_map};
 ghost use Rattle.std.specs.Option.{option_copied, option_to_list};
 ghost use Rattle.std.specs.Ordering.{nat_cmp};
@@ -18,11 +17,11 @@ ghost use Rattle.readers.specs.Only.{TellsOnly};
 ghost use Rattle.readers.specs.Told.{Agrees};
 
 use crate::link_nodes::LinkNode;
+use crate::page_marks::PageMarks;
 use dita_doc::{LinkKind, List, NoMemory, PageLink, PagePlan, Plan, Text};
 use href_text::relative;
 use readers::Asker;
 use std::alloc::Global;
-use std::collections::BTreeSet;
 
 // A link to a page.
 #[derive(Clone, Copy)]
@@ -36,7 +35,7 @@ struct LinkTo {
 #[derive(Drop)]
 pub struct LinkList {
     page: u32,
-    seen: BTreeSet<u32>,
+    seen: PageMarks,
     links: Vec<LinkTo>,
 }
 
@@ -47,7 +46,7 @@ impl LinkList {
     {
         LinkList {
             page,
-            seen: BTreeSet::new(alloc),
+            seen: PageMarks::new(alloc),
             links: Vec::new(alloc),
         }
     }
