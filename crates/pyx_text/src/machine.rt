@@ -1,6 +1,6 @@
 //! Nodes from lines: a machine that takes one line after the other.
 
-ghost use Rattle.std.specs.Prelude.{◌≡◌, [], ◌<◌, ◌+◌, ◌^◌, ◌||◌, ℕ, Ok, length, bytes_eq, not, OnOk, IfOk};
+ghost use Rattle.std.specs.Prelude.{◌≡◌, [], ◌∷◌, ◌++◌, ◌<◌, ◌+◌, ◌^◌, ◌||◌, ℕ, Ok, length, bytes_eq, not, OnOk, IfOk};
 ghost use Rattle.dita_doc.specs.Bytes.{Bytes};
 ghost use Rattle.dita_doc.specs.Pyx as pyx_spec;
 ghost use Rattle.dita_doc.specs.PyxEscapes as pyx_escapes_spec;
@@ -16,6 +16,9 @@ use std::mem;
 
 // How many elements may be open within one another.
 const DEPTH_LIMIT: usize = 256;
+
+// Up to how many attributes an element's list takes room for one at a time.
+const FEW_ATTRIBUTES: usize = 4;
 
 /// The nodes that some lines made, and what of them the next lines go on with.
 #[derive(Drop)]
@@ -146,7 +149,7 @@ impl PyxMachine {
             name: Text::from_str(alloc, name)?,
             value: unescape(alloc, value)?,
         };
-        push_attribute(&mut self.nodes, attribute)?;
+        push_attribute(alloc, &mut self.nodes, attribute)?;
         Ok(())
     }
 
@@ -208,10 +211,13 @@ impl PyxMachine {
         }
     }
 
+    /// The nodes, with no more room than they need.
     pub fn into_nodes(self) -> List<Node>
         ensures { result ≡ self.nodes.items }
     {
-        List::from_vec(self.nodes)
+        let mut nodes = self.nodes;
+        nodes.shrink_to_fit();
+        List::from_vec(nodes)
     }
 
     // Makes a node of the text at hand, unless it is empty.
@@ -281,12 +287,33 @@ fn insert_name(alloc: Global, names: &mut BTreeSet<Text>, name: &str) -> Result<
 }
 
 // Gives the last node an attribute.
-fn push_attribute(nodes: &mut Vec<Node>, attribute: Attribute) -> Result<(), AllocError>
+fn push_attribute(
+    alloc: Global,
+    nodes: &mut Vec<Node>,
+    attribute: Attribute,
+) -> Result<(), AllocError>
     ensures { OnOk result (nodes.new.items ≡ spec.with_attribute attribute nodes.old.items) }
 {
     if let Some(node) = nodes.last_mut() {
-        node.attributes.push(attribute)?;
+        append_attribute(alloc, &mut node.attributes, attribute)?;
     }
+    Ok(())
+}
+
+// Appends an attribute. Most elements have one or two, so room for the first few is taken one by one.
+fn append_attribute(
+    alloc: Global,
+    attributes: &mut List<Attribute>,
+    attribute: Attribute,
+) -> Result<(), AllocError>
+    ensures { OnOk result (attributes.new ≡ attributes.old ++ attribute ∷ []) }
+{
+    let mut content = mem::replace(attributes, List::new(alloc)).into_vec();
+    if content.len() < FEW_ATTRIBUTES {
+        content.reserve_exact(1)?;
+    }
+    content.push(attribute)?;
+    *attributes = List::from_vec(content);
     Ok(())
 }
 

@@ -3,11 +3,11 @@ use Rattle.pyx_text.specs.Machine.{giving}
 use Rattle.pyx_text.proofs.Lists.{changed-set}
 use Rattle.pyx_text.proofs.machine.push_attribute.Goals as goal
 
-pub returns-in_ok-push : goal.returns-in_ok-push
-returns-in_ok-push c =
+pub returns-in_ok-append_attribute : goal.returns-in_ok-append_attribute
+returns-in_ok-append_attribute c =
     let nodes = c.args.nodes.now.items in
     let node = c.in-Some.node.now in
-    let pushed : c.push.new.self ≡ node.attributes ++ c.args.attribute ∷ [] = search rules in
+    let pushed : c.append_attribute.new.attributes ≡ node.attributes ++ c.args.attribute ∷ [] = search rules in
     let some : 0 < length nodes = search rules in
     let count : vec_len c.args.nodes.now ≡ length nodes = search rules in
     ap (λ attributes. set nodes (vec_len c.args.nodes.now - 1) (record node { attributes = attributes })) pushed
