@@ -6,13 +6,14 @@ use crate::count::with_fault;
 use crate::{Failed, Outlet};
 use dita_doc::{Name, Stop, Text};
 use std::alloc::Global;
+use std::io::ErrorKind;
 use std::path::Path;
 use std::rt::Files;
 use std::{fs, io};
 
 /// A folder that takes pages as files. It tells no pages, and counts each error of the system.
 ///
-/// The folders of a name are made. A file that holds the page's bytes already is left as it is, so
+/// The folders of a name are made if they lack. A file that holds the page's bytes already is left as it is, so
 /// that a rebuild does not touch what did not change. Another page is written beside its place and
 /// renamed, so that no reader sees half of one. Pages of earlier runs stay.
 #[derive(Drop)]
@@ -56,18 +57,26 @@ impl<R: Files + AllocGlobal + Drop> FolderOutlet<R> {
         }
     }
 
-    // Makes the folders of a page and puts its file there. Without success the file beside its place
-    // is removed, if the system lets it.
+    // Puts the file of a page there, and makes its folders if they lack. Without success the file
+    // beside its place is removed, if the system lets it.
     fn write(&self, path: Path<'_>, beside: &str, bytes: &[u8]) -> io::Result<()> {
-        if let Some(parent) = path.parent() {
-            fs::create_dir_all(&self.rt, parent)?;
+        let mut written = self.write_beside(path, beside, bytes);
+        if is_not_found(&written) {
+            self.make_folders(path)?;
+            written = self.write_beside(path, beside, bytes);
         }
-        let written = self.write_beside(path, beside, bytes);
         if written.is_err() {
             // If it can't be removed either, that is no second fault: the page has failed already.
             let _ = fs::remove_file(&self.rt, beside);
         }
         written
+    }
+
+    fn make_folders(&self, path: Path<'_>) -> io::Result<()> {
+        match path.parent() {
+            Some(parent) => fs::create_dir_all(&self.rt, parent),
+            None => Ok(()),
+        }
     }
 
     fn write_beside(&self, path: Path<'_>, beside: &str, bytes: &[u8]) -> io::Result<()> {
@@ -80,6 +89,14 @@ impl<R: Files + AllocGlobal + Drop> FolderOutlet<R> {
             Ok(old) => old.as_slice() == bytes,
             Err(_) => false,
         }
+    }
+}
+
+// Whether the system has no such file or folder.
+fn is_not_found(written: &io::Result<()>) -> bool {
+    match written {
+        Ok(()) => false,
+        Err(error) => error.kind() == ErrorKind::NotFound,
     }
 }
 
