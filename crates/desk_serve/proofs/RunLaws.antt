@@ -8,9 +8,10 @@ use Rattle.dita_doc.specs.declared.stop.Stop.{Stop}
 use Rattle.dita_doc.specs.declared.stop.Stop.TheVariants.{Fault, NoMemory}
 use Rattle.dita_outside.specs.Cause.{Rose}
 use Rattle.dita_outside.specs.Links.{DoorTold, HasMore, LinkTold}
+use Rattle.dita_outside.specs.Taken.{AppendsFront}
 use Rattle.dita_outside.specs.declared.Failed.{Failed}
 use Rattle.run_spec.specs.EndsServe.{EndsServe, Ports, ServesSome, ServesThese, SessionRelation}
-use Rattle.run_spec.specs.Written.{AppendsFront, EndsWriting}
+use Rattle.run_spec.specs.Written.{EndsWriting}
 use Rattle.run_spec.specs.declared.status.Status.{Status}
 use Rattle.run_spec.specs.declared.status.Status.TheVariants as statuses
 use Rattle.desk_core.specs.Book.{BookData}

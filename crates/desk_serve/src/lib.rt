@@ -1,7 +1,6 @@
 //! The mode `serve`: connections come in at a door, and each is a session of one desk.
 //!
-//! What is used above it: how `run_serve` ends, by `EndsServe` of `run_spec`; and `write_all`, by which
-//! the other modes write their output, too.
+//! What is used above it: how `run_serve` ends, by `EndsServe` of `run_spec`.
 #![tactic(auto)]
 
 mod accept;
@@ -12,4 +11,3 @@ mod session;
 mod tell;
 
 pub use run::run_serve;
-pub use tell::write_all;

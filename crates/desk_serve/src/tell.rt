@@ -1,13 +1,11 @@
 //! What a run tells its sink.
 
-ghost use Rattle.std.specs.Prelude.{◌≡◌, IfOk, OnErr, OnOk};
-ghost use Rattle.std.specs.Io.KnownBytes.{Appends};
-ghost use Rattle.dita_outside.specs.Cause as cause_spec;
+ghost use Rattle.std.specs.Prelude.{◌≡◌, IfOk};
 ghost use Rattle.run_spec.specs.Written as written_spec;
 ghost use Rattle.desk_serve.specs.Ends as spec;
 
 use dita_doc::{List, Stop};
-use dita_outside::{Failed, Sink};
+use dita_outside::{Failed, Sink, write_all};
 use run_spec::Status;
 use std::alloc::{AllocError, Global};
 
@@ -31,18 +29,4 @@ fn count_line(alloc: Global, connections: u32, entries: u64) -> Result<List<u8>,
 {
     let text = format!(in alloc; "served {connections} {entries}\n")?;
     Ok(List::from_vec(text.into_bytes()))
-}
-
-/// Writes bytes whole.
-pub fn write_all<K: Sink>(sink: &mut K, bytes: &[u8]) -> Result<(), Stop<Failed>>
-    ensures ok { OnOk result (Appends (K.taken sink.old) (K.taken sink.new) bytes.now) }
-    ensures err { OnErr result
-        (written_spec.AppendsFront (K.taken sink.old) (K.taken sink.new) bytes.now) }
-    ensures cause { cause_spec.HasCauseOrNoMemory (K.faults sink.old) (K.faults sink.new) result }
-{
-    let mut done = 0;
-    while done < bytes.len() {
-        done += sink.write(&bytes[done..])?;
-    }
-    Ok(())
 }

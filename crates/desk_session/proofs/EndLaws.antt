@@ -10,6 +10,7 @@ use Rattle.dita_outside.specs.Cause.{Rose}
 use Rattle.dita_outside.specs.Links.{HasFewer, HasMore, IsAtEnd, LinkTold, Messages}
 use Rattle.dita_outside.specs.declared.Failed.{Failed}
 use Rattle.script_laws.proofs.Later.{requests_follow}
+use Rattle.script_text.specs.Faults.{rejection_line}
 use Rattle.script_text.specs.Pieces.{Fails}
 use Rattle.script_text.specs.Requests.{requests_of}
 use Rattle.script_text.specs.declared.fault.ScriptFault.{ScriptFault}
@@ -25,7 +26,7 @@ use Rattle.desk_session.proofs.SoFarLaws.{nothing_answered}
 use Rattle.desk_session.specs.Answers.{CleanBuild, IsAnswered, SessionAnswer, SessionBasis, all_messages, entry_of, messages_of, places_of}
 use Rattle.desk_session.specs.Asking.{GoesOn, PutsAlone, PutsAnswer, PutsOne, messages_in}
 use Rattle.desk_session.specs.Ends as ends_spec
-use Rattle.desk_session.specs.Ends.{BeginsNext, EndsShort, Serves, behind_all, full_message, read_of, script_message}
+use Rattle.desk_session.specs.Ends.{BeginsNext, EndsShort, Serves, behind_all, full_message, read_of}
 use Rattle.desk_session.specs.Pass.{basis_of, room_of}
 use Rattle.desk_session.specs.Saying.{IsLinkEnd, Says, SaysFront, end_by}
 use Rattle.desk_session.specs.SoFar.{Ends, HasAnswered, HasLeft, MayRead, ReadsPiece, Start, Waits}
@@ -183,7 +184,7 @@ module _ (clean : CleanBuild) (start : Start) where
         unread.0 may.answers ended may.has unread.1 (goes_nowhere w) says why
 
     by_fault : (fault : ScriptFault) → Fails (requests_of may.text) (requests_of (may.text ++ piece)) fault
-        → Says old new (script_message fault ∷ []) → new.faults ≡ old.faults
+        → Says old new (rejection_line fault ∷ []) → new.faults ≡ old.faults
         → Ends clean start w new (Script fault)
     by_fault fault fails says sure =
         let received = may.before ++ may.message ∷ [] in
@@ -193,7 +194,7 @@ module _ (clean : CleanBuild) (start : Start) where
           before = may.before;
           message = may.message;
           answers = may.answers;
-          serves = served w w old new received (requests_of may.text).requests [] may.answers [] (script_message fault ∷ [])
+          serves = served w w old new received (requests_of may.text).requests [] may.answers [] (rejection_line fault ∷ [])
               may.has
               (ap (λ text. (requests_of text).requests) whole ∙ fails.none
               ∙ sym (append-nil (requests_of may.text).requests))

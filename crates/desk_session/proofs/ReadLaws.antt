@@ -5,12 +5,12 @@ use Rattle.dita_doc.specs.Bytes.{Bytes}
 use Rattle.dita_doc.specs.declared.request.Request as given
 use Rattle.dita_doc.specs.declared.stop.Stop.TheVariants as stops
 use Rattle.dita_outside.specs.Links.{LinkTold}
+use Rattle.script_text.specs.Faults.{rejection_line}
 use Rattle.script_text.specs.Pieces.{AnswersPiece}
 use Rattle.script_text.specs.Reader.{StandsFor}
 use Rattle.script_text.specs.declared.fault.ScriptFault.{ScriptFault}
 use Rattle.script_text.specs.declared.request_reader.RequestReader.{RequestReader}
 use Rattle.desk_session.proofs.LinkLaws.{front_of_one, says_none}
-use Rattle.desk_session.specs.Ends.{script_message}
 use Rattle.desk_session.specs.Saying.{IsLinkEnd, Says, SaysFront}
 use Rattle.desk_session.specs.SoFar.{Reads, ReadsPiece}
 use Rattle.desk_session.specs.declared.end.SessionEnd.{SessionEnd}
@@ -28,7 +28,7 @@ module _ (was is : RequestReader) (piece : Bytes) where
   reads_none told = record { stands = λ text stands. tt; answers = λ text stands. says_none told }
 
   pub reads_fault : (old new : LinkTold) (fault : ScriptFault)
-      → Feeds StandsFor AnswersPiece was piece (Err (stops.Fault fault)) is → Says old new (script_message fault ∷ [])
+      → Feeds StandsFor AnswersPiece was piece (Err (stops.Fault fault)) is → Says old new (rejection_line fault ∷ [])
       → new.faults ≡ old.faults → Reads was piece (Err (Script fault)) is old new
   reads_fault old new fault feeds says sure = record {
     stands = λ text stands. tt;
@@ -45,10 +45,10 @@ module _ (was is : RequestReader) (piece : Bytes) where
   untold text old new NoMemory says why = says
 
   pub reads_untold : (old new : LinkTold) (fault : ScriptFault) (ended : SessionEnd)
-      → SaysFront old new ended (script_message fault ∷ []) → Reads was piece (Err ended) is old new
+      → SaysFront old new ended (rejection_line fault ∷ []) → Reads was piece (Err ended) is old new
   reads_untold old new fault ended front = record {
     stands = λ text stands. tt;
     answers = λ text stands. untold text old new ended
-        (subst (Says old new) (front_of_one front.front (script_message fault) front.next front.back front.all) front.says)
+        (subst (Says old new) (front_of_one front.front (rejection_line fault) front.next front.back front.all) front.says)
         front.why;
   }

@@ -8,7 +8,7 @@ use Rattle.dita_doc.specs.Lines.{line}
 use Rattle.dita_doc.specs.Request.{Request}
 use Rattle.dita_outside.specs.Cause.{Rose}
 use Rattle.dita_outside.specs.Links.{HasFewer, HasMore, IsAtEnd, LinkTold, Messages}
-use Rattle.script_text.specs.Faults.{script_code_text}
+use Rattle.script_text.specs.Faults.{rejection_line}
 use Rattle.script_text.specs.Requests.{RequestsRead, requests_of}
 use Rattle.script_text.specs.declared.fault.ScriptFault.{ScriptFault}
 use Rattle.version_store.specs.Kept.{IsFull}
@@ -22,9 +22,6 @@ abbrev pub read_of : Messages → RequestsRead
 read_of received = requests_of (flat_map (λ (message : Bytes). message) received)
 
 -- The last message
-
-abbrev pub script_message : ScriptFault → Bytes
-script_message fault = line (codes "script " ++ script_code_text fault.code ++ codes " " ++ decimal fault.line)
 
 abbrev pub full_message : full_declared.Full → Bytes
 full_message full = line (codes "full " ++ decimal full.entries ++ codes " " ++ decimal full.bytes)
@@ -57,7 +54,7 @@ pub record EndsScript (on : SessionBasis) (fault : ScriptFault) (old new : LinkT
   pub before : Messages
   pub message : Bytes
   pub answers : List SessionAnswer
-  pub serves : Serves on old new (before ++ message ∷ []) answers [] (script_message fault ∷ [])
+  pub serves : Serves on old new (before ++ message ∷ []) answers [] (rejection_line fault ∷ [])
   pub made : places ≡ places_of answers
   pub sound : (read_of before).fault ≡ None
   pub told : (read_of (before ++ message ∷ [])).fault ≡ Some fault

@@ -5,6 +5,7 @@ use Rattle.dita_doc.specs.Request.{Request}
 use Rattle.dita_doc.specs.Seen.{request_seen}
 use Rattle.dita_doc.specs.declared.request.Request as given
 use Rattle.dita_outside.specs.Links.{HasFewer, HasMore, LinkTold, Messages}
+use Rattle.script_text.specs.Faults.{rejection_line}
 use Rattle.script_text.specs.Pieces.{Completes, Fails}
 use Rattle.script_text.specs.Reader.{StandsFor}
 use Rattle.script_text.specs.Requests.{requests_of}
@@ -12,7 +13,7 @@ use Rattle.script_text.specs.declared.request_reader.RequestReader.{RequestReade
 use Rattle.desk_lock.specs.declared.view.View.{View}
 use Rattle.desk_session.specs.Answers.{AreAnswered, CleanBuild, SessionAnswer, all_messages, places_of}
 use Rattle.desk_session.specs.Asking.{GoesOn}
-use Rattle.desk_session.specs.Ends.{behind_all, read_of, script_message}
+use Rattle.desk_session.specs.Ends.{behind_all, read_of}
 use Rattle.desk_session.specs.Pass.{ServesPass, basis_of}
 use Rattle.desk_session.specs.Saying.{IsLinkEnd, Says}
 use Rattle.desk_session.specs.declared.end.SessionEnd.{SessionEnd}
@@ -82,7 +83,7 @@ abbrev pub ReadsPiece : (text piece : Bytes) → Result (List given.Request) Ses
 ReadsPiece text piece (Ok requests) old new =
     Completes (requests_of text) (requests_of (text ++ piece)) (map request_seen requests) × (new ≡ old)
 ReadsPiece text piece (Err (Script fault)) old new = Fails (requests_of text) (requests_of (text ++ piece)) fault
-    × Says old new (script_message fault ∷ []) × (new.faults ≡ old.faults)
+    × Says old new (rejection_line fault ∷ []) × (new.faults ≡ old.faults)
 ReadsPiece text piece (Err LinkFault) old new = Says old new [] × IsLinkEnd LinkFault old.faults new.faults
 ReadsPiece text piece (Err NoMemory) old new = Says old new []
 ReadsPiece text piece (Err Closed) old new = ⊥

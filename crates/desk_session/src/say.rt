@@ -1,6 +1,7 @@
 //! Messages that a session sends.
 
 ghost use Rattle.std.specs.Prelude.{◌≡◌, [], ◌∷◌, All, IfOk, map};
+ghost use Rattle.script_text.specs.Faults as faults_spec;
 ghost use Rattle.desk_session.specs.Asking as asking_spec;
 ghost use Rattle.desk_session.specs.Ends as ends_spec;
 ghost use Rattle.desk_session.specs.Saying as spec;
@@ -56,9 +57,9 @@ pub(crate) fn say_fault<L: Link>(
     fault: ScriptFault,
 ) -> Result<(), SessionEnd>
     ensures { spec.SaysAll (L.told link.old) (L.told link.new) result
-        (ends_spec.script_message fault ∷ []) }
+        (faults_spec.rejection_line fault ∷ []) }
 {
-    let message = fault_message(alloc, fault)?;
+    let message = fault.to_line(alloc)?;
     say(alloc, link, message.as_slice())
 }
 
@@ -77,17 +78,6 @@ fn say<L: Link>(alloc: Global, link: &mut L, message: &[u8]) -> Result<(), Sessi
 {
     link.send(alloc, message)?;
     Ok(())
-}
-
-fn fault_message(alloc: Global, fault: ScriptFault) -> Result<List<u8>, AllocError>
-    ensures { IfOk result (λ message. message ≡ ends_spec.script_message fault) }
-{
-    let code = fault.code.text();
-    let line = fault.line;
-    List::from_slice(
-        alloc,
-        format!(in alloc; "script {code} {line}\n")?.as_bytes(),
-    )
 }
 
 fn full_message(alloc: Global, full: Full) -> Result<List<u8>, AllocError>

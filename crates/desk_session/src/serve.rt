@@ -23,11 +23,12 @@ use std::alloc::Global;
 use std::sync::Wait;
 use std::thread::Threads;
 
-// The most bytes that may be received behind the last whole request: no desk has room for more.
+// The most bytes that may be received in messages that make no request whole: no desk has room for
+// more.
 const MOST_WAITING: usize = 67_108_864;
 
 // How far a session has read: the number of the last request that was answered, and how many bytes
-// were received behind the last one that was whole.
+// came in messages behind the one that made the last request whole.
 #[derive(Drop)]
 pub(crate) struct Reading {
     pub reader: RequestReader,
@@ -39,9 +40,9 @@ pub(crate) struct Reading {
 /// pass's session and the next number from 1, and is answered by messages. So many workers make the
 /// parts of each build.
 ///
-/// Out of memory also if more bytes are received behind the last whole request than a desk has room
-/// for; if there is no number left for a request; and if a reply has bytes that are not UTF-8, or a
-/// page no HTML, of which there is no text.
+/// Out of memory also if more bytes are received in messages that make no request whole than a desk
+/// has room for; if there is no number left for a request; and if a reply has bytes that are not
+/// UTF-8, or a page no HTML, of which there is no text.
 pub fn serve_link<
     R: Threads + Wait + Sync,
     P: Parts + Send + Sync,
@@ -196,7 +197,7 @@ fn read<L: Link>(
     }
 }
 
-// How many bytes were received behind the last whole request, if a message made these whole.
+// How many bytes came in messages that made no request whole, behind a message that made these whole.
 fn waiting_behind(
     waiting: usize,
     message: &[u8],

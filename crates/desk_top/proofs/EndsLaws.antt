@@ -4,9 +4,10 @@ use Rattle.std.specs.Io.KnownBytes.{Appends}
 use Rattle.dita_doc.specs.Bytes.{Bytes}
 use Rattle.dita_outside.specs.Pages.{Pages, TakesPages}
 use Rattle.run_spec.specs.Answers.{answers_to}
-use Rattle.run_spec.specs.CleanRun.{HasForm, run_answered, run_of, run_over, read_limit, rejection_line}
+use Rattle.run_spec.specs.CleanRun.{HasForm, run_answered, run_of, run_over, read_limit}
 use Rattle.run_spec.specs.declared.status.Status.{Status}
 use Rattle.run_spec.specs.declared.status.Status.TheVariants as statuses
+use Rattle.script_text.specs.Faults.{rejection_line}
 use Rattle.script_text.specs.Script.{Step, script_of}
 use Rattle.script_text.specs.declared.fault.ScriptFault.{ScriptFault}
 use Rattle.desk_top.specs.Ends.{EndsRun, FailsToWrite, NoneRose, StopsShort, WritesLast}

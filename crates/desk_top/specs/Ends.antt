@@ -8,6 +8,7 @@ use Rattle.dita_doc.specs.Bytes.{Bytes}
 use Rattle.dita_outside.specs.Cause.{Rose}
 use Rattle.dita_outside.specs.Links.{DoorTold}
 use Rattle.dita_outside.specs.Pages.{Pages, TakesPages, TakesPagesFront}
+use Rattle.dita_outside.specs.Taken.{AppendsFront}
 use Rattle.run_spec.specs.declared.status.Status.{Status}
 use Rattle.run_spec.specs.declared.status.Status.TheVariants as statuses
 use Rattle.run_spec.specs.CleanRun.{HasForm, read_limit, run_over}
@@ -16,7 +17,6 @@ use Rattle.run_spec.specs.EndsServe.{EndsServe}
 use Rattle.run_spec.specs.EndsTrial.{EndsGen, EndsTrial}
 use Rattle.run_spec.specs.Language.{dita}
 use Rattle.run_spec.specs.Reads.{Reads}
-use Rattle.run_spec.specs.Written.{AppendsFront}
 use Rattle.script_text.specs.Script.{script_of}
 use Rattle.desk_session.specs.Serving.{breaks, serves}
 use Rattle.desk_top.specs.Outside.{Change, streams_after, streams_before, sunk_after, sunk_before}

@@ -9,7 +9,7 @@ ghost use Rattle.script_text.specs.Script as script_spec;
 ghost use Rattle.desk_top.specs.Outside as outside_spec;
 
 use crate::callers::answer_beside;
-use crate::modes::{READ_LIMIT, rejection, written};
+use crate::modes::{READ_LIMIT, written};
 use crate::outside::read_all;
 use crate::told::transcript_of;
 use dita_doc::{List, NoMemory, Stop};
@@ -63,7 +63,7 @@ fn batch<R: Threads + Wait + Sync, G: Gate + Sync>(
 {
     match read_script(alloc, input) {
         Ok(script) => Ok((Status::Done, transcript(rt, alloc, script, workers, gate)?)),
-        Err(Stop::Fault(fault)) => Ok((Status::Script, rejection(alloc, fault)?)),
+        Err(Stop::Fault(fault)) => Ok((Status::Script, fault.to_line(alloc)?)),
         Err(Stop::NoMemory) => Err(NoMemory),
     }
 }

@@ -10,12 +10,11 @@ ghost use Rattle.desk_top.specs.Outside as outside_spec;
 
 use crate::outside::read_all;
 use crate::run::answer_all;
-use desk_serve::write_all;
 use dita_doc::{List, Stop};
-use dita_outside::{Failed, Outlet, Sink, Source};
+use dita_outside::{Failed, Outlet, Sink, Source, write_all};
 use run_spec::Status;
-use script_text::{SCRIPT_LIMIT, ScriptFault, read_script};
-use std::alloc::{AllocError, Global};
+use script_text::{SCRIPT_LIMIT, read_script};
+use std::alloc::Global;
 
 // One byte more than the longest script has.
 pub(crate) const READ_LIMIT: usize = SCRIPT_LIMIT + 1;
@@ -93,19 +92,9 @@ fn answered<O: Outlet>(
 {
     match read_script(alloc, input) {
         Ok(script) => Ok((Status::Done, answer_all(alloc, script, with_terms, outlet)?)),
-        Err(Stop::Fault(fault)) => Ok((Status::Script, rejection(alloc, fault)?)),
+        Err(Stop::Fault(fault)) => Ok((Status::Script, fault.to_line(alloc)?)),
         Err(Stop::NoMemory) => Err(Stop::NoMemory),
     }
-}
-
-// The one line of output if a script is rejected.
-pub(crate) fn rejection(alloc: Global, fault: ScriptFault) -> Result<List<u8>, AllocError>
-    ensures { IfOk result (λ text. text ≡ clean_run_spec.rejection_line fault) }
-{
-    let code = fault.code.text();
-    let line = fault.line;
-    let text = format!(in alloc; "script {code} {line}\n")?;
-    Ok(List::from_vec(text.into_bytes()))
 }
 
 // The status of a run whose output is written last.

@@ -4,3 +4,4 @@ pub mod Forms
 pub mod Links
 pub mod Pages
 pub mod Rooms
+pub mod Taken

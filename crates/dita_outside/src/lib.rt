@@ -26,7 +26,7 @@ pub use link::Link;
 pub use mem_door::MemDoor;
 pub use mem_link::{MemLink, SureLink};
 pub use outlet::{MemOutlet, Outlet, SureOutlet};
-pub use sink::{MemSink, Sink, StdSink, SureSink};
+pub use sink::{MemSink, Sink, StdSink, SureSink, write_all};
 pub use source::{MemSource, Source, StdSource, SureSource};
 
 /// The one answer of an object that failed.

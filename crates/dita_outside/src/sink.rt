@@ -1,10 +1,11 @@
 //! Where output goes.
 
-ghost use Rattle.std.specs.Prelude.{◌≡◌, ◌<◌, ◌-◌, ◌^◌, ℕ, [], Option, None, length, IfOk};
+ghost use Rattle.std.specs.Prelude.{◌≡◌, ◌<◌, ◌-◌, ◌^◌, ℕ, [], Option, None, length, IfOk, OnErr, OnOk};
 ghost use Rattle.std.specs.Io.{WritesAtMost};
-ghost use Rattle.std.specs.Io.KnownBytes.{WriteAppends};
+ghost use Rattle.std.specs.Io.KnownBytes.{Appends, WriteAppends};
 ghost use Rattle.dita_doc.specs.Bytes.{Bytes};
 ghost use Rattle.dita_outside.specs.Cause as cause_spec;
+ghost use Rattle.dita_outside.specs.Taken as taken_spec;
 
 use crate::Failed;
 use crate::calls::Calls;
@@ -28,6 +29,24 @@ pub trait Sink {
         ensures some { 0 < length bytes.now → IfOk result (λ count. 0 < count) }
         ensures bytes { WriteAppends (taken self.old) (taken self.new) result bytes.now }
         ensures cause { cause_spec.HasCauseOrNoMemory (faults self.old) (faults self.new) result };
+}
+
+/// Writes bytes whole, by as many calls as the sink needs.
+///
+/// # Errors
+///
+/// A call of the sink failed or was out of memory. The sink then has the bytes that it took before.
+pub fn write_all<K: Sink>(sink: &mut K, bytes: &[u8]) -> Result<(), Stop<Failed>>
+    ensures ok { OnOk result (Appends (K.taken sink.old) (K.taken sink.new) bytes.now) }
+    ensures err { OnErr result
+        (taken_spec.AppendsFront (K.taken sink.old) (K.taken sink.new) bytes.now) }
+    ensures cause { cause_spec.HasCauseOrNoMemory (K.faults sink.old) (K.faults sink.new) result }
+{
+    let mut done = 0;
+    while done < bytes.len() {
+        done += sink.write(&bytes[done..])?;
+    }
+    Ok(())
 }
 
 /// A sink in memory that fails at the calls listed, which are counted from 1, and when its room is

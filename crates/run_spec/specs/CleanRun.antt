@@ -1,10 +1,8 @@
 -- What a run over some bytes on one thread ends with: a status, the pages and the output. In the mode `clean` the pages are
 -- those of the builds; in the mode `terms` each build has its page of terms behind its own.
-use Rattle.std.specs.Prelude.{◌++◌, ℕ, Bool, true, false, List, [], Result, Ok, Err, codes}
-use Rattle.std.specs.Fmt.{decimal}
+use Rattle.std.specs.Prelude.{ℕ, Bool, true, false, List, [], Result, Ok, Err}
 use Rattle.build_spec.specs.Built.{Page}
-use Rattle.dita_doc.specs.Lines.{line}
-use Rattle.script_text.specs.Faults.{script_code_text}
+use Rattle.script_text.specs.Faults.{rejection_line}
 use Rattle.script_text.specs.Script.{Step, script_of}
 use Rattle.script_text.specs.declared.fault.ScriptFault.{ScriptFault}
 use Rattle.transcript_text.specs.Transcript.{IsTranscript, transcript_text}
@@ -20,9 +18,6 @@ pub record CleanRun : Type 0 where
 -- the bytes read at most: one more than a script has
 abbrev pub read_limit : ℕ
 read_limit = 67108865
-
-abbrev pub rejection_line : ScriptFault → List ℕ
-rejection_line fault = line (codes "script " ++ script_code_text fault.code ++ codes " " ++ decimal fault.line)
 
 abbrev pub run_answered : Bool → List Answer → CleanRun
 run_answered with_terms answers = record {

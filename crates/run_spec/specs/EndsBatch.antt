@@ -4,13 +4,14 @@ use Rattle.std.specs.Prelude.{◌≡◌, ◌⊎◌, ℕ, List, Option, Result, O
 use Rattle.std.specs.Io.KnownBytes.{Appends, Keeps}
 use Rattle.dita_doc.specs.Bytes.{Bytes}
 use Rattle.dita_outside.specs.Cause.{Rose}
-use Rattle.run_spec.specs.CleanRun.{read_limit, rejection_line}
+use Rattle.dita_outside.specs.Taken.{AppendsFront}
+use Rattle.run_spec.specs.CleanRun.{read_limit}
 use Rattle.run_spec.specs.Faithful.{IsFaithful}
 use Rattle.run_spec.specs.Language.{dita}
 use Rattle.run_spec.specs.Reads.{Reads}
-use Rattle.run_spec.specs.Written.{AppendsFront}
 use Rattle.run_spec.specs.declared.status.Status.{Status}
 use Rattle.run_spec.specs.declared.status.Status.TheVariants as statuses
+use Rattle.script_text.specs.Faults.{rejection_line}
 use Rattle.script_text.specs.Script.{Step, script_of}
 use Rattle.script_text.specs.declared.fault.ScriptFault.{ScriptFault}
 

@@ -8,7 +8,8 @@ use Rattle.dita_doc.specs.History.{Entry, IsLegal}
 use Rattle.dita_doc.specs.Lines.{line}
 use Rattle.dita_outside.specs.Cause.{Rose}
 use Rattle.dita_outside.specs.Links.{DoorTold, HasMore, LinkTold, Links}
-use Rattle.run_spec.specs.Written.{AppendsFront, Sunk}
+use Rattle.dita_outside.specs.Taken.{AppendsFront}
+use Rattle.run_spec.specs.Written.{Sunk}
 use Rattle.run_spec.specs.declared.status.Status.{Status}
 use Rattle.run_spec.specs.declared.status.Status.TheVariants as statuses
 use Rattle.transcript_text.specs.Transcript.{RowShown}
@@ -51,7 +52,7 @@ pub record ServesSome (serves : SessionRelation) (connections : ℕ) (old new : 
   pub these : ServesThese serves old new
   pub within : length these.came ≤ connections
 
--- a call of the door failed, and then no more were accepted
+-- fewer connections than were to be accepted, and a call of the door failed
 pub record ServesFewer (serves : SessionRelation) (connections : ℕ) (old new : DoorTold) : Type 0 where
   pub these : ServesThese serves old new
   pub fewer : length these.came < connections

@@ -1,14 +1,11 @@
 -- What a sink took of a text that was written to it: all of it, or its beginning.
-use Rattle.std.specs.Prelude.{◌≡◌, ◌++◌, ℕ, Option}
+use Rattle.std.specs.Prelude.{◌≡◌, ℕ, Option}
 use Rattle.std.specs.Io.KnownBytes.{Appends}
 use Rattle.dita_doc.specs.Bytes.{Bytes}
 use Rattle.dita_outside.specs.Cause.{Rose}
+use Rattle.dita_outside.specs.Taken.{AppendsFront}
 use Rattle.run_spec.specs.declared.status.Status.{Status}
 use Rattle.run_spec.specs.declared.status.Status.TheVariants as statuses
-
--- the sink took the beginning of the text, perhaps nothing of it and perhaps all
-abbrev pub AppendsFront : Option Bytes → Option Bytes → Bytes → Type 0
-AppendsFront old new text = (front back : Bytes) × (text ≡ front ++ back) × Appends old new front
 
 -- what a sink tells at one moment: the bytes that it took, if it tells them, and its count of faults
 pub record Sunk : Type 0 where

@@ -17,7 +17,7 @@ pub enum Status {
     Script = 6,
     /// The outlet failed; nothing was written to the sink.
     OutletFault = 7,
-    /// The port could not be opened.
+    /// The door failed: the port could not be opened, or a connection could not be accepted.
     Port = 8,
 }
 

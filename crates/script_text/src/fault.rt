@@ -1,5 +1,8 @@
 //! Why bytes are no script.
 
+use dita_doc::List;
+use std::alloc::{AllocError, Global};
+
 /// Why bytes are no script. The numbers are those of `docs/RULES.md`.
 #[derive(Clone, Copy, Debug, PartialEq, Eq)]
 pub enum ScriptCode {
@@ -41,4 +44,19 @@ impl ScriptCode {
 pub struct ScriptFault {
     pub code: ScriptCode,
     pub line: u32,
+}
+
+impl ScriptFault {
+    ghost use Rattle.std.specs.Prelude.{◌≡◌, IfOk};
+    ghost use Rattle.script_text.specs.Faults as faults_spec;
+
+    /// The line that tells why bytes were rejected: `script`, the code's name and the number of the line.
+    pub fn to_line(self, alloc: Global) -> Result<List<u8>, AllocError>
+        ensures { IfOk result (λ line. line ≡ faults_spec.rejection_line self) }
+    {
+        let code = self.code.text();
+        let line = self.line;
+        let text = format!(in alloc; "script {code} {line}\n")?;
+        Ok(List::from_vec(text.into_bytes()))
+    }
 }

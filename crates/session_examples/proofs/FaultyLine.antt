@@ -8,6 +8,7 @@ use Rattle.std.proofs.lemmas.Option.{none-some}
 use lib.Utf8.{encode}
 use Rattle.dita_doc.specs.Lines.{line}
 use Rattle.dita_outside.specs.Links.{LinkTold, Messages}
+use Rattle.script_text.specs.Faults.{rejection_line}
 use Rattle.script_text.specs.Requests.{RequestsRead, requests_of}
 use Rattle.script_text.specs.declared.fault.ScriptCode.TheVariants as faults
 use Rattle.script_text.specs.declared.fault.ScriptFault.{ScriptFault}
@@ -15,7 +16,7 @@ use Rattle.desk_core.specs.declared.limits.Limits.{Limits}
 use Rattle.desk_lock.specs.Knows.{arrived, first_view, session_parts}
 use Rattle.desk_lock.specs.declared.view.View.{View}
 use Rattle.desk_session.specs.Answers.{CleanBuild}
-use Rattle.desk_session.specs.Ends.{EndsClosed, read_of, script_message}
+use Rattle.desk_session.specs.Ends.{EndsClosed, read_of}
 use Rattle.desk_session.specs.Pass.{ServesPass, basis_of}
 use Rattle.desk_session.specs.declared.end.SessionEnd.TheVariants.{Closed, Script}
 
@@ -36,7 +37,7 @@ nothing_read = refl
 abbrev told : Messages
 told = line (codes "script BadCommand 1") ∷ []
 
-its_message : script_message fault ∷ [] ≡ told
+its_message : rejection_line fault ∷ [] ≡ told
 unfolding digits
 its_message = refl
 

@@ -5,18 +5,18 @@ use Rattle.desk_top.proofs.EndsLaws.{rejected_run, rejected_pages, answered_run,
 use Rattle.desk_top.proofs.TakesLaws.{puts_front}
 use Rattle.desk_top.proofs.modes.answered.Goals as goal
 
-pub returns-in_ok-rejection-in-Err-Fault-clause-ok : goal.returns-in_ok-rejection-in-Err-Fault-clause-ok
-returns-in_ok-rejection-in-Err-Fault-clause-ok g c =
+pub returns-in_ok-to_line-in-Err-Fault-clause-ok : goal.returns-in_ok-to_line-in-Err-Fault-clause-ok
+returns-in_ok-to_line-in-Err-Fault-clause-ok g c =
     let fault = rw c.in-Err-Fault.field-0-is at c.in-Err-Fault.ensures in
-    rejected_run c.args.with_terms c.args.input.now _ c.in-Err-Fault.fault fault c.in_ok-rejection-in-Err-Fault.ensures
+    rejected_run c.args.with_terms c.args.input.now _ c.in-Err-Fault.fault fault c.in_ok-to_line-in-Err-Fault.ensures
 
-pub returns-in_ok-rejection-in-Err-Fault-clause-pages : goal.returns-in_ok-rejection-in-Err-Fault-clause-pages
-returns-in_ok-rejection-in-Err-Fault-clause-pages g c =
+pub returns-in_ok-to_line-in-Err-Fault-clause-pages : goal.returns-in_ok-to_line-in-Err-Fault-clause-pages
+returns-in_ok-to_line-in-Err-Fault-clause-pages g c =
     let fault = rw c.in-Err-Fault.field-0-is at c.in-Err-Fault.ensures in
     rejected_pages c.args.with_terms c.args.input.now c.in-Err-Fault.fault _ fault
 
-pub returns-in_ok-rejection-in-Err-Fault-clause-form : goal.returns-in_ok-rejection-in-Err-Fault-clause-form
-returns-in_ok-rejection-in-Err-Fault-clause-form g c =
+pub returns-in_ok-to_line-in-Err-Fault-clause-form : goal.returns-in_ok-to_line-in-Err-Fault-clause-form
+returns-in_ok-to_line-in-Err-Fault-clause-form g c =
     let fault = rw c.in-Err-Fault.field-0-is at c.in-Err-Fault.ensures in
     subst HasForm (sym fault) tt
 
