@@ -15,12 +15,12 @@ clean_with program words = program ∷ codes "clean" ∷ words
 abbrev pub set : Text → Text → Text
 set name value = codes "--" ++ (name ++ (codes "=" ++ value))
 
--- the option is read exactly if its value is a number from the least to the most
+-- behind `clean`, alone, the option is read exactly if its value is a number from the least to the most
 abbrev pub TakesNumber : Text → ℕ → ℕ → Type 0
 TakesNumber name least most = (program value : Text)
     → is_read (clean_with program (set name value ∷ [])) ≡ is_unsigned_in least most value
 
--- the option stands at most once
+-- behind `clean` the option, standing twice and nothing else, is not read
 abbrev pub StandsOnce : Text → Type 0
 StandsOnce name = (program first second : Text)
     → is_read (clean_with program (set name first ∷ set name second ∷ [])) ≡ false

@@ -14,7 +14,8 @@ pub fn read_without_fault()
         ↔ (fault_of command_spec.command words ≡ []) }
 {}
 
-/// An option that takes a number is read exactly if its value is one within the option's bounds.
+/// Behind `clean`, as the only word, an option that takes a number is read exactly if its value is one
+/// within the option's bounds.
 pub fn numbers_in_bounds()
     ensures workers { words_spec.TakesNumber (codes "workers") 1 16 }
     ensures number { words_spec.TakesNumber (codes "number") 0 9223372036854775807 }
@@ -23,7 +24,7 @@ pub fn numbers_in_bounds()
     ensures connections { words_spec.TakesNumber (codes "connections") 1 1024 }
 {}
 
-/// No option is read twice.
+/// Behind `clean` an option that stands twice, and nothing else, is not read.
 pub fn options_stand_once()
     ensures workers { words_spec.StandsOnce (codes "workers") }
     ensures number { words_spec.StandsOnce (codes "number") }
@@ -33,7 +34,7 @@ pub fn options_stand_once()
     ensures out { words_spec.StandsOnce (codes "out") }
 {}
 
-/// Behind the mode and `--` no word is read.
+/// Behind `clean --` a word is not read.
 pub fn two_hyphens_close()
     ensures { words_spec.ClosesOptions }
 {}
@@ -43,7 +44,7 @@ pub fn mode_is_named()
     ensures { words_spec.NamesMode }
 {}
 
-/// The value of `--out` is the folder of the pages.
+/// The value of `--out`, as the only word behind `clean`, is the folder of the pages.
 pub fn folder_is_named()
     ensures { words_spec.NamesFolder }
 {}

@@ -13,7 +13,7 @@ abbrev pub Steps : Type 0
 Steps = List Step
 
 -- The answers to some steps are one history: each reply is the desk's at its place, and each step is answered over what
--- is stored there, a build too. The transcript shows each answer.
+-- is stored there, a build too. The transcript has one entry for each step.
 pub record IsOneHistory (steps : Steps) : Type 0 where
   pub legal : IsLegal (history_of steps)
   pub each : (n : ℕ) (step : Step) → slice_get steps n ≡ Some step

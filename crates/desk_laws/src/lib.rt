@@ -1,4 +1,4 @@
-//! What follows from the contract of a run, as laws: only laws stand on them. They hold of runs with
+//! What follows from the contract of a run, as laws: nothing stands on them. They hold of runs with
 //! pages of terms and of runs without.
 //!
 //! Each law is the contract of a function that does nothing, so that the check proves it like any

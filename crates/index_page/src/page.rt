@@ -15,8 +15,8 @@ const PAGE_LIMIT: usize = 4_194_304;
 
 /// The page that lists the entries, if there are any: at each level each text once, by its bytes,
 /// with a link to each page on which it ends, in the plan's order. A page over 4 MiB has an empty
-/// body, and no fault. It compares each text of a path with about so many others as the number of
-/// texts of its level has binary digits, and copies each once.
+/// body, and no fault. Each text of a path is searched for in a tree of the texts of its level, and is
+/// copied.
 ///
 /// # Errors
 ///

@@ -15,7 +15,7 @@ use readers::Note;
 use std::alloc::Global;
 use std::sync::Arc;
 
-// The question for the pushes into a document, with what a table answers.
+/// The question for the pushes into a document, with what a table answers.
 pub fn pushes_known(alloc: Global, table: &PushTable, name: &Name) -> Result<Note, NoMemory>
     ensures { (world : World) (documents : List (List ℕ)) → IsPushTable world documents table.now
         → IfOk result (λ note. (setting : Setting) → noted_spec.told_of setting note
@@ -40,7 +40,7 @@ fn pushes_note(alloc: Global, name: &Name, answer: PushList) -> Result<Note, NoM
     Ok(Note::Answer(Box::new(alloc, asked)?))
 }
 
-// The question for the page of a document, which shares the context.
+/// The question for the page of a document, which shares the context.
 pub fn page_note(
     alloc: Global,
     name: &Name,

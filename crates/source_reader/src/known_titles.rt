@@ -47,7 +47,8 @@ impl<'a> KnownTitles<'a> {
         table
     }
 
-    /// The document that stands under a name, if one does: it is shared, and not copied.
+    /// The document that stands under a name, if one does. It is shared, and not copied, which no
+    /// clause says.
     pub fn doc(&self, name: &Name) -> Result<Option<Arc<Doc>>, NoMemory>
         ensures value { IfOk result (λ found.
             told_spec.tree_found found ≡ world_of self.now.sources.now name.now) }
