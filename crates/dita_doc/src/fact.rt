@@ -21,12 +21,13 @@ pub enum Part {
     Contents,
 }
 
-/// A part of the builds of a map with a DITAVAL, or without.
+/// A part of the builds of a map with a DITAVAL, or without. Keys are in order by their parts first,
+/// since those of one map differ in nothing else.
 #[derive(PartialEq, Eq, PartialOrd, Ord, Drop)]
 pub struct FactKey {
+    pub part: Part,
     pub map: Name,
     pub val: Option<Name>,
-    pub part: Part,
 }
 
 impl Clone for FactKey {
@@ -36,9 +37,9 @@ impl Clone for FactKey {
 
     fn clone(&self) -> Result<FactKey, AllocError> {
         Ok(FactKey {
+            part: self.part,
             map: self.map.clone()?,
             val: self.val.clone()?,
-            part: self.part,
         })
     }
 }

@@ -44,12 +44,12 @@ key_of map val part = record { map = map; val = val; part = part }
 
 pub key_same : (a b : FactKey) → order a b ≡ Equal → a ≡ b
 key_same a b is =
-    let outer = then_equal (slice_cmp nat_cmp a.map b.map)
-    (ordering_then (option_cmp (slice_cmp nat_cmp) a.val b.val) (part_order a.part b.part)) is in
-    let inner = then_equal (option_cmp (slice_cmp nat_cmp) a.val b.val) (part_order a.part b.part) outer.1 in
-    ap (λ (map : List ℕ). key_of map a.val a.part) (same_from_equal a.map b.map outer.0)
-    ∙ ap (λ (val : Option (List ℕ)). key_of b.map val a.part) (option_same a.val b.val inner.0)
-    ∙ ap (λ (part : Part). key_of b.map b.val part) (part_same a.part b.part inner.1)
+    let outer = then_equal (part_order a.part b.part)
+    (ordering_then (slice_cmp nat_cmp a.map b.map) (option_cmp (slice_cmp nat_cmp) a.val b.val)) is in
+    let inner = then_equal (slice_cmp nat_cmp a.map b.map) (option_cmp (slice_cmp nat_cmp) a.val b.val) outer.1 in
+    ap (λ (part : Part). key_of a.map a.val part) (part_same a.part b.part outer.0)
+    ∙ ap (λ (map : List ℕ). key_of map a.val b.part) (same_from_equal a.map b.map inner.0)
+    ∙ ap (λ (val : Option (List ℕ)). key_of b.map val b.part) (option_same a.val b.val inner.1)
 
 option_itself : (a : Option (List ℕ)) → option_cmp (slice_cmp nat_cmp) a a ≡ Equal
 option_itself None = refl
@@ -64,10 +64,10 @@ then_both : (one other : Ordering) → one ≡ Equal → other ≡ Equal → ord
 then_both one other first second = ap (λ (o : Ordering). ordering_then o other) first ∙ second
 
 key_itself : (a : FactKey) → order a a ≡ Equal
-key_itself a = then_both (slice_cmp nat_cmp a.map a.map)
-    (ordering_then (option_cmp (slice_cmp nat_cmp) a.val a.val) (part_order a.part a.part)) (equal_itself a.map)
-    (then_both (option_cmp (slice_cmp nat_cmp) a.val a.val) (part_order a.part a.part) (option_itself a.val)
-    (part_itself a.part))
+key_itself a = then_both (part_order a.part a.part)
+    (ordering_then (slice_cmp nat_cmp a.map a.map) (option_cmp (slice_cmp nat_cmp) a.val a.val)) (part_itself a.part)
+    (then_both (slice_cmp nat_cmp a.map a.map) (option_cmp (slice_cmp nat_cmp) a.val a.val) (equal_itself a.map)
+    (option_itself a.val))
 
 equal_from_test : (found : Ordering) → is_eq found ≡ true → found ≡ Equal
 equal_from_test Less is = let no : false ≡ true = is in cc

@@ -12,5 +12,5 @@ abbrev pub part_order : Part → Part → Ordering
 part_order = (part_ord.ghosts).cmp
 
 abbrev pub order : FactKey → FactKey → Ordering
-order a b = ordering_then (slice_cmp nat_cmp a.map b.map)
-    (ordering_then (option_cmp (slice_cmp nat_cmp) a.val b.val) (part_order a.part b.part))
+order a b = ordering_then (part_order a.part b.part)
+    (ordering_then (slice_cmp nat_cmp a.map b.map) (option_cmp (slice_cmp nat_cmp) a.val b.val))
