@@ -100,13 +100,15 @@ fn plan_agrees<P: Parts, J: Judge<P>>(
     Ok(agreed)
 }
 
-// What is kept of a plan for a stamp.
+// What is kept of a plan for a stamp. The last judgements are looked at first: they are those of the
+// latest stamps.
 fn known(memo: &[Noted], plan: u64, stamp: u64) -> Option<bool>
     ensures { IfSome result (spec.IsKnown memo.now plan stamp) }
 {
-    for noted in memo {
-        if noted.judged.plan == plan && noted.judged.stamp == stamp {
-            return Some(noted.judged.agreed);
+    for at in (0..memo.len()).rev() {
+        let judged = &memo[at].judged;
+        if judged.plan == plan && judged.stamp == stamp {
+            return Some(judged.agreed);
         }
     }
     None
