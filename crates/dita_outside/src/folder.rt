@@ -13,9 +13,9 @@ use std::{fs, io};
 
 /// A folder that takes pages as files. It tells no pages, and counts each error of the system.
 ///
-/// The folders of a name are made if they lack. A file that holds the page's bytes already is left as it is, so
-/// that a rebuild does not touch what did not change. Another page is written beside its place and
-/// renamed, so that no reader sees half of one. Pages of earlier runs stay.
+/// The folders of a name are made if they lack. A file that holds the page's bytes already is left
+/// as it is, so that a rebuild does not touch what did not change. Another page is written beside its
+/// place and renamed, so that no reader sees half of one. Pages of earlier runs stay.
 #[derive(Drop)]
 pub struct FolderOutlet<R: Files + AllocGlobal + Drop> {
     rt: R,

@@ -25,7 +25,7 @@ pub use gate::{Gate, NoGate};
 pub use link::Link;
 pub use mem_door::MemDoor;
 pub use mem_link::{MemLink, SureLink};
-pub use outlet::{MemOutlet, Outlet, SureOutlet};
+pub use outlet::{MemOutlet, NoOutlet, Outlet, SureOutlet};
 pub use sink::{MemSink, Sink, StdSink, SureSink, write_all};
 pub use source::{MemSource, Source, StdSource, SureSource};
 

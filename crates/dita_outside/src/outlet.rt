@@ -128,6 +128,28 @@ impl Outlet for SureOutlet {
     }
 }
 
+/// An outlet that keeps no page and never fails: for a build whose pages are read from its rows.
+#[derive(Clone, Copy, Debug)]
+pub struct NoOutlet;
+
+/// It tells no pages.
+impl Outlet for NoOutlet {
+    ghost use Rattle.std.specs.Prelude.{None};
+
+    ghost pages = { λ _. None };
+
+    ghost faults = { λ _. 0 };
+
+    fn put_page(
+        &mut self,
+        _alloc: Global,
+        _name: &Name,
+        _bytes: &[u8],
+    ) -> Result<(), Stop<Failed>> {
+        Ok(())
+    }
+}
+
 // A page in memory of its own, with the name's text shared.
 fn page_of(alloc: Global, name: &Name, bytes: &[u8]) -> Result<(Name, List<u8>), AllocError>
     ensures { IfOk result (λ page. page ≡ (name.now, bytes.now)) }
