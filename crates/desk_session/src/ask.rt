@@ -17,7 +17,7 @@ use desk_core::Book;
 use desk_lock::{Desk, Pass};
 use desk_work::{BuildStop, Built, Makers, build};
 use dita_doc::{Name, Request, Stop};
-use dita_outside::{Gate, SureOutlet};
+use dita_outside::{Gate, NoOutlet};
 use facts::Parts;
 use std::alloc::Global;
 use std::sync::Wait;
@@ -102,7 +102,7 @@ fn ask_build<R: Threads + Wait + Sync, P: Parts + Send + Sync, M: Makers<P>, G: 
     Ok(built_answer(alloc, session, number, built)?)
 }
 
-// Builds into an outlet that never fails, which is dropped.
+// Builds; the pages are read from the rows of its outcome, and go into no outlet.
 fn build_alone<R: Threads + Wait + Sync, P: Parts + Send + Sync, M: Makers<P>, G: Gate + Sync>(
     rt: &R,
     alloc: Global,
@@ -124,8 +124,7 @@ fn build_alone<R: Threads + Wait + Sync, P: Parts + Send + Sync, M: Makers<P>, G
         (build_spec.order_of number map.now (option_copied val.entry)) result
         (tokens_spec.pass_view pass.new) }
 {
-    let mut outlet = SureOutlet::new(alloc);
-    let built = build::<R, P, M, SureOutlet, G>(
+    let built = build::<R, P, M, NoOutlet, G>(
         rt,
         alloc,
         desk,
@@ -133,7 +132,7 @@ fn build_alone<R: Threads + Wait + Sync, P: Parts + Send + Sync, M: Makers<P>, G
         number,
         map,
         val,
-        &mut outlet,
+        &mut NoOutlet,
         gate,
         workers,
     );
@@ -143,7 +142,7 @@ fn build_alone<R: Threads + Wait + Sync, P: Parts + Send + Sync, M: Makers<P>, G
     }
 }
 
-// Why a build gives nothing, if its outlet never fails.
+// Why a build without an outlet gives nothing.
 fn stop_of(stop: BuildStop) -> Stop<Full>
     ensures { result ≡ spec.stop_of stop }
 {

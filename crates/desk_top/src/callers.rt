@@ -23,7 +23,7 @@ use crate::makers::{MapDesk, MapMakers, MapPass};
 use desk_core::{Book, Limits};
 use desk_work::{Built, Outcome, build};
 use dita_doc::{List, Name, NoMemory, Request};
-use dita_outside::{Gate, SureOutlet};
+use dita_outside::{Gate, NoOutlet};
 use fact_judge::MapParts;
 use std::alloc::{AllocError, Global};
 use std::mem::replace;
@@ -318,7 +318,7 @@ fn ask<R: Threads + Wait + Sync, G: Gate + Sync>(
     }
 }
 
-// Puts a build. Its outlet never fails, and a script is not so long that it fills a desk.
+// Puts a build, whose pages are those of its rows. A script is not so long that it fills a desk.
 fn ask_build<R: Threads + Wait + Sync, G: Gate + Sync>(
     rt: &R,
     alloc: Global,
@@ -340,8 +340,7 @@ fn ask_build<R: Threads + Wait + Sync, G: Gate + Sync>(
     ensures ok { OnOk result (spec.Answers session.old
         (asked_spec.asked_build number map.now (option_copied val.entry)) session.new) }
 {
-    let mut outlet = SureOutlet::new(alloc);
-    let built = build::<R, MapParts, MapMakers, SureOutlet, G>(
+    let built = build::<R, MapParts, MapMakers, NoOutlet, G>(
         rt,
         alloc,
         desk,
@@ -349,7 +348,7 @@ fn ask_build<R: Threads + Wait + Sync, G: Gate + Sync>(
         number,
         map,
         val,
-        &mut outlet,
+        &mut NoOutlet,
         gate,
         workers,
     );

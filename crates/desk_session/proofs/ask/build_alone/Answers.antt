@@ -15,8 +15,8 @@ returns-in-Ok-clause-builds g c =
     gives_built means g.M.Makers.language (pass_view c.args.pass.now) order c.in-Ok.built (pass_view c.build-built.new.pass)
     _ _ c.in-Ok.ensures.ends
 
-pub returns-clause-builds : goal.returns-clause-builds
-returns-clause-builds g c =
+pub returns-in-Err-clause-builds : goal.returns-in-Err-clause-builds
+returns-in-Err-clause-builds g c =
     let means = meant_by g.P.Parts.plan_agrees g.P.Parts.own_agrees g.P.Parts.is_sound in
     let order = order_of c.args.number c.args.map.now (option_copied c.args.val) in
     let v = pass_view c.args.pass.now in
