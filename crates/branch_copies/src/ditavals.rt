@@ -92,7 +92,7 @@ impl Ditavals {
     }
 
     /// A table of the rules of each DITAVAL.
-    pub fn tables(&self, alloc: Global) -> Result<Vec<RuleTable<'_>>, NoMemory>
+    pub fn tables(&self, alloc: Global) -> Result<Vec<RuleTable>, NoMemory>
         ensures { IfOk result (λ tables. tables.items
             ≡ map (λ (read : RulesRead). read.rules) self.now.read.items) }
     {

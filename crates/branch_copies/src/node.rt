@@ -34,7 +34,7 @@ pub(crate) struct Originals<'a> {
     pub names: &'a [List<Text>],
     pub branches: &'a [Branch],
     pub spans: &'a [Span],
-    pub tables: Vec<RuleTable<'a>>,
+    pub tables: Vec<RuleTable>,
 }
 
 /// A node that is copied, and the names of its scope.
@@ -143,7 +143,7 @@ impl<'a> Originals<'a> {
         !is_map_at(self.nodes, at) && self.is_excluded_by(at, branch)
     }
 
-    fn table_of(&self, branch: usize) -> Option<&RuleTable<'a>>
+    fn table_of(&self, branch: usize) -> Option<&RuleTable>
         ensures { option_copied result
             ≡ source_spec.table_at self.now.branches.now self.now.tables.items branch }
     {

@@ -103,8 +103,8 @@ fn marks_of(
         (ditavals context.now.val context.now.page.filters)) 0 resolved.now.declared
         (map marks_spec.attributes_at resolved.now.doc.nodes)) }
 {
-    let rules = content.rules_of(alloc, context)?;
-    marks_by(alloc, resolved, &rules, &resolved.declared)
+    let tables = content.rules_of(alloc, context)?;
+    marks_by(alloc, resolved, &tables, &resolved.declared)
 }
 
 // The terms of content as those of the page of this number, if one is given.

@@ -1,7 +1,6 @@
 -- References that are looked for in the state of a page, and elements that are judged in it: nothing but its faults changes.
 use Rattle.std.specs.Prelude.{◌≡◌, ◌++◌, ℕ, Bool, List, Option, Result, Ok, Err, IfOk, OnOk}
-use Rattle.std.proofs.Common.{ap, ◌∙◌}
-use Rattle.dita_doc.specs.declared.content.Rule.{Rule}
+use Rattle.std.proofs.Common.{ap}
 use Rattle.dita_doc.specs.declared.fault.Fault.{Fault}
 use Rattle.dita_doc.specs.declared.stop.NoMemory.{NoMemory}
 use Rattle.map_spec.specs.Written.{Element}
@@ -22,10 +21,9 @@ sought_in (Ok found) setting topic element sought old faults places is = record 
   state = ap (λ (some : List Fault). (let made : Resolver = record old { faults = some } in made)) is.faults;
 }
 
-pub judged_in : (result : Result Bool NoMemory) (old : Resolver) (rules : List (List Rule)) (faults more : List Fault)
-    → rules ≡ old.rules → OnOk result (faults ≡ old.faults ++ more)
-    → OnOk result (record old { rules = rules; faults = faults } ≡ record old { faults = old.faults ++ more })
-judged_in (Err stop) old rules faults more same is = is
-judged_in (Ok goes) old rules faults more same is =
-    ap (λ (all : List (List Rule)). (let made : Resolver = record old { rules = all; faults = faults } in made)) same
-    ∙ ap (λ (some : List Fault). (let made : Resolver = record old { faults = some } in made)) is
+pub judged_in : (result : Result Bool NoMemory) (old : Resolver) (faults more : List Fault)
+    → OnOk result (faults ≡ old.faults ++ more)
+    → OnOk result (record old { faults = faults } ≡ record old { faults = old.faults ++ more })
+judged_in (Err stop) old faults more is = is
+judged_in (Ok goes) old faults more is =
+    ap (λ (some : List Fault). (let made : Resolver = record old { faults = some } in made)) is

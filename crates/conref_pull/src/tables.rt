@@ -1,7 +1,8 @@
 //! What is kept for all pages of a plan.
 
 use conref_targets::{PlaceTables, RuleLists};
-use dita_doc::{Context, List, NoMemory, Rule};
+use dita_doc::{Context, NoMemory};
+use ditaval_rules::RuleTable;
 use std::alloc::Global;
 
 /// What was read of the documents of a plan, each when a page first needs it: where their elements
@@ -37,8 +38,8 @@ impl Tables {
         &'a self,
         alloc: Global,
         context: &Context,
-    ) -> Result<Vec<&'a List<Rule>>, NoMemory>
-        ensures { IfOk result (λ rules. shown rules.items ≡ rules_spec.all_kept self.now.rules
+    ) -> Result<Vec<&'a RuleTable>, NoMemory>
+        ensures { IfOk result (λ tables. shown tables.items ≡ rules_spec.all_kept self.now.rules
             (rules_spec.ditavals context.now.val context.now.page.filters)) }
     {
         self.rules.of_page(alloc, context)

@@ -1,5 +1,4 @@
 -- What closes most claims on what is told.
-use Rattle.std.proofs.Common.{[]}
 use Rattle.readers.proofs.DocumentLaws.{asking}
 use Rattle.readers.proofs.FoundedLaws.{document_among, founding}
 use Rattle.readers.proofs.GrowthLaws.{growing}

@@ -23,7 +23,7 @@ impl<'a> PageRules<'a> {
     /// Whether an element goes that has these attributes, and for which these names of conditional
     /// attributes are declared. A value of groups counts as absent, with a fault.
     pub fn is_excluded(
-        &mut self,
+        &self,
         alloc: Global,
         faults: &mut List<Fault>,
         origin: &Name,
@@ -31,12 +31,11 @@ impl<'a> PageRules<'a> {
         declared: &List<Text>,
         attributes: &List<Attribute>,
     ) -> Result<bool, NoMemory>
-        ensures same { self.new ≡ self.old }
         ensures faults { OnOk result (faults.new ≡ faults.old
             ++ judged_spec.group_faults declared.now (judging_spec.with_attributes attributes.now
             (walk_spec.element_of origin.now element.now))) }
         ensures goes { IfOk result (λ goes. goes
-            ≡ rules_spec.some_exclude self.old declared.now attributes.now) }
+            ≡ rules_spec.some_exclude self.now declared.now attributes.now) }
     {
         append_group_faults(alloc, faults, origin, element, declared, attributes)?;
         if self.is_empty() {
@@ -45,7 +44,7 @@ impl<'a> PageRules<'a> {
         if !has_judged(declared, attributes) {
             return Ok(false);
         }
-        self.exclude(alloc, declared, attributes)
+        Ok(self.exclude(declared, attributes))
     }
 }
 

@@ -13,7 +13,7 @@ ghost use Rattle.readers.specs.Told.{Agrees, tree_found};
 ghost use Rattle.conref_targets.specs.Rules as rules_spec;
 ghost use Rattle.dita_doc.specs.Shown.{shown};
 
-use dita_doc::{Attribute, Context, Doc, List, Name, NoMemory, Rule, Stop, Text};
+use dita_doc::{Attribute, Context, Doc, List, Name, NoMemory, Stop, Text};
 use ditaval_rules::{NotDitaval, RuleTable, read_rules};
 use readers::Reader;
 use std::alloc::Global;
@@ -21,11 +21,11 @@ use std::collections::BTreeMap;
 use std::marker::Model;
 use std::sync::Arc;
 
-/// The rules of each DITAVAL, by its name; a document that is none has no rules. They hold in one
-/// world, and may serve all pages of a plan.
+/// A table of the rules of each DITAVAL, by its name; a document that is none has no rules. They hold
+/// in one world, and may serve all pages of a plan.
 #[derive(Drop)]
 pub struct RuleLists {
-    lists: BTreeMap<Name, Option<List<Rule>>>,
+    lists: BTreeMap<Name, Option<RuleTable>>,
 }
 
 impl RuleLists {
@@ -149,14 +149,14 @@ impl RuleLists {
         &'a self,
         alloc: Global,
         context: &Context,
-    ) -> Result<Vec<&'a List<Rule>>, NoMemory>
-        ensures { IfOk result (λ rules. shown rules.items ≡ rules_spec.all_kept self.now
+    ) -> Result<Vec<&'a RuleTable>, NoMemory>
+        ensures { IfOk result (λ tables. shown tables.items ≡ rules_spec.all_kept self.now
             (rules_spec.ditavals context.now.val context.now.page.filters)) }
     {
-        let mut lists = Vec::new(alloc);
-        push_val(&mut lists, self, context)?;
-        push_filters(&mut lists, self, context.page.filters.as_slice())?;
-        Ok(lists)
+        let mut tables = Vec::new(alloc);
+        push_val(&mut tables, self, context)?;
+        push_filters(&mut tables, self, context.page.filters.as_slice())?;
+        Ok(tables)
     }
 }
 
@@ -165,7 +165,7 @@ fn rules_of(
     alloc: Global,
     name: &Name,
     found: Option<Arc<Doc>>,
-) -> Result<Option<List<Rule>>, NoMemory>
+) -> Result<Option<RuleTable>, NoMemory>
     ensures { (world : World) → world name.now ≡ tree_found found
         → IfOk result (λ rules. rules ≡ rules_spec.rules_under world name.now) }
 {
@@ -173,31 +173,27 @@ fn rules_of(
         return Ok(None);
     };
     match read_rules(alloc, name, &doc) {
-        Ok(read) => Ok(Some(read.rules)),
+        Ok(read) => Ok(Some(RuleTable::new(alloc, &read.rules)?)),
         Err(Stop::Fault(NotDitaval)) => Ok(None),
         Err(Stop::NoMemory) => Err(NoMemory),
     }
 }
 
 /// The rules of a page: those of the build's DITAVAL and of each of its filters, seen by contracts
-/// as the lists of them. Their tables are made when an element is judged for the first time.
+/// as the lists of them.
 #[derive(Drop)]
 pub struct PageRules<'a> {
-    lists: Vec<&'a List<Rule>>,
-    tables: Vec<RuleTable<'a>>,
+    tables: Vec<&'a RuleTable>,
 }
 
 impl<'a> Model for PageRules<'a> {
-    ghost use Rattle.std.specs.Prelude.{◌≡◌, List, take, length};
+    ghost use Rattle.std.specs.Prelude.{List};
     ghost use Rattle.dita_doc.specs.declared.content.Rule.{Rule};
     ghost use Rattle.dita_doc.specs.Shown.{shown};
 
     ghost Value = { List (List Rule) };
 
-    ghost view = { λ r. shown r.lists.items };
-
-    ghost invariant = { λ r. r.tables.items ≡ take (length r.tables.items)
-        (shown r.lists.items) };
+    ghost view = { λ r. shown r.tables.items };
 }
 
 impl<'a> PageRules<'a> {
@@ -213,101 +209,66 @@ impl<'a> PageRules<'a> {
         ensures { IfOk result (λ rules. rules ≡ rules_spec.all_kept known.now
             (rules_spec.ditavals context.now.val context.now.page.filters)) }
     {
-        let lists = known.of_page(alloc, context)?;
-        let tables = Vec::new(alloc);
-        Ok(PageRules { lists, tables })
+        let tables = known.of_page(alloc, context)?;
+        Ok(PageRules { tables })
     }
 
     // Whether the page has no rules at all.
     pub(crate) fn is_empty(&self) -> bool
         ensures { result ≡ true → self.now ≡ [] }
     {
-        self.lists.is_empty()
+        self.tables.is_empty()
     }
 
     // Whether rules exclude an element of these attributes, for which these names are declared.
-    pub(crate) fn exclude(
-        &mut self,
-        alloc: Global,
-        declared: &List<Text>,
-        attributes: &List<Attribute>,
-    ) -> Result<bool, NoMemory>
-        ensures same { self.new ≡ self.old }
-        ensures excluded { IfOk result (λ is. is
-            ≡ rules_spec.some_exclude self.old declared.now attributes.now) }
+    pub(crate) fn exclude(&self, declared: &List<Text>, attributes: &List<Attribute>) -> bool
+        ensures { result ≡ rules_spec.some_exclude self.now declared.now attributes.now }
     {
-        make_tables(alloc, &self.lists, &mut self.tables)?;
-        Ok(any_excludes(&self.tables, declared, attributes))
+        self.tables
+            .iter()
+            .any(|table| table.verdict(declared, attributes))
     }
-}
-
-// Makes the tables that are not made yet.
-fn make_tables<'a>(
-    alloc: Global,
-    lists: &[&'a List<Rule>],
-    tables: &mut Vec<RuleTable<'a>>,
-) -> Result<(), NoMemory>
-    requires { tables.old.items ≡ take (length tables.old.items) (shown lists.now) }
-    ensures some { tables.new.items ≡ take (length tables.new.items) (shown lists.now) }
-    ensures all { OnOk result (tables.new.items ≡ shown lists.now) }
-{
-    for at in tables.len()..lists.len() {
-        tables.push(RuleTable::new(alloc, lists[at])?)?;
-    }
-    Ok(())
-}
-
-fn any_excludes(
-    tables: &[RuleTable<'_>],
-    declared: &List<Text>,
-    attributes: &List<Attribute>,
-) -> bool
-    ensures { result ≡ rules_spec.some_exclude tables.now declared.now attributes.now }
-{
-    tables
-        .iter()
-        .any(|table| table.verdict(declared, attributes))
 }
 
 fn push_val<'a>(
-    lists: &mut Vec<&'a List<Rule>>,
+    tables: &mut Vec<&'a RuleTable>,
     known: &'a RuleLists,
     context: &Context,
 ) -> Result<(), NoMemory>
-    ensures { OnOk result (shown lists.new.items ≡ shown lists.old.items
+    ensures { OnOk result (shown tables.new.items ≡ shown tables.old.items
         ++ rules_spec.all_kept known.now (option_to_list context.now.val)) }
 {
     match &context.val {
-        Some(val) => push_kept(lists, known, val),
+        Some(val) => push_kept(tables, known, val),
         None => Ok(()),
     }
 }
 
 fn push_filters<'a>(
-    lists: &mut Vec<&'a List<Rule>>,
+    tables: &mut Vec<&'a RuleTable>,
     known: &'a RuleLists,
     filters: &[Name],
 ) -> Result<(), NoMemory>
-    ensures { OnOk result (shown lists.new.items ≡ shown lists.old.items
+    ensures { OnOk result (shown tables.new.items ≡ shown tables.old.items
         ++ rules_spec.all_kept known.now filters.now) }
 {
     for filter in filters {
-        push_kept(lists, known, filter)?;
+        push_kept(tables, known, filter)?;
     }
     Ok(())
 }
 
 // Puts the rules that are kept under a name behind others, if there are any.
 fn push_kept<'a>(
-    lists: &mut Vec<&'a List<Rule>>,
+    tables: &mut Vec<&'a RuleTable>,
     known: &'a RuleLists,
     name: &Name,
 ) -> Result<(), NoMemory>
-    ensures { OnOk result (shown lists.new.items
-        ≡ shown lists.old.items ++ rules_spec.rules_kept known.now name.now) }
+    ensures { OnOk result (shown tables.new.items
+        ≡ shown tables.old.items ++ rules_spec.rules_kept known.now name.now) }
 {
     if let Some(Some(rules)) = known.lists.get(name) {
-        lists.push(rules)?;
+        tables.push(rules)?;
     }
     Ok(())
 }

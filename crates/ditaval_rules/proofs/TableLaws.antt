@@ -1,12 +1,12 @@
--- Entries of a table: the first for a subject, before and after a stable sort, and by halving.
-use Rattle.std.specs.Prelude.{◌≡◌, ◌&&◌, ◌<◌, ◌≤◌, ℕ, zero, suc, Bool, true, false, not, List, [], ◌∷◌, ◌++◌, Option, Some, None, filter, find, length, option_map, is_some, unwrap_or, if◌then◌else◌}
-use Rattle.std.specs.Cmp.{IsTotalOrder}
-use Rattle.std.specs.List.Sorted.{IsSortedByKey, IsStableByKey, IsNonDecreasingBy, IsPartitionedBy, ties}
-use Rattle.std.specs.Option.{option_copied, option_or}
+-- Tables of rules: the first rule for an aim, before and after a stable sort, and by halving.
+use Rattle.std.specs.Prelude.{◌≡◌, ◌&&◌, ◌<◌, ◌≤◌, ℕ, zero, suc, Bool, true, false, not, List, [], ◌∷◌, Option, Some, None, filter, find, length, option_map, is_some, unwrap_or, if◌then◌else◌}
+use Rattle.std.specs.Cmp.{IsTotalOrder, tied_then}
+use Rattle.std.specs.List.Sorted.{IsSortedByClosure, IsStableByClosure, IsStableByKey, IsNonDecreasingBy, IsPartitionedBy, ties}
+use Rattle.std.specs.Option.{option_or}
 use Rattle.std.specs.Ordering.{is_lt, is_eq, ordering_index, ordering_reverse}
 use Rattle.std.specs.Cmp.Lexicographic.{options_total}
 use Rattle.std.specs.Borrow.{Bor}
-use Rattle.std.specs.Fn.{Called, ComputesKey}
+use Rattle.std.specs.Fn.{Called, ComparesAs}
 use denote.Param.Members.{Mut}
 use Rattle.std.specs.declared.cmp.Ordering.{Ordering}
 use Rattle.std.specs.declared.cmp.Ordering.TheVariants.{Less, Equal, Greater}
@@ -14,14 +14,14 @@ use Rattle.std.proofs.Common.{refl, sym, ◌∙◌, ap, arith, get_or, ⊎_elim}
 use Rattle.std.proofs.lemmas.Cmp.{nat_list_cmp_total, on_total, then_total}
 use Rattle.std.proofs.lemmas.Bool.{cases_lt}
 use Rattle.std.proofs.lemmas.List.{get_or_default}
-use Rattle.std.proofs.lemmas.List.Sorted.{searchable_from_sorted, answers_always}
+use Rattle.std.proofs.lemmas.List.Sorted.{searchable_from_sorted, answers_always, ranks_by}
+use Rattle.std.proofs.lemmas.Map.Text.{is_eq-slice_cmp}
 use Rattle.dita_doc.specs.declared.content.Action.{Action}
 use Rattle.dita_doc.specs.declared.content.Action.TheVariants as actions
 use Rattle.dita_doc.specs.declared.content.Rule.{Rule}
-use Rattle.ditaval_rules.specs.Subject.{Subject, subject_cmp, IsSortedBySubject, is_entry_for, is_entry_below, IsPlaceFor, IsTableOf, first_action, deciding_action, is_for, HasFirstOf, val_behind}
+use Rattle.ditaval_rules.specs.Aim.{Aim, AreSorted, IsPlaceFor, IsTableOf, aim_cmp, aim_of, deciding_action, first_action, is_below, is_for, text_cmp, val_behind}
 use Rattle.ditaval_rules.specs.Rules.{is_same_text}
 use Rattle.ditaval_rules.specs.Verdict.{is_this_text, is_for_token, is_for_attribute, is_default, or_else, deciding, is_exclude, decides_exclude, decided as action_of}
-use Rattle.ditaval_rules.proofs.SubjectLaws.{subject_at}
 
 -- The first that passes
 
@@ -59,10 +59,10 @@ find_head p (x ∷ xs) = head_from x (find p xs) (filter p xs) (p x) (find_head 
 
 -- Orders
 
-subject_total : IsTotalOrder subject_cmp
-subject_total =
-    let texts = options_total (on_total (λ (text : Bor (List ℕ)). text.now) nat_list_cmp_total) in
-    then_total (on_total (λ (s : Subject). s.0) texts) (on_total (λ (s : Subject). s.1) texts)
+aim_total : IsTotalOrder aim_cmp
+aim_total =
+    let texts = options_total nat_list_cmp_total in
+    then_total (on_total (λ (a : Aim). a.0) texts) (on_total (λ (a : Aim). a.1) texts)
 
 tied : (o : Ordering) → (not (is_lt (ordering_reverse o)) && not (is_lt o)) ≡ is_eq o
 tied Less = refl
@@ -94,126 +94,101 @@ index_higher Less high = absurd (omega arith)
 index_higher Equal high = absurd (omega arith)
 index_higher Greater high = refl
 
--- A stable sort leaves the first for each subject
+-- A stable sort leaves the first for each aim
 
-pub first_stays : (old new : List (Subject × Action))
-    → IsStableByKey (λ (entry : Subject × Action). entry.0) subject_cmp old new → (subject : Subject)
-    → first_action subject new ≡ first_action subject old
-first_stays old new stable subject =
-    let mark : Subject × Action = (subject, actions.Include) in
-    let test : Subject × Action → Bool = λ entry. ties (λ x y. is_lt (subject_cmp x.0 y.0)) mark entry in
-    let same : (entry : Subject × Action) → is_entry_for subject entry ≡ test entry = λ entry.
-    sym (rw (subject_total.antisymm subject entry.0) (tied (subject_cmp entry.0 subject))) in
-    let found : find (is_entry_for subject) new ≡ find (is_entry_for subject) old =
-    find_alike (is_entry_for subject) test same new ∙ find_head test new ∙ ap head_of (stable mark)
-    ∙ sym (find_head test old) ∙ sym (find_alike (is_entry_for subject) test same old) in
-    ap (λ o. option_map (λ (entry : Subject × Action). entry.1) o) found
+first_stays : (old new : List Rule) → IsStableByKey aim_of aim_cmp old new → (mark : Rule)
+    → find (is_for (aim_of mark)) new ≡ find (is_for (aim_of mark)) old
+first_stays old new stable mark =
+    let test : Rule → Bool = λ rule. ties (λ x y. is_lt (aim_cmp (aim_of x) (aim_of y))) mark rule in
+    let same : (rule : Rule) → is_for (aim_of mark) rule ≡ test rule = λ rule.
+    sym (rw (aim_total.antisymm (aim_of mark) (aim_of rule)) (tied (aim_cmp (aim_of rule) (aim_of mark)))) in
+    find_alike (is_for (aim_of mark)) test same new ∙ find_head test new ∙ ap head_of (stable mark)
+    ∙ sym (find_head test old) ∙ sym (find_alike (is_for (aim_of mark)) test same old)
 
--- Entries that are made of rules, one by one
-
-one_passes : {X Y : Type 0} (f : X → Y) (x : X) (passes : Bool)
-    → option_map f (if passes then Some x else None) ≡ option_or None (if passes then Some (f x) else None)
-one_passes f x true = refl
-one_passes f x false = refl
-
-first_passes : {X Y : Type 0} (f : X → Y) (x : X) (new old : Option X) (last : Option Y) (passes : Bool)
-    → option_map f new ≡ option_or (option_map f old) last
-    → option_map f (if passes then Some x else new) ≡ option_or (option_map f (if passes then Some x else old)) last
-first_passes f x new old last true more = refl
-first_passes f x new old last false more = more
-
-find_push : {X Y : Type 0} (f : X → Y) (p : X → Bool) (xs : List X) (x : X) → option_map f (find p (xs ++ x ∷ []))
-    ≡ option_or (option_map f (find p xs)) (if p x then Some (f x) else None)
-find_push f p [] x = one_passes f x (p x)
-find_push f p (y ∷ xs) x =
-    first_passes f y (find p (xs ++ x ∷ [])) (find p xs) (if p x then Some (f x) else None) (p y) (find_push f p xs x)
-
--- the entry of a rule
-pub entry_more : (entries : List (Subject × Action)) (rules : List Rule) (key : Subject) (rule : Rule)
-    → option_copied key.0 ≡ rule.att → option_copied key.1 ≡ val_behind rule.att rule.val → HasFirstOf entries rules
-    → HasFirstOf (entries ++ (key, rule.action) ∷ []) (rules ++ rule ∷ [])
-entry_more entries rules key rule att val all subject =
-    let same : is_entry_for subject (key, rule.action) ≡ is_for subject rule =
-    subject_at key subject ∙ rw (att, val) refl in
-    find_push (λ (entry : Subject × Action). entry.1) (is_entry_for subject) entries (key, rule.action)
-    ∙ rw (same, all subject) (sym (find_push (λ (rule : Rule). rule.action) (is_for subject) rules rule))
-
--- and they are a table once they are sorted by their subjects, as `sort_by_key` does
-pub table_sorted : {F : Type 0} {g : Mut F (Bor (Subject × Action) × Unit {0}) Subject} {f : F}
-    (old new : List (Subject × Action)) (rules : List Rule)
-    → ((key : Subject × Action → Subject) → ComputesKey g key f → IsSortedByKey key subject_cmp new)
-    → ((key : Subject × Action → Subject) → ComputesKey g key f → IsStableByKey key subject_cmp old new)
-    → ((f : F) (a : Bor (Subject × Action) × Unit {0}) (r : Subject) (f' : F) → Called g f a r f' → r ≡ a.0.now.0)
-    → HasFirstOf old rules → IsTableOf new rules
-table_sorted {F} {g} {f} old new rules sorted stable gives all =
-    let key : Subject × Action → Subject = λ entry. entry.0 in
-    let computes : ComputesKey g key f = answers_always g (λ a r. r ≡ key a.0.now) f gives in
-    (sorted key computes, λ subject. first_stays old new (stable key computes) subject ∙ all subject)
+-- and the rules are a table once they are sorted by what they are for, as `sort_by` does
+pub table_sorted : {F : Type 0} {g : Mut F (Bor Rule × (Bor Rule × Unit {0})) Ordering} {f : F} (old new rules : List Rule)
+    → old ≡ rules → IsSortedByClosure g f new → IsStableByClosure g f old new
+    → ((f : F) (a : Bor Rule × (Bor Rule × Unit {0})) (r : Ordering) (f' : F) → Called g f a r f'
+    → r ≡ aim_cmp (aim_of a.0.now) (aim_of a.1.0.now)) → IsTableOf new rules
+table_sorted {F} {g} {f} old new rules same sorted stable gives =
+    let below : Rule → Rule → Bool = λ x y. is_lt (aim_cmp (aim_of x) (aim_of y)) in
+    let order = ranks_by aim_total aim_of in
+    let compares : ComparesAs g below f = answers_always g (λ a r. is_lt r ≡ below a.0.now a.1.0.now) f
+    (λ f a r f' called. ap is_lt (gives f a r f' called)) in (
+      sorted below order compares,
+      λ mark. first_stays old new (stable below order compares) mark ∙ ap (λ l. find (is_for (aim_of mark)) l) same,
+    )
 
 -- By halving
 
-module _ (subject : Subject) where
-  abbrev order_of : Subject × Action → Ordering
-  order_of entry = subject_cmp entry.0 subject
+module _ (aim : Aim) where
+  abbrev order_of : Rule → Ordering
+  order_of rule = aim_cmp (aim_of rule) aim
 
-  rises : (entries : List (Subject × Action)) → IsSortedBySubject entries
-      → IsNonDecreasingBy (λ entry. ordering_index (order_of entry)) entries
-  rises entries sorted =
-      searchable_from_sorted subject_total (λ (entry : Subject × Action). entry.0) entries subject sorted
+  rises : (rules : List Rule) → AreSorted rules → IsNonDecreasingBy (λ rule. ordering_index (order_of rule)) rules
+  rises rules sorted = searchable_from_sorted aim_total aim_of rules aim sorted
 
   -- what `partition_point` asks
-  pub parted : (entries : List (Subject × Action)) → IsSortedBySubject entries
-      → IsPartitionedBy (is_entry_below subject) entries
-  parted entries sorted i j d le inside below =
-      let rise = rises entries sorted i j d le inside in
-      let low = index_lower (order_of (get_or entries j d)) below in
-      lower_index (order_of (get_or entries i d)) (omega arith)
+  pub parted : (rules : List Rule) → AreSorted rules → IsPartitionedBy (is_below aim) rules
+  parted rules sorted i j d le inside below =
+      let rise = rises rules sorted i j d le inside in
+      let low = index_lower (order_of (get_or rules j d)) below in
+      lower_index (order_of (get_or rules i d)) (omega arith)
 
-  module _ (entries : List (Subject × Action)) (sorted : IsSortedBySubject entries) (at : ℕ)
-      (part : IsPlaceFor subject entries at) where
-    before : (k : ℕ) (d : Subject × Action) → k < at → is_entry_for subject (get_or entries k d) ≡ false
-    before k d below = lower (order_of (get_or entries k d)) (part.0 k d (omega arith) below)
+  module _ (rules : List Rule) (sorted : AreSorted rules) (at : ℕ) (part : IsPlaceFor aim rules at) where
+    before : (k : ℕ) (d : Rule) → k < at → is_for aim (get_or rules k d) ≡ false
+    before k d below = lower (order_of (get_or rules k d)) (part.0 k d (omega arith) below)
 
-    -- the entry there is the first, if it is for the subject
-    pub halved_found : (entry : Subject × Action) → at < length entries → entry ≡ get_or entries at entry
-        → is_entry_for subject entry ≡ true → Some entry.1 ≡ first_action subject entries
-    halved_found entry inside is passes =
-        rw (found_at (is_entry_for subject) entries at entry inside is passes before) refl
+    -- the rule there is the first, if it is for this
+    pub halved_found : (rule : Rule) → at < length rules → rule ≡ get_or rules at rule → is_for aim rule ≡ true
+        → Some rule.action ≡ first_action aim rules
+    halved_found rule inside is passes =
+        rw (found_at (is_for aim) rules at rule inside is passes before) refl
 
     -- if it is for another, or none is there, there is none
-    pub halved_other : (entry : Subject × Action) → at < length entries → entry ≡ get_or entries at entry
-        → is_entry_for subject entry ≡ false → None ≡ first_action subject entries
-    halved_other entry inside is other =
-        rw (found_none (is_entry_for subject) entries none) refl
+    pub halved_other : (rule : Rule) → at < length rules → rule ≡ get_or rules at rule → is_for aim rule ≡ false
+        → None ≡ first_action aim rules
+    halved_other rule inside is other =
+        rw (found_none (is_for aim) rules none) refl
       where
-        none : (k : ℕ) (d : Subject × Action) → k < length entries
-            → is_entry_for subject (get_or entries k d) ≡ false
+        none : (k : ℕ) (d : Rule) → k < length rules → is_for aim (get_or rules k d) ≡ false
         none k d here = ⊎_elim (λ low. before k d low)
             (λ high.
-            let same : entry ≡ get_or entries at d = is ∙ get_or_default entries at entry d inside in
-            let apart : is_entry_for subject (get_or entries at d) ≡ false =
-            sym (ap (is_entry_for subject) same) ∙ other in
-            let above = higher (order_of (get_or entries at d)) (part.1 at d (omega arith) inside) apart in
-            let rise = rises entries sorted at k d high here in
-            index_higher (order_of (get_or entries k d)) (omega arith))
+            let same : rule ≡ get_or rules at d = is ∙ get_or_default rules at rule d inside in
+            let apart : is_for aim (get_or rules at d) ≡ false = sym (ap (is_for aim) same) ∙ other in
+            let above = higher (order_of (get_or rules at d)) (part.1 at d (omega arith) inside) apart in
+            let rise = rises rules sorted at k d high here in
+            index_higher (order_of (get_or rules k d)) (omega arith))
             (cases_lt k at)
 
-    pub halved_past : length entries ≤ at → None ≡ first_action subject entries
-    halved_past past =
-        rw (found_none (is_entry_for subject) entries (λ k d inside. before k d (omega arith))) refl
+    pub halved_past : length rules ≤ at → None ≡ first_action aim rules
+    halved_past past = rw (found_none (is_for aim) rules (λ k d inside. before k d (omega arith))) refl
 
 -- The rule that decides a token
 
-for_token : (att token : Bor (List ℕ)) (rule_att val : Option (List ℕ))
-    → (is_same_text rule_att (Some att.now) && is_same_text (val_behind rule_att val) (Some token.now))
-    ≡ (is_this_text att.now rule_att && is_this_text token.now val)
+text_at : (one other : Option (List ℕ)) → is_eq (text_cmp one other) ≡ is_same_text one other
+text_at None None = refl
+text_at None (Some other) = refl
+text_at (Some one) None = refl
+text_at (Some one) (Some other) = is_eq-slice_cmp one other
+
+-- a rule is for just what its texts name
+aim_at : (rule : Rule) (aim : Aim) → is_for aim rule
+    ≡ (is_same_text rule.att aim.0 && is_same_text (val_behind rule.att rule.val) aim.1)
+aim_at rule aim =
+    let parts = tied_then (text_cmp rule.att aim.0) (text_cmp (val_behind rule.att rule.val) aim.1) in
+    sym parts ∙ rw (text_at rule.att aim.0, text_at (val_behind rule.att rule.val) aim.1) refl
+
+for_token : (att token : List ℕ) (rule_att val : Option (List ℕ))
+    → (is_same_text rule_att (Some att) && is_same_text (val_behind rule_att val) (Some token))
+    ≡ (is_this_text att rule_att && is_this_text token val)
 for_token att token None val = refl
 for_token att token (Some own) None = refl
 for_token att token (Some own) (Some text) = refl
 
-for_attribute : (att : Bor (List ℕ)) (rule_att val : Option (List ℕ))
-    → (is_same_text rule_att (Some att.now) && is_same_text (val_behind rule_att val) None)
-    ≡ (is_this_text att.now rule_att && not (is_some val))
+for_attribute : (att : List ℕ) (rule_att val : Option (List ℕ))
+    → (is_same_text rule_att (Some att) && is_same_text (val_behind rule_att val) None)
+    ≡ (is_this_text att rule_att && not (is_some val))
 for_attribute att None val = refl
 for_attribute att (Some own) None = refl
 for_attribute att (Some own) (Some text) = refl
@@ -244,34 +219,38 @@ action_seen None None (Some three) = refl
 action_seen None (Some two) three = refl
 action_seen (Some one) two three = refl
 
-module _ (entries : List (Subject × Action)) (rules : List Rule) (all : HasFirstOf entries rules) where
+-- a rule for an attribute and a token
+abbrev rule_for : Option (List ℕ) → Option (List ℕ) → Rule
+rule_for att val = record { att = att; val = val; action = actions.Include }
+
+module _ (sorted rules : List Rule) (table : IsTableOf sorted rules) where
   abbrev action_in : Option Rule → Option Action
   action_in found = option_map (λ (rule : Rule). rule.action) found
 
-  first_by : (subject : Subject) (test : Rule → Bool) → ((rule : Rule) → is_for subject rule ≡ test rule)
-      → first_action subject entries ≡ action_in (find test rules)
-  first_by subject test same = all subject ∙ ap action_in (find_alike (is_for subject) test same rules)
+  first_by : (mark : Rule) (test : Rule → Bool) → ((rule : Rule) → is_for (aim_of mark) rule ≡ test rule)
+      → first_action (aim_of mark) sorted ≡ action_in (find test rules)
+  first_by mark test same =
+      ap action_in (table.1 mark ∙ find_alike (is_for (aim_of mark)) test same rules)
 
-  pub decided : (att token : Bor (List ℕ)) → decides_exclude (deciding rules att.now token.now)
-      ≡ excluding (deciding_action entries att token)
-  decided att token =
-      rw (
-        first_by (Some att, Some token) (is_for_token att.now token.now)
-            (λ rule. for_token att token rule.att rule.val),
-        first_by (Some att, None) (is_for_attribute att.now) (λ rule. for_attribute att rule.att rule.val),
-        first_by (None, None) is_default (λ rule. for_all rule.att rule.val),
-      )
-      (excluding_seen (find (is_for_token att.now token.now) rules) (find (is_for_attribute att.now) rules)
-      (find is_default rules))
+  module _ (att token : List ℕ) where
+    of_token : first_action (Some att, Some token) sorted ≡ action_in (find (is_for_token att token) rules)
+    of_token = first_by (rule_for (Some att) (Some token)) (is_for_token att token)
+        (λ rule. aim_at rule (Some att, Some token) ∙ for_token att token rule.att rule.val)
 
-  pub decided_action : (att token : Bor (List ℕ)) → action_of (deciding rules att.now token.now)
-      ≡ unwrap_or (deciding_action entries att token) actions.Include
-  decided_action att token =
-      rw (
-        first_by (Some att, Some token) (is_for_token att.now token.now)
-            (λ rule. for_token att token rule.att rule.val),
-        first_by (Some att, None) (is_for_attribute att.now) (λ rule. for_attribute att rule.att rule.val),
-        first_by (None, None) is_default (λ rule. for_all rule.att rule.val),
-      )
-      (action_seen (find (is_for_token att.now token.now) rules) (find (is_for_attribute att.now) rules)
-      (find is_default rules))
+    of_attribute : first_action (Some att, None) sorted ≡ action_in (find (is_for_attribute att) rules)
+    of_attribute = first_by (rule_for (Some att) None) (is_for_attribute att)
+        (λ rule. aim_at rule (Some att, None) ∙ for_attribute att rule.att rule.val)
+
+    of_all : first_action (None, None) sorted ≡ action_in (find is_default rules)
+    of_all = first_by (rule_for None None) is_default (λ rule. aim_at rule (None, None) ∙ for_all rule.att rule.val)
+
+    pub decided : decides_exclude (deciding rules att token) ≡ excluding (deciding_action sorted att token)
+    decided =
+        rw (of_token, of_attribute, of_all)
+        (excluding_seen (find (is_for_token att token) rules) (find (is_for_attribute att) rules) (find is_default rules))
+
+    pub decided_action : action_of (deciding rules att token)
+        ≡ unwrap_or (deciding_action sorted att token) actions.Include
+    decided_action =
+        rw (of_token, of_attribute, of_all)
+        (action_seen (find (is_for_token att token) rules) (find (is_for_attribute att) rules) (find is_default rules))

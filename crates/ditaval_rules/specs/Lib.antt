@@ -1,3 +1,4 @@
+pub mod Aim
 pub mod Declarations
 pub mod Domains
 pub mod Names

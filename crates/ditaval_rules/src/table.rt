@@ -2,55 +2,52 @@
 
 ghost use Rattle.std.specs.Prelude.{◌≡◌, IfOk};
 ghost use Rattle.std.specs.Option.{option_copied};
-ghost use Rattle.ditaval_rules.specs.Subject as subject_spec;
+ghost use Rattle.ditaval_rules.specs.Aim as aim_spec;
 ghost use Rattle.ditaval_rules.specs.Verdict as spec;
 
 use crate::exclude::{Decides, is_excluded};
 use dita_doc::{Action, Attribute, List, NoMemory, Rule, Text};
-use std::alloc::Global;
+use std::alloc::{AllocError, Global};
 use std::cmp::Ordering;
 use std::marker::Model;
 
-// What a rule is for: a token of an attribute, a whole attribute, or, without an attribute, all
-// that no other rule decides.
-type Subject<'a> = (Option<&'a [u8]>, Option<&'a [u8]>);
-
-// What a rule is for, and its action.
-type RuleEntry<'a> = (Subject<'a>, Action);
-
-/// A table over rules that it borrows, in which the deciding rule is found by halving; seen by
-/// contracts as the list of the rules.
+/// A table of rules, in which the deciding rule is found by halving; seen by contracts as the list of
+/// the rules. It has copies of them, so that it may be kept for many pages.
 #[derive(Drop)]
-pub struct RuleTable<'a> {
-    rules: &'a List<Rule>,
-    // By what the rules are for; of those for the same, the first rule's stands first.
-    entries: Vec<RuleEntry<'a>>,
+pub struct RuleTable {
+    rules: List<Rule>,
+    // By what the rules are for; of those for the same, the first rule stands first.
+    sorted: Vec<Rule>,
 }
 
-impl<'a> Model for RuleTable<'a> {
+impl Model for RuleTable {
     ghost use Rattle.std.specs.Prelude.{List};
     ghost use Rattle.dita_doc.specs.declared.content.Rule.{Rule};
+    ghost use Rattle.ditaval_rules.specs.Aim.{IsTableOf};
 
     ghost Value = { List Rule };
 
-    ghost use Rattle.ditaval_rules.specs.Subject.{IsTableOf};
+    ghost view = { λ table. table.rules };
 
-    ghost view = { λ table. table.rules.now };
-
-    ghost invariant = { λ table. IsTableOf table.entries.items table.rules.now };
+    ghost invariant = { λ table. IsTableOf table.sorted.items table.rules };
 }
 
-impl<'a> RuleTable<'a> {
+impl RuleTable {
     /// A table of these rules, made in a time linear-logarithmic in their number.
-    pub fn new(alloc: Global, rules: &'a List<Rule>) -> Result<RuleTable<'a>, NoMemory>
+    pub fn new(alloc: Global, rules: &List<Rule>) -> Result<RuleTable, NoMemory>
         ensures { IfOk result (λ table. table ≡ rules.now) }
     {
-        let mut entries = Vec::new(alloc);
-        for rule in rules.as_slice() {
-            entries.push((subject_of(rule), rule.action))?;
-        }
-        entries.sort_by_key(|entry| entry.0)?;
-        Ok(RuleTable { rules, entries })
+        let mut sorted = copy_rules(alloc, rules.as_slice())?.into_vec();
+        sorted.sort_by(|one, other| compare_rules(one, other))?;
+        let rules = copy_rules(alloc, rules.as_slice())?;
+        Ok(RuleTable { rules, sorted })
+    }
+
+    /// The rules, in their order.
+    pub fn rules(&self) -> &List<Rule>
+        ensures { result.now ≡ self.now }
+    {
+        &self.rules
     }
 
     /// The same verdict as `verdict` gives, by halving. It takes no memory.
@@ -64,64 +61,104 @@ impl<'a> RuleTable<'a> {
     pub fn decided(&self, att: &[u8], token: &[u8]) -> Action
         ensures { result ≡ spec.decided (spec.deciding self.now att.now token.now) }
     {
-        deciding(self.entries.as_slice(), att, token).unwrap_or(Action::Include)
+        deciding(self.sorted.as_slice(), att, token).unwrap_or(Action::Include)
     }
 }
 
 /// By halving.
-impl<'a> Decides for RuleTable<'a> {
+impl Decides for RuleTable {
     ghost rules = { λ table. table };
 
     fn excludes_token(&self, att: &[u8], token: &[u8]) -> bool {
-        let action = deciding(self.entries.as_slice(), att, token);
+        let action = deciding(self.sorted.as_slice(), att, token);
         action.is_some_and(|action| action == Action::Exclude)
     }
 }
 
-// The action for a token, of sorted entries: that for the token, else that for the attribute, else
-// that of the default rule.
-fn deciding(entries: &[RuleEntry<'_>], att: &[u8], token: &[u8]) -> Option<Action>
-    requires { subject_spec.IsSortedBySubject entries.now }
-    ensures { result ≡ subject_spec.deciding_action entries.now att.entry token.entry }
+fn copy_rules(alloc: Global, rules: &[Rule]) -> Result<List<Rule>, AllocError>
+    ensures { IfOk result (λ copies. copies ≡ rules.now) }
 {
-    if let Some(action) = first_for(entries, Some(att), Some(token)) {
-        return Some(action);
+    let mut copies = List::new(alloc);
+    for rule in rules {
+        copies.push(copy_rule(rule)?)?;
     }
-    if let Some(action) = first_for(entries, Some(att), None) {
-        return Some(action);
-    }
-    first_for(entries, None, None)
+    Ok(copies)
 }
 
-// The action of the first of sorted entries that is for this attribute and token.
-fn first_for(entries: &[RuleEntry<'_>], att: Option<&[u8]>, val: Option<&[u8]>) -> Option<Action>
-    requires { subject_spec.IsSortedBySubject entries.now }
-    ensures { result ≡ subject_spec.first_action (att.entry, val.entry) entries.now }
+fn copy_rule(rule: &Rule) -> Result<Rule, AllocError>
+    ensures { IfOk result (λ copy. copy ≡ rule.now) }
 {
-    let entry = entries.get(place_for(entries, att, val))?;
-    if compare(entry.0, att, val) == Ordering::Equal {
-        Some(entry.1)
+    Ok(Rule {
+        att: copy_text(&rule.att)?,
+        val: copy_text(&rule.val)?,
+        action: rule.action,
+    })
+}
+
+fn copy_text(text: &Option<Text>) -> Result<Option<Text>, AllocError>
+    ensures { IfOk result (λ copy. copy ≡ text.now) }
+{
+    match text {
+        Some(text) => Ok(Some(text.clone()?)),
+        None => Ok(None),
+    }
+}
+
+// The action for a token, of sorted rules: that for the token, else that for the attribute, else
+// that of the default rule.
+fn deciding(sorted: &[Rule], att: &[u8], token: &[u8]) -> Option<Action>
+    requires { aim_spec.AreSorted sorted.now }
+    ensures { result ≡ aim_spec.deciding_action sorted.now att.now token.now }
+{
+    if let Some(action) = first_for(sorted, Some(att), Some(token)) {
+        return Some(action);
+    }
+    if let Some(action) = first_for(sorted, Some(att), None) {
+        return Some(action);
+    }
+    first_for(sorted, None, None)
+}
+
+// The action of the first of sorted rules that is for this attribute and token.
+fn first_for(sorted: &[Rule], att: Option<&[u8]>, val: Option<&[u8]>) -> Option<Action>
+    requires { aim_spec.AreSorted sorted.now }
+    ensures { result ≡ aim_spec.first_action (option_copied att.entry, option_copied val.entry)
+        sorted.now }
+{
+    let rule = sorted.get(place_for(sorted, att, val))?;
+    if compare(rule, att, val) == Ordering::Equal {
+        Some(rule.action)
     } else {
         None
     }
 }
 
-// How many of sorted entries stand below this attribute and token.
-fn place_for(entries: &[RuleEntry<'_>], att: Option<&[u8]>, val: Option<&[u8]>) -> usize
-    requires { subject_spec.IsSortedBySubject entries.now }
-    ensures { subject_spec.IsPlaceFor (att.entry, val.entry) entries.now result }
+// How many of sorted rules stand below this attribute and token.
+fn place_for(sorted: &[Rule], att: Option<&[u8]>, val: Option<&[u8]>) -> usize
+    requires { aim_spec.AreSorted sorted.now }
+    ensures { aim_spec.IsPlaceFor (option_copied att.entry, option_copied val.entry) sorted.now
+        result }
 {
-    entries.partition_point(|entry| compare(entry.0, att, val) == Ordering::Less)
+    sorted.partition_point(|rule| compare(rule, att, val) == Ordering::Less)
 }
 
-fn compare(subject: Subject<'_>, att: Option<&[u8]>, val: Option<&[u8]>) -> Ordering
-    ensures { result ≡ subject_spec.subject_cmp subject.entry (att.entry, val.entry) }
+// By what two rules are for.
+fn compare_rules(one: &Rule, other: &Rule) -> Ordering
+    ensures { result ≡ aim_spec.aim_cmp (aim_spec.aim_of one.now) (aim_spec.aim_of other.now) }
 {
-    compare_texts(subject.0, att).then(compare_texts(subject.1, val))
+    compare(one, bytes_of(&other.att), val_of(other))
+}
+
+// By what a rule is for, and an attribute and a token.
+fn compare(rule: &Rule, att: Option<&[u8]>, val: Option<&[u8]>) -> Ordering
+    ensures { result ≡ aim_spec.aim_cmp (aim_spec.aim_of rule.now)
+        (option_copied att.entry, option_copied val.entry) }
+{
+    compare_texts(bytes_of(&rule.att), att).then(compare_texts(val_of(rule), val))
 }
 
 fn compare_texts(one: Option<&[u8]>, other: Option<&[u8]>) -> Ordering
-    ensures { result ≡ subject_spec.text_cmp one.entry other.entry }
+    ensures { result ≡ aim_spec.text_cmp (option_copied one.entry) (option_copied other.entry) }
 {
     match (one, other) {
         (None, None) => Ordering::Equal,
@@ -131,14 +168,13 @@ fn compare_texts(one: Option<&[u8]>, other: Option<&[u8]>) -> Ordering
     }
 }
 
-// What the rule is for; of a default rule the token does not count.
-fn subject_of(rule: &Rule) -> Subject<'_>
-    ensures att { option_copied result.0 ≡ rule.now.att }
-    ensures val { option_copied result.1 ≡ subject_spec.val_behind rule.now.att rule.now.val }
+// The token that a rule is for; that of a default rule does not count.
+fn val_of(rule: &Rule) -> Option<&[u8]>
+    ensures { option_copied result ≡ aim_spec.val_behind rule.now.att rule.now.val }
 {
     match &rule.att {
-        Some(att) => (Some(att.as_bytes()), bytes_of(&rule.val)),
-        None => (None, None),
+        Some(_) => bytes_of(&rule.val),
+        None => None,
     }
 }
 

@@ -2,6 +2,7 @@
 
 ghost use Rattle.std.specs.Prelude.{◌≡◌, ◌++◌, IfOk, OnOk};
 ghost use Rattle.std.specs.List.{flat_map};
+ghost use Rattle.dita_doc.specs.Shown.{shown};
 ghost use Rattle.ditaval_rules.specs.Verdict.{conditional_names};
 ghost use Rattle.flag_marks.specs.Marks as spec;
 
@@ -14,12 +15,13 @@ use std::alloc::Global;
 /// each table in order; a text can come twice.
 pub(crate) fn texts_of(
     alloc: Global,
-    tables: &[RuleTable<'_>],
+    tables: &[&RuleTable],
     declared: &[Text],
     node: &Node,
 ) -> Result<List<Text>, NoMemory>
     ensures { IfOk result
-        (λ texts. texts ≡ flat_map (spec.marks_by declared.now node.now.attributes) tables.now) }
+        (λ texts. texts ≡ flat_map (spec.marks_by declared.now node.now.attributes)
+        (shown tables.now)) }
 {
     let mut texts = List::new(alloc);
     for table in tables {
@@ -32,7 +34,7 @@ pub(crate) fn texts_of(
 fn push_by(
     alloc: Global,
     texts: &mut List<Text>,
-    table: &RuleTable<'_>,
+    table: &RuleTable,
     declared: &[Text],
     node: &Node,
 ) -> Result<(), NoMemory>
@@ -47,7 +49,7 @@ fn push_by(
 fn push_everywhere(
     alloc: Global,
     texts: &mut List<Text>,
-    table: &RuleTable<'_>,
+    table: &RuleTable,
     node: &Node,
 ) -> Result<(), NoMemory>
     ensures { OnOk result (texts.new ≡ texts.old
@@ -63,7 +65,7 @@ fn push_everywhere(
 fn push_declared(
     alloc: Global,
     texts: &mut List<Text>,
-    table: &RuleTable<'_>,
+    table: &RuleTable,
     declared: &[Text],
     node: &Node,
 ) -> Result<(), NoMemory>
@@ -80,7 +82,7 @@ fn push_declared(
 fn push_attribute(
     alloc: Global,
     texts: &mut List<Text>,
-    table: &RuleTable<'_>,
+    table: &RuleTable,
     node: &Node,
     name: &str,
 ) -> Result<(), NoMemory>

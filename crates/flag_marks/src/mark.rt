@@ -13,15 +13,15 @@ use ditaval_rules::RuleTable;
 use std::alloc::Global;
 use std::collections::BTreeSet;
 
-/// The marks of a body, in the order of its elements: `flag-ATT-TOKEN` for each token that a list
-/// of rules flags, by each list in order, each conditional attribute in order and each token in
+/// The marks of a body, in the order of its elements: `flag-ATT-TOKEN` for each token that a table
+/// of rules flags, by each table in order, each conditional attribute in order and each token in
 /// order, each mark of an element once (DITA 1.3, "Flagging"; the form of a mark is our own).
 /// `declared` has for each node the names of the attributes that are declared for it; those of the
 /// body itself may be passed. A value of groups gives none.
 ///
-/// The rules are made ready once; then each element takes one look at its attributes for each list
-/// of rules and each name, each token a halving of the rules, and each one that is flagged a look
-/// into the set of the element's marks. Where no list has a rule that flags, no node is looked at.
+/// Each element takes one look at its attributes for each table and each name, each token a halving
+/// of the rules, and each one that is flagged a look into the set of the element's marks. Where no
+/// table has a rule that flags, no node is looked at.
 ///
 /// # Errors
 ///
@@ -29,33 +29,32 @@ use std::collections::BTreeSet;
 pub fn marks_by(
     alloc: Global,
     body: &Resolved,
-    rules: &[&List<Rule>],
+    tables: &[&RuleTable],
     declared: &List<List<Text>>,
 ) -> Result<List<Mark>, NoMemory>
     requires { length declared.now ≡ length body.now.doc.nodes }
     ensures value { IfOk result
-        (λ marks. marks ≡ spec.marks_from (shown_spec.shown rules.now) 0 declared.now
+        (λ marks. marks ≡ spec.marks_from (shown_spec.shown tables.now) 0 declared.now
         (map spec.attributes_at body.now.doc.nodes)) }
     ensures places { IfOk result
         (λ marks. places_spec.AreAtElements body.now.doc.nodes marks) }
 {
-    if !has_flag(rules) {
+    if !has_flag(tables) {
         return Ok(List::new(alloc));
     }
-    let tables = tables_of(alloc, rules)?;
     marks_of(
         alloc,
-        &tables,
+        tables,
         declared.as_slice(),
         body.doc.nodes.as_slice(),
     )
 }
 
-// Whether one of the lists has a rule that flags.
-fn has_flag(rules: &[&List<Rule>]) -> bool
-    ensures { result ≡ list_any spec.have_flag (shown_spec.shown rules.now) }
+// Whether one of the tables has a rule that flags.
+fn has_flag(tables: &[&RuleTable]) -> bool
+    ensures { result ≡ list_any spec.have_flag (shown_spec.shown tables.now) }
 {
-    rules.iter().any(|some| is_flagging(some))
+    tables.iter().any(|table| is_flagging(table.rules()))
 }
 
 // Whether one of the rules flags.
@@ -68,28 +67,18 @@ fn is_flagging(rules: &List<Rule>) -> bool
         .any(|rule| rule.action == Action::Flag)
 }
 
-// A table for each list of rules.
-fn tables_of<'a>(alloc: Global, rules: &[&'a List<Rule>]) -> Result<Vec<RuleTable<'a>>, NoMemory>
-    ensures { IfOk result (λ tables. tables.items ≡ shown_spec.shown rules.now) }
-{
-    let mut tables = Vec::new(alloc);
-    for some in rules {
-        tables.push(RuleTable::new(alloc, some)?)?;
-    }
-    Ok(tables)
-}
-
 // The marks of nodes, by tables.
 fn marks_of(
     alloc: Global,
-    tables: &[RuleTable<'_>],
+    tables: &[&RuleTable],
     declared: &[List<Text>],
     nodes: &[Node],
 ) -> Result<List<Mark>, NoMemory>
     requires each { length declared.now ≡ length nodes.now }
     requires small { length nodes.now < 2 ^ 32 }
     ensures { IfOk result (λ marks. marks
-        ≡ spec.marks_from tables.now 0 declared.now (map spec.attributes_at nodes.now)) }
+        ≡ spec.marks_from (shown_spec.shown tables.now) 0 declared.now
+        (map spec.attributes_at nodes.now)) }
 {
     let mut marks = List::new(alloc);
     for at in 0..nodes.len() {
@@ -109,13 +98,14 @@ fn marks_of(
 fn push_node(
     alloc: Global,
     marks: &mut List<Mark>,
-    tables: &[RuleTable<'_>],
+    tables: &[&RuleTable],
     place: u32,
     declared: &List<Text>,
     node: &Node,
 ) -> Result<(), NoMemory>
     ensures { OnOk result (marks.new ≡ marks.old
-        ++ spec.marks_of_node tables.now place declared.now (spec.attributes_at node.now)) }
+        ++ spec.marks_of_node (shown_spec.shown tables.now) place declared.now
+        (spec.attributes_at node.now)) }
 {
     match node.kind {
         NodeKind::Chars => Ok(()),

@@ -13,7 +13,7 @@ use std::alloc::Global;
 pub(crate) fn push_value(
     alloc: Global,
     texts: &mut List<Text>,
-    table: &RuleTable<'_>,
+    table: &RuleTable,
     att: &str,
     value: &str,
 ) -> Result<(), NoMemory>
@@ -30,7 +30,7 @@ pub(crate) fn push_value(
 fn push_words(
     alloc: Global,
     texts: &mut List<Text>,
-    table: &RuleTable<'_>,
+    table: &RuleTable,
     att: &str,
     value: &str,
 ) -> Result<(), NoMemory>
@@ -55,7 +55,7 @@ fn push_words(
 fn push_word(
     alloc: Global,
     texts: &mut List<Text>,
-    table: &RuleTable<'_>,
+    table: &RuleTable,
     att: &str,
     word: &str,
 ) -> Result<(), NoMemory>

@@ -55,7 +55,7 @@ fn sieved(
     alloc: Global,
     elements: &Elements,
     nodes: &[PlanNode],
-    table: &RuleTable<'_>,
+    table: &RuleTable,
 ) -> Result<Sieve, NoMemory>
     ensures { (world : World) → elements.now.homes ≡ map (cascade_spec.whole_at world) nodes.now
         → domains_spec.AreDeclared world nodes.now elements.now.declared

@@ -36,7 +36,7 @@ impl Sieve {
     pub(crate) fn pass(
         &mut self,
         alloc: Global,
-        table: &RuleTable<'_>,
+        table: &RuleTable,
         node: &PlanNode,
         declared: &List<Text>,
         element: Option<&Node>,
@@ -77,12 +77,7 @@ fn append_faults_of(
 }
 
 // Whether the node at a place is left out: the root never is.
-fn is_left_out(
-    table: &RuleTable<'_>,
-    at: usize,
-    declared: &List<Text>,
-    element: Option<&Node>,
-) -> bool
+fn is_left_out(table: &RuleTable, at: usize, declared: &List<Text>, element: Option<&Node>) -> bool
     ensures { (name : List ℕ) → result ≡ (nat_lt 0 at
         && sieve_spec.is_sieved_out table.now declared.now
         (sieve_spec.element_found name element.entry)) }
@@ -90,7 +85,7 @@ fn is_left_out(
     at > 0 && is_excluded(table, declared, element)
 }
 
-fn is_excluded(table: &RuleTable<'_>, declared: &List<Text>, element: Option<&Node>) -> bool
+fn is_excluded(table: &RuleTable, declared: &List<Text>, element: Option<&Node>) -> bool
     ensures { (name : List ℕ) → result ≡ sieve_spec.is_sieved_out table.now declared.now
         (sieve_spec.element_found name element.entry) }
 {

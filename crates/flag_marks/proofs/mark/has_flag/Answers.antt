@@ -10,4 +10,4 @@ pub returns : goal.returns
 returns c =
     any_from_yields_List (λ (some : Bor (List Rule)). have_flag some.now) _ _ c.any.result c.any.ensures.ran
     (YieldsList-from_slice _ c.iter.ensures.rest) (λ x b q k. search (rules, tests))
-    ∙ any_shown have_flag c.args.rules.now
+    ∙ any_shown have_flag c.args.tables.now

@@ -8,4 +8,4 @@ returns-then-not-has_judged-clause-goes c =
     (sym c.has_judged.ensures ∙ c.if-not-has_judged.true))
 
 pub returns-clause-goes : goal.returns-clause-goes
-returns-clause-goes c = c.exclude.ensures.excluded
+returns-clause-goes c = c.exclude.ensures

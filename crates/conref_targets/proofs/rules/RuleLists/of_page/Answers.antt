@@ -13,6 +13,6 @@ returns c =
     c.in_ok-push_filters.ensures
     ∙ ap (λ (some : List (List Rule)). some ++ all_kept known c.as_slice.result.now)
     (c.in_ok-push_val.ensures
-    ∙ ap (λ (items : List (Bor (List Rule))). shown items ++ all_kept known val) c.new-lists.ensures.items)
+    ∙ ap (λ (items : List (Bor (List Rule))). shown items ++ all_kept known val) c.new-tables.ensures.items)
     ∙ sym (flat_map-append (rules_kept known) val c.as_slice.result.now)
     ∙ ap (λ (names : List (List ℕ)). all_kept known (val ++ names)) c.as_slice.ensures
