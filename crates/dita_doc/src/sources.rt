@@ -46,7 +46,8 @@ impl Clone for StoredDoc {
 }
 
 /// The documents that are stored, by the bytes of their names, each name once. They stand in blocks
-/// that copies share: an edit copies the block that it changes and the list of blocks, no more.
+/// that copies share: a copy copies the list of blocks, an edit the block that it changes if another
+/// has a share of it, and a put cuts a full block into two halves.
 #[derive(Drop)]
 pub struct Sources {
     blocks: Vec<Arc<Block>>,

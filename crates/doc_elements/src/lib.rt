@@ -1,8 +1,7 @@
 //! Elements of documents: the types that they have, what stands in the place of transparent ones,
 //! their children and plain texts, and the faults that stand at them.
 //!
-//! What is used above it: the contracts of `first_child`, `first_under`, `plain_text` and
-//! `class_fault`, each the definition of what it answers.
+//! What is used above it: the contract of each call, which is the definition of what it answers.
 #![tactic(auto)]
 
 mod below;

@@ -62,8 +62,8 @@ pub fn paths_have_no_cycle()
         (content_spec.followed setting topic depth path element inside) }
 {}
 
-/// More steps than the definitions take change nothing that they give: of walks, of scopes around and
-/// of items if parents stand before their nodes, of names if fewer than 2^64 - 2 are taken.
+/// The definitions give the same with more steps than they take: walks; scopes around a scope, and
+/// items, if parents stand before their nodes; and names, if fewer than 2^64 - 2 are taken.
 pub fn more_steps_change_nothing()
     ensures included { steps_spec.IncludedIsWhole }
     ensures walk { steps_spec.WalkIsWhole }

@@ -37,6 +37,7 @@ pub fn copy_nodes(alloc: Global, nodes: &[PlanNode]) -> Result<List<PlanNode>, A
     Ok(copies)
 }
 
+/// A copy of each text, in order.
 pub fn copy_texts(alloc: Global, texts: &[Text]) -> Result<List<Text>, AllocError>
     ensures { IfOk result (λ copies. copies ≡ texts.now) }
 {
@@ -58,6 +59,7 @@ pub fn copy_names(alloc: Global, names: &[Name]) -> Result<List<Name>, AllocErro
     Ok(copies)
 }
 
+/// A copy of each prefix and suffix, in order.
 pub fn copy_affixes(alloc: Global, affixes: &[Affix]) -> Result<List<Affix>, AllocError>
     ensures { IfOk result (λ copies. copies ≡ affixes.now) }
 {
@@ -71,6 +73,7 @@ pub fn copy_affixes(alloc: Global, affixes: &[Affix]) -> Result<List<Affix>, All
     Ok(copies)
 }
 
+/// A copy of each attribute, in order.
 pub fn copy_attributes(
     alloc: Global,
     attributes: &[Attribute],

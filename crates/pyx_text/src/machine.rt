@@ -301,6 +301,7 @@ fn push_attribute(
 }
 
 // Appends an attribute. Most elements have one or two, so room for the first few is taken one by one.
+// Without memory the list is lost, and its reader stops for good.
 fn append_attribute(
     alloc: Global,
     attributes: &mut List<Attribute>,

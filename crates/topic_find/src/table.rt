@@ -45,7 +45,8 @@ impl TargetTable {
     ghost use Rattle.topic_find.specs.Walk as walk_spec;
     ghost use Rattle.topic_find.specs.Table as table_spec;
 
-    /// The table of a document, made in one walk. It takes memory for each element with an id.
+    /// The table of a document, made in one walk. It takes memory for each topic and for each element
+    /// with an id.
     pub fn of(alloc: Global, doc: &Doc) -> Result<TargetTable, NoMemory>
         ensures { (name : List ℕ) → IfOk result (λ table. table_spec.IsTableFor table
             (written_spec.written_in name (tree_spec.tree_of doc.now.nodes))) }

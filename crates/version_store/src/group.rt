@@ -16,7 +16,8 @@ use std::alloc::AllocError;
 use std::sync::Arc;
 
 /// Tries the edits of a group at a place on a share of the sources, which is put away if one of
-/// them is refused. It is a copy from the first edit on that changes it.
+/// them is refused. The first edit that changes something makes a copy of the list of blocks, and
+/// each one a copy of the block that it changes if the sources share it.
 pub fn try_group(sources: &Arc<Sources>, place: u64, edits: &[Edit]) -> Result<Decided, AllocError>
     requires place { place + 1 < 2 ^ 64 }
     requires few { length edits.now ≤ request_spec.edit_limit }
