@@ -22,3 +22,4 @@ pub mod Seen
 pub mod Sources
 pub mod Shown
 pub mod TextOrder
+pub mod Text

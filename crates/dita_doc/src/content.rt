@@ -9,6 +9,7 @@ use crate::list::List;
 use crate::name::Name;
 use crate::plan::Target;
 use crate::text::Text;
+use std::alloc::AllocError;
 
 /// What a DITAVAL rule does with an element.
 #[derive(Clone, Copy, Debug, PartialEq, Eq)]
@@ -26,6 +27,20 @@ pub struct Rule {
     pub att: Option<Text>,
     pub val: Option<Text>,
     pub action: Action,
+}
+
+impl Clone for Rule {
+    ghost use Rattle.std.specs.Prelude.{◌≡◌};
+
+    ghost is_clone = { λ rule copy. copy ≡ rule };
+
+    fn clone(&self) -> Result<Rule, AllocError> {
+        Ok(Rule {
+            att: self.att.clone()?,
+            val: self.val.clone()?,
+            action: self.action,
+        })
+    }
 }
 
 /// What a key gives where it is used: the node that defines it, if one does, its target, its text,

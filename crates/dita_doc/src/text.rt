@@ -4,24 +4,36 @@ ghost use Rattle.std.specs.Prelude.{◌≡◌, ◌++◌, ◌==◌, [], length, i
 ghost use Rattle.std.specs.Str.{IsUtf8};
 
 use crate::list::List;
+use arrayvec::ArrayString;
 use std::alloc::{AllocError, Global};
 use std::cmp::Ordering;
 use std::hash::{Hash, Hasher};
 use std::marker::Model;
 
-/// A growing text. That it is UTF-8 is a fact of the type, so no reader of one tests it again.
+/// How many bytes lie in a text itself, so that most names and attributes take no memory.
+const SHORT_LIMIT: usize = 16;
+
+/// A growing text. That it is UTF-8 is a fact of the type, so no reader of one tests it again. A
+/// text of at most 16 bytes takes no memory, if it was not longer before.
 #[derive(Debug, Drop)]
 pub struct Text {
-    content: String,
+    content: Content,
+}
+
+// The bytes of a text: in the value itself, or in memory of their own.
+#[derive(Debug, Drop)]
+enum Content {
+    Short(Global, ArrayString<SHORT_LIMIT>),
+    Long(String),
 }
 
 impl Model for Text {
     ghost use Rattle.std.specs.Prelude.{List, ℕ};
-    ghost use Rattle.std.specs.String.{string_bytes};
+    ghost use Rattle.dita_doc.specs.Text.{content_bytes};
 
     ghost Value = { List ℕ };
 
-    ghost view = { λ t. string_bytes t.content };
+    ghost view = { λ t. content_bytes t.content };
 }
 
 impl Text {
@@ -30,7 +42,7 @@ impl Text {
         ensures { result ≡ [] }
     {
         Text {
-            content: String::new(alloc),
+            content: Content::Short(alloc, ArrayString::new()),
         }
     }
 
@@ -38,9 +50,11 @@ impl Text {
     pub fn from_str(alloc: Global, text: &str) -> Result<Text, AllocError>
         ensures { IfOk result (λ made. made ≡ text.now) }
     {
-        Ok(Text {
-            content: String::from_str(alloc, text)?,
-        })
+        let content = match ArrayString::from(text) {
+            Ok(short) => Content::Short(alloc, short),
+            Err(_) => Content::Long(String::from_str(alloc, text)?),
+        };
+        Ok(Text { content })
     }
 
     /// The text of bytes that are proved to be UTF-8: none of them is looked at.
@@ -57,16 +71,21 @@ impl Text {
         ensures { result ≡ bytes.items }
     {
         Text {
-            content: unsafe { String::from_utf8_unchecked(bytes) },
+            content: Content::Long(unsafe { String::from_utf8_unchecked(bytes) }),
         }
     }
 
+    #[inline]
     pub fn as_str(&self) -> &str
         ensures { result.now ≡ self.now }
     {
-        self.content.as_str()
+        match &self.content {
+            Content::Short(_, short) => short.as_str(),
+            Content::Long(long) => long.as_str(),
+        }
     }
 
+    #[inline]
     pub fn as_bytes(&self) -> &[u8]
         ensures value { result.now ≡ self.now }
         ensures utf8 { IsUtf8 self.now }
@@ -74,32 +93,46 @@ impl Text {
         self.as_str().as_bytes()
     }
 
-    /// Its bytes, in the same memory.
-    pub fn into_bytes(self) -> List<u8>
-        ensures { result ≡ self }
+    /// Its bytes, in the same memory unless they are few.
+    pub fn into_bytes(self) -> Result<List<u8>, AllocError>
+        ensures { IfOk result (λ bytes. bytes ≡ self) }
     {
         let Text { content } = self;
-        List::from_vec(content.into_bytes())
+        match content {
+            Content::Short(alloc, short) => List::from_slice(alloc, short.as_str().as_bytes()),
+            Content::Long(long) => Ok(List::from_vec(long.into_bytes())),
+        }
     }
 
     /// How many bytes it has.
     pub fn len(&self) -> usize
         ensures { result ≡ length self.now }
     {
-        self.content.as_bytes().len()
+        self.as_bytes().len()
     }
 
     pub fn is_empty(&self) -> bool
         ensures { result ≡ (length self.now == 0) }
     {
-        self.content.as_bytes().is_empty()
+        self.as_bytes().is_empty()
     }
 
     /// Appends a text. Without memory this one stays as it was.
     pub fn append(&mut self, text: &str) -> Result<(), AllocError>
         ensures { self.new ≡ (if is_ok result then self.old ++ text.now else self.old) }
     {
-        self.content.push_str(text)
+        match &mut self.content {
+            Content::Long(long) => long.push_str(text),
+            Content::Short(alloc, short) => {
+                if short.try_push_str(text).is_ok() {
+                    return Ok(());
+                }
+                let mut long = String::from_str(*alloc, short.as_str())?;
+                long.push_str(text)?;
+                self.content = Content::Long(long);
+                Ok(())
+            }
+        }
     }
 
     /// Appends bytes that are proved to be UTF-8. Without memory the text stays as it was.
@@ -107,8 +140,7 @@ impl Text {
         requires { IsUtf8 bytes.now }
         ensures { self.new ≡ (if is_ok result then self.old ++ bytes.now else self.old) }
     {
-        self.content
-            .push_str(unsafe { str::from_utf8_unchecked(bytes) })
+        self.append(unsafe { str::from_utf8_unchecked(bytes) })
     }
 }
 
@@ -119,9 +151,11 @@ impl Clone for Text {
     ghost is_clone = { λ text copy. copy ≡ text };
 
     fn clone(&self) -> Result<Text, AllocError> {
-        Ok(Text {
-            content: self.content.clone()?,
-        })
+        let content = match &self.content {
+            Content::Short(alloc, short) => Content::Short(*alloc, *short),
+            Content::Long(long) => Content::Long(long.clone()?),
+        };
+        Ok(Text { content })
     }
 }
 
@@ -134,7 +168,7 @@ impl PartialEq for Text {
     ghost laws = { Prim.search rules };
 
     fn eq(&self, other: &Self) -> bool {
-        self.content.as_bytes() == other.content.as_bytes()
+        self.as_bytes() == other.as_bytes()
     }
 }
 
@@ -173,7 +207,7 @@ impl Ord for Text {
     ghost matches_eq = { texts_ties };
 
     fn cmp(&self, other: &Self) -> Ordering {
-        self.content.as_bytes().cmp(&other.content.as_bytes())
+        self.as_bytes().cmp(&other.as_bytes())
     }
 }
 
@@ -188,6 +222,6 @@ impl Hash for Text {
     ghost respects_eq = { λ x y same. ap fed.str ((bytes_decides x y).0 same) };
 
     fn hash<H: Hasher>(&self, state: &mut H) {
-        self.content.as_str().hash(state);
+        self.as_str().hash(state);
     }
 }

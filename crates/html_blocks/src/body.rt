@@ -43,7 +43,7 @@ pub fn body_html(
         0,
         HtmlContext::outside(),
     )?;
-    Ok(page.into_html())
+    Ok(page.into_html()?)
 }
 
 // Appends some siblings, with what they hold. The first of them stands at this place.

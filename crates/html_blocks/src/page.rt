@@ -65,15 +65,15 @@ impl BodyText {
     }
 
     /// All that was written.
-    pub fn into_html(self) -> Html
-        ensures bytes { result.bytes ≡ self.text }
-        ensures faults { result.faults ≡ self.faults }
+    pub fn into_html(self) -> Result<Html, NoMemory>
+        ensures bytes { IfOk result (λ html. html.bytes ≡ self.text) }
+        ensures faults { IfOk result (λ html. html.faults ≡ self.faults) }
     {
         let BodyText { text, faults, .. } = self;
-        Html {
-            bytes: text.into_bytes(),
+        Ok(Html {
+            bytes: text.into_bytes()?,
             faults,
-        }
+        })
     }
 
     /// Writes what stands before the content of an element. An element whose content is not shown

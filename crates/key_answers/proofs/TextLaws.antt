@@ -1,15 +1,18 @@
 -- The first text that is not empty.
-use Rattle.std.specs.Prelude.{◌≡◌, ◌+◌, ◌==◌, ◌<◌, ℕ, zero, suc, Bool, true, false, List, [], ◌∷◌, ◌++◌, IfOk, Option, Result, drop, length, map}
+use Rattle.std.specs.Prelude.{◌≡◌, ◌+◌, ◌==◌, ◌<◌, ℕ, zero, suc, Bool, true, false, List, [], ◌∷◌, ◌++◌, IfOk, Option, Some, Result, codes, drop, length, map, unwrap_or}
+use Rattle.std.specs.Option.{option_map_or}
 use Rattle.std.proofs.Common.{refl, sym, ap, subst, ◌∙◌, arith, get_or}
 use Rattle.std.proofs.lemmas.Bool.{eqb-true}
 use Rattle.dita_doc.specs.declared.plan.PlanNode.{PlanNode}
 use Rattle.dita_doc.specs.declared.plan.Target.{Target}
 use Rattle.map_spec.specs.Cascade.{whole_at}
-use Rattle.map_spec.specs.Keys.{text_of_definition, title_of_target}
+use Rattle.map_spec.specs.Elements.{attribute}
+use Rattle.map_spec.specs.Keys.{metadata_texts, text_of_definition, title_of_target}
 use Rattle.map_spec.specs.Titles.{first_text}
 use Rattle.map_spec.specs.Written.{Whole}
 use Rattle.reader_spec.specs.World.{World}
-use Rattle.key_answers.specs.Seen.{text_seen, texts_with}
+use Rattle.key_answers.specs.Seen.{text_seen, texts_of_whole, texts_with}
+use Rattle.plan_nodes.specs.Home.{whole_at as whole_seen}
 use Rattle.key_answers.proofs.SeenLaws.{texts_same}
 
 first_one : (text : List ℕ) → first_text (text ∷ []) ≡ text
@@ -50,6 +53,20 @@ first_of_three result first second a b c no_first no_second first_is second_is f
     ∙ ap (λ t. first_text (t ∷ c ∷ [])) (sym second_is) ∙ first_passed second (c ∷ []) no_second second_test empty
     ∙ first_one c in
     subst (λ t. IfOk result (λ text. text ≡ t)) (sym whole) is
+
+-- Of a definition whose metadata has no text
+
+pub text_behind : {E : Type 0} (result : Result (List ℕ) E) (homes : List (Option Whole)) (at : ℕ) (whole : Whole)
+    (text last : List ℕ) (empty : Bool) → Some whole ≡ whole_seen homes at → text ≡ first_text (metadata_texts whole.1)
+    → empty ≡ (length text == 0) → empty ≡ true → last ≡ unwrap_or (attribute (codes "navtitle") whole.0) []
+    → IfOk result (λ made. made ≡ last) → IfOk result (λ made. made ≡ text_seen homes at)
+text_behind result homes at whole text last empty here is test none last_is made =
+    let same : text_seen homes at ≡ last =
+    ap (λ (found : Option Whole). option_map_or (λ (some : Whole). first_text (texts_of_whole some)) found []) (sym here)
+    ∙ first_behind (metadata_texts whole.1) (unwrap_or (attribute (codes "navtitle") whole.0) [] ∷ [])
+    (ap (λ t. length t == 0) (sym is) ∙ sym test ∙ none)
+    ∙ first_one _ ∙ sym last_is in
+    subst (λ t. IfOk result (λ text. text ≡ t)) (sym same) made
 
 -- Of definitions one after the other
 

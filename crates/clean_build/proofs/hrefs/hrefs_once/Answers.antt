@@ -67,6 +67,29 @@ loop-link-preserved c =
           ∙ c.loop-link.invariant.whole) c.if-branch.false;
     }
 
+pub loop-link-preserved-else-branch : goal.loop-link-preserved-else-branch
+loop-link-preserved-else-branch c =
+    let before = c.loop-link.invariant.before in
+    let link = c.in-Some.link in
+    let there = seen_test before c.loop-link.seen.keys c.in_ok-clone.field-0 c.in_ok-insert.field-0
+    c.loop-link.invariant.seen c.in_ok-insert.ensures.added
+    ∙ ap (λ (href : List ℕ). list_any (bytes_eq href) before) c.in_ok-clone.ensures.cases in
+    record {
+      size = omega (
+        arith,
+        c.in-Some.ensures.steps.1,
+        c.loop-link.invariant.size,
+        ap length c.in-Some.ensures.steps.0,
+      );
+      before = before;
+      seen = seen_again before c.loop-link.seen.keys c.insert.new.self.keys c.loop-link.invariant.seen
+          (subst (λ added. OnFalse added (c.insert.new.self.keys ≡ c.loop-link.seen.keys)) c.if-branch.false
+          c.in_ok-insert.ensures.unchanged);
+      whole = old_link before link _ c.loop-link.once _ c.in_ok-insert.field-0 there
+          (ap (λ links. c.loop-link.once ++ left_once before links) (sym c.in-Some.ensures.steps.0)
+          ∙ c.loop-link.invariant.whole) c.if-branch.false;
+    }
+
 pub returns : goal.returns
 returns c =
     let none = no_more (into_iter_items c.loop-link.link-iterator) _ c.loop-link.invariant.size c.in-None.ensures.steps.0 in

@@ -24,12 +24,12 @@ returns c = λ nodes are.
     let same = ap (λ (home : Doc). under_names home.origins (content siblings)) c.of-siblings.ensures.document
     ∙ ap (under_names body.doc.origins) c.of-siblings.ensures.content in
     let all = shown_from outside overlay 0 (named_tree body.doc) in
-    body_shown body nodes anchors marks c.into_html.result are
-    (html_all c.new-page.result c.append_siblings.new.page c.into_html.result all c.new-page.ensures.text
+    body_shown body nodes anchors marks c.in_ok-into_html.field-0 are
+    (html_all c.new-page.result c.append_siblings.new.page c.in_ok-into_html.field-0 all c.new-page.ensures.text
     c.new-page.ensures.faults
     (more_as c.new-page.result c.append_siblings.new.page _ all
     (ap (λ some. shown_from outside some 0 (content_of siblings)) (overlays (overlay_of c.of-overlay.result) overlay
     (c.of-overlay.ensures.links ∙ c.as_slice.ensures) (c.of-overlay.ensures.marks ∙ c.as_slice-2.ensures))
     ∙ ap (shown_from outside overlay 0) same)
     (c.in_ok-append_siblings.ensures outside (c.outside.ensures c.new-page.result.groups)))
-    c.into_html.ensures.bytes c.into_html.ensures.faults)
+    c.in_ok-into_html.ensures.bytes c.in_ok-into_html.ensures.faults)
