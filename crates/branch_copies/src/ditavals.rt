@@ -98,7 +98,7 @@ impl Ditavals {
     {
         let mut tables = Vec::new(alloc);
         for read in &self.read {
-            tables.push(RuleTable::new(alloc, &read.rules)?)?;
+            tables.push(table_of(read)?)?;
         }
         Ok(tables)
     }
@@ -137,4 +137,11 @@ fn append_copies(out: &mut List<Fault>, faults: &[Fault]) -> Result<(), NoMemory
         out.push(fault.clone()?)?;
     }
     Ok(())
+}
+
+// The table of the rules of a DITAVAL.
+fn table_of(read: &RulesRead) -> Result<RuleTable, NoMemory>
+    ensures { IfOk result (λ table. table ≡ read.now.rules) }
+{
+    RuleTable::of(read.rules.clone()?)
 }

@@ -25,7 +25,7 @@ fn goes(alloc: Global, rules: &List<Rule>, lines: &str) -> Result<(bool, bool), 
     let lines = format!(in alloc; "(p\n{lines}\n)p\n")?;
     let doc = document(alloc, lines.as_str())?;
     let names = declared_first(alloc, &doc)?;
-    let table = RuleTable::new(alloc, rules).map_err(|_| AllocError)?;
+    let table = RuleTable::of(rules.clone()?).map_err(|_| AllocError)?;
     let nodes = doc.nodes.as_slice();
     Ok((
         nodes

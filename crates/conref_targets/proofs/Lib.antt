@@ -14,7 +14,6 @@ pub mod PartLaws
 pub mod RangeEndLaws
 pub mod RangeLaws
 pub mod RuleLaws
-pub mod ShownLaws
 pub mod StandLaws
 pub mod StandingLaws
 pub mod TableLaws

@@ -173,7 +173,7 @@ fn rules_of(
         return Ok(None);
     };
     match read_rules(alloc, name, &doc) {
-        Ok(read) => Ok(Some(RuleTable::new(alloc, &read.rules)?)),
+        Ok(read) => Ok(Some(RuleTable::of(read.rules)?)),
         Err(Stop::Fault(NotDitaval)) => Ok(None),
         Err(Stop::NoMemory) => Err(NoMemory),
     }

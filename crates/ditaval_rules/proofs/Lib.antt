@@ -1,7 +1,9 @@
 pub mod DeclarationLaws
-pub mod NameLaws
 pub mod DomainLaws
+pub mod HalvingLaws
+pub mod NameLaws
 pub mod ReadingLaws
 pub mod RuleLaws
+pub mod ShownLaws
 pub mod SubjectLaws
 pub mod TableLaws

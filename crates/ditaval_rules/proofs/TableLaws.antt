@@ -19,7 +19,7 @@ use Rattle.std.proofs.lemmas.Map.Text.{is_eq-slice_cmp}
 use Rattle.dita_doc.specs.declared.content.Action.{Action}
 use Rattle.dita_doc.specs.declared.content.Action.TheVariants as actions
 use Rattle.dita_doc.specs.declared.content.Rule.{Rule}
-use Rattle.ditaval_rules.specs.Aim.{Aim, AreSorted, IsPlaceFor, IsTableOf, aim_cmp, aim_of, deciding_action, first_action, is_below, is_for, text_cmp, val_behind}
+use Rattle.ditaval_rules.specs.Aim.{Aim, AreSorted, IsPlaceFor, IsTableOf, aim_cmp, aim_of, deciding_action, first_action, is_below, is_for, part_cmp, val_behind}
 use Rattle.ditaval_rules.specs.Rules.{is_same_text}
 use Rattle.ditaval_rules.specs.Verdict.{is_this_text, is_for_token, is_for_attribute, is_default, or_else, deciding, is_exclude, decides_exclude, decided as action_of}
 
@@ -166,7 +166,7 @@ module _ (aim : Aim) where
 
 -- The rule that decides a token
 
-text_at : (one other : Option (List ℕ)) → is_eq (text_cmp one other) ≡ is_same_text one other
+text_at : (one other : Option (List ℕ)) → is_eq (part_cmp one other) ≡ is_same_text one other
 text_at None None = refl
 text_at None (Some other) = refl
 text_at (Some one) None = refl
@@ -176,7 +176,7 @@ text_at (Some one) (Some other) = is_eq-slice_cmp one other
 aim_at : (rule : Rule) (aim : Aim) → is_for aim rule
     ≡ (is_same_text rule.att aim.0 && is_same_text (val_behind rule.att rule.val) aim.1)
 aim_at rule aim =
-    let parts = tied_then (text_cmp rule.att aim.0) (text_cmp (val_behind rule.att rule.val) aim.1) in
+    let parts = tied_then (part_cmp rule.att aim.0) (part_cmp (val_behind rule.att rule.val) aim.1) in
     sym parts ∙ rw (text_at rule.att aim.0, text_at (val_behind rule.att rule.val) aim.1) refl
 
 for_token : (att token : List ℕ) (rule_att val : Option (List ℕ))

@@ -20,11 +20,11 @@ abbrev pub aim_of : Rule → Aim
 aim_of rule = (rule.att, val_behind rule.att rule.val)
 
 -- the order of a table
-abbrev pub text_cmp : Option (List ℕ) → Option (List ℕ) → Ordering
-text_cmp one other = option_cmp (slice_cmp nat_cmp) one other
+abbrev pub part_cmp : Option (List ℕ) → Option (List ℕ) → Ordering
+part_cmp one other = option_cmp (slice_cmp nat_cmp) one other
 
 abbrev pub aim_cmp : Aim → Aim → Ordering
-aim_cmp one other = ordering_then (text_cmp one.0 other.0) (text_cmp one.1 other.1)
+aim_cmp one other = ordering_then (part_cmp one.0 other.0) (part_cmp one.1 other.1)
 
 abbrev pub is_for : Aim → Rule → Bool
 is_for aim rule = is_eq (aim_cmp (aim_of rule) aim)

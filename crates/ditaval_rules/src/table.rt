@@ -7,16 +7,15 @@ ghost use Rattle.ditaval_rules.specs.Verdict as spec;
 
 use crate::exclude::{Decides, is_excluded};
 use dita_doc::{Action, Attribute, List, NoMemory, Rule, Text};
-use std::alloc::{AllocError, Global};
 use std::cmp::Ordering;
 use std::marker::Model;
 
 /// A table of rules, in which the deciding rule is found by halving; seen by contracts as the list of
-/// the rules. It has copies of them, so that it may be kept for many pages.
+/// the rules. It owns them, so that it may be kept for many pages.
 #[derive(Drop)]
 pub struct RuleTable {
     rules: List<Rule>,
-    // By what the rules are for; of those for the same, the first rule stands first.
+    // Copies of them, by what the rules are for; of those for the same, the first rule stands first.
     sorted: Vec<Rule>,
 }
 
@@ -33,13 +32,12 @@ impl Model for RuleTable {
 }
 
 impl RuleTable {
-    /// A table of these rules, made in a time linear-logarithmic in their number.
-    pub fn new(alloc: Global, rules: &List<Rule>) -> Result<RuleTable, NoMemory>
-        ensures { IfOk result (λ table. table ≡ rules.now) }
+    /// The table of these rules, made in a time linear-logarithmic in their number.
+    pub fn of(rules: List<Rule>) -> Result<RuleTable, NoMemory>
+        ensures { IfOk result (λ table. table ≡ rules) }
     {
-        let mut sorted = copy_rules(alloc, rules.as_slice())?.into_vec();
+        let mut sorted = rules.clone()?.into_vec();
         sorted.sort_by(|one, other| compare_rules(one, other))?;
-        let rules = copy_rules(alloc, rules.as_slice())?;
         Ok(RuleTable { rules, sorted })
     }
 
@@ -72,35 +70,6 @@ impl Decides for RuleTable {
     fn excludes_token(&self, att: &[u8], token: &[u8]) -> bool {
         let action = deciding(self.sorted.as_slice(), att, token);
         action.is_some_and(|action| action == Action::Exclude)
-    }
-}
-
-fn copy_rules(alloc: Global, rules: &[Rule]) -> Result<List<Rule>, AllocError>
-    ensures { IfOk result (λ copies. copies ≡ rules.now) }
-{
-    let mut copies = List::new(alloc);
-    for rule in rules {
-        copies.push(copy_rule(rule)?)?;
-    }
-    Ok(copies)
-}
-
-fn copy_rule(rule: &Rule) -> Result<Rule, AllocError>
-    ensures { IfOk result (λ copy. copy ≡ rule.now) }
-{
-    Ok(Rule {
-        att: copy_text(&rule.att)?,
-        val: copy_text(&rule.val)?,
-        action: rule.action,
-    })
-}
-
-fn copy_text(text: &Option<Text>) -> Result<Option<Text>, AllocError>
-    ensures { IfOk result (λ copy. copy ≡ text.now) }
-{
-    match text {
-        Some(text) => Ok(Some(text.clone()?)),
-        None => Ok(None),
     }
 }
 
@@ -158,7 +127,7 @@ fn compare(rule: &Rule, att: Option<&[u8]>, val: Option<&[u8]>) -> Ordering
 }
 
 fn compare_texts(one: Option<&[u8]>, other: Option<&[u8]>) -> Ordering
-    ensures { result ≡ aim_spec.text_cmp (option_copied one.entry) (option_copied other.entry) }
+    ensures { result ≡ aim_spec.part_cmp (option_copied one.entry) (option_copied other.entry) }
 {
     match (one, other) {
         (None, None) => Ordering::Equal,

@@ -1,5 +1,4 @@
 pub mod FlagLaws
 pub mod OnceLaws
 pub mod PlaceLaws
-pub mod ShownLaws
 pub mod TokenLaws

@@ -44,7 +44,7 @@ pub fn filter_nodes<R: Reader>(
     ensures grows { Grows (R.told reader.old) (R.told reader.new) }
 {
     let elements = Elements::of(alloc, reader, nodes.as_slice())?;
-    let table = RuleTable::new(alloc, rules)?;
+    let table = RuleTable::of(rules.clone()?)?;
     let Sieve { kept, faults, .. } = sieved(alloc, &elements, nodes.as_slice(), &table)?;
     let nodes = with_ends(kept)?;
     Ok(Expanded { nodes, faults })

@@ -1,7 +1,7 @@
 use Rattle.std.proofs.Common.{rules, tests, nat_lt}
 use Rattle.std.proofs.lemmas.List.Sorted.{IsPartitionPoint-from_clause}
 use Rattle.ditaval_rules.specs.declared.declarations.DeclaredEntry.{DeclaredEntry}
-use Rattle.ditaval_rules.proofs.DeclarationLaws.{cut_before, parted_before}
+use Rattle.ditaval_rules.proofs.HalvingLaws.{cut_before, parted_before}
 use Rattle.ditaval_rules.proofs.declarations.count_before.Goals as goal
 
 pub returns : goal.returns

@@ -1,7 +1,7 @@
 use Rattle.std.proofs.Common.{rules, tests, nat_le}
 use Rattle.std.proofs.lemmas.List.Sorted.{IsPartitionPoint-from_clause}
 use Rattle.ditaval_rules.specs.declared.declarations.DeclaredEntry.{DeclaredEntry}
-use Rattle.ditaval_rules.proofs.DeclarationLaws.{cut_to, parted_to}
+use Rattle.ditaval_rules.proofs.HalvingLaws.{cut_to, parted_to}
 use Rattle.ditaval_rules.proofs.declarations.count_to.Goals as goal
 
 pub returns : goal.returns

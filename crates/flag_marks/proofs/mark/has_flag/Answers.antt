@@ -3,7 +3,7 @@ use Rattle.std.proofs.lemmas.Iterator.{YieldsList-from_slice}
 use Rattle.std.proofs.lemmas.Iterator.Search.{any_from_yields_List}
 use Rattle.dita_doc.specs.declared.content.Rule.{Rule}
 use Rattle.flag_marks.specs.Marks.{have_flag}
-use Rattle.flag_marks.proofs.ShownLaws.{any_shown}
+use Rattle.ditaval_rules.proofs.ShownLaws.{any_shown}
 use Rattle.flag_marks.proofs.mark.has_flag.Goals as goal
 
 pub returns : goal.returns

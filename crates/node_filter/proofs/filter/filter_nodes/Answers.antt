@@ -1,4 +1,5 @@
-use Rattle.std.proofs.Common.{subst}
+use Rattle.std.proofs.Common.{◌∙◌, subst}
+use Rattle.std.specs.List.{each_same}
 use Rattle.readers.specs.Told.{Agrees}
 use Rattle.node_filter.proofs.SieveLaws.{filtered_here}
 use Rattle.node_filter.proofs.filter.filter_nodes.Goals as goal
@@ -6,7 +7,8 @@ use Rattle.node_filter.proofs.filter.filter_nodes.Goals as goal
 pub returns-clause-known : goal.returns-clause-known
 returns-clause-known g c = λ world agrees.
     filtered_here world c.args.rules.now c.in_ok-table.table c.args.nodes.now c.as_slice.result.now c.as_slice-2.result.now
-    c.in_ok-nodes.nodes c.in_ok-elements.elements c.in_ok-kept.field-0 c.in_ok-table.ensures c.as_slice.ensures
+    c.in_ok-nodes.nodes c.in_ok-elements.elements c.in_ok-kept.field-0
+    (c.in_ok-table.ensures ∙ each_same _ _ c.in_ok-clone.ensures.cases) c.as_slice.ensures
     c.as_slice-2.ensures (c.in_ok-elements.ensures.known world agrees) (c.in_ok-elements.ensures.declared world agrees)
     (c.in_ok-kept.ensures world) c.in_ok-nodes.ensures
 
@@ -27,6 +29,18 @@ returns-in_err-elements-clause-asks g c = rw c.as_slice.ensures at c.of.ensures.
 
 pub returns-in_err-elements-clause-grows : goal.returns-in_err-elements-clause-grows
 returns-in_err-elements-clause-grows g c = c.of.ensures.grows
+
+pub returns-in_err-clone-clause-stand : goal.returns-in_err-clone-clause-stand
+returns-in_err-clone-clause-stand g c = c.of.ensures.stand
+
+pub returns-in_err-clone-clause-founded : goal.returns-in_err-clone-clause-founded
+returns-in_err-clone-clause-founded g c = rw c.as_slice.ensures at c.of.ensures.founded
+
+pub returns-in_err-clone-clause-asks : goal.returns-in_err-clone-clause-asks
+returns-in_err-clone-clause-asks g c = rw c.as_slice.ensures at c.of.ensures.asks
+
+pub returns-in_err-clone-clause-grows : goal.returns-in_err-clone-clause-grows
+returns-in_err-clone-clause-grows g c = c.of.ensures.grows
 
 pub returns-in_err-table-clause-stand : goal.returns-in_err-table-clause-stand
 returns-in_err-table-clause-stand g c = c.of.ensures.stand

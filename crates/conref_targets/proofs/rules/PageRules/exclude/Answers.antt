@@ -5,7 +5,7 @@ use Rattle.dita_doc.specs.Shown.{shown}
 use Rattle.dita_doc.specs.declared.content.Rule.{Rule}
 use Rattle.ditaval_rules.specs.Verdict.{excluded}
 use Rattle.conref_targets.specs.Rules.{some_exclude}
-use Rattle.conref_targets.proofs.ShownLaws.{any_shown}
+use Rattle.ditaval_rules.proofs.ShownLaws.{any_shown}
 use Rattle.conref_targets.proofs.rules.PageRules.exclude.Goals as goal
 
 pub returns : goal.returns
