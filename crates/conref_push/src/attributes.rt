@@ -1,19 +1,35 @@
 //! The attributes of pushed copies.
 
-ghost use Rattle.std.specs.Prelude.{◌≡◌, ◌++◌, ◌∷◌, ◌||◌, [], IfOk, OnOk, codes, bytes_eq, if◌then◌else◌};
+ghost use Rattle.std.specs.Prelude.{◌≡◌, ◌++◌, ◌∷◌, ◌||◌, [], ℕ, List, IfOk, OnOk, codes, bytes_eq, if◌then◌else◌};
 ghost use Rattle.std.specs.List.{list_any};
 ghost use Rattle.std.specs.Option.{option_copied};
+ghost use Rattle.conref_push.specs.Making as making_spec;
+ghost use Rattle.conref_push.specs.Sight as sight_spec;
 ghost use Rattle.dita_doc.specs.ClassValue as class_value_spec;
+ghost use Rattle.doc_elements.specs.Walk as walk_spec;
 ghost use Rattle.map_spec.specs.Pushes as pushes_spec;
 
 use dita_doc::{Attribute, List, Node, Text};
 use std::alloc::{AllocError, Global};
 
-// The attributes of a pushed copy: those of the element, without the ones that push.
-pub(crate) fn attributes_beside(
+// The attributes of a copy that is put instead of an element or beside one.
+pub(crate) fn attributes_of(
     alloc: Global,
     element: &Node,
+    replaced: Option<&Node>,
 ) -> Result<List<Attribute>, AllocError>
+    ensures { (name other : List ℕ) → IfOk result (λ kept. kept ≡ (making_spec.pushed_copy
+        (sight_spec.element_before other replaced.entry)
+        (walk_spec.element_of name element.now)).attributes) }
+{
+    match replaced {
+        Some(replaced) => attributes_instead(alloc, element, replaced),
+        None => attributes_beside(alloc, element),
+    }
+}
+
+// The attributes of a pushed copy: those of the element, without the ones that push.
+fn attributes_beside(alloc: Global, element: &Node) -> Result<List<Attribute>, AllocError>
     ensures { IfOk result (λ kept. kept
         ≡ pushes_spec.without_names pushes_spec.pushing_names element.now.attributes) }
 {
@@ -26,7 +42,7 @@ pub(crate) fn attributes_beside(
 }
 
 // The same of a copy that replaces an element, whose id it takes.
-pub(crate) fn attributes_instead(
+fn attributes_instead(
     alloc: Global,
     element: &Node,
     replaced: &Node,

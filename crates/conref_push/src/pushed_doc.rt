@@ -23,13 +23,13 @@ ghost use Rattle.readers.specs.Only.{TellsOnly};
 ghost use Rattle.readers.specs.Told.{Agrees};
 
 use crate::acts::acts;
-use crate::attributes::{attributes_beside, attributes_instead};
+use crate::attributes::attributes_of;
 use crate::sources::PushSources;
 use crate::table::copy_push;
-use dita_doc::{Attribute, Doc, First, List, Name, NoMemory, Node, Push, PushKind, Siblings};
+use dita_doc::{Doc, First, List, Name, NoMemory, Node, Push, PushKind, Siblings};
 use doc_maker::DocMaker;
 use readers::Reader;
-use std::alloc::{AllocError, Global};
+use std::alloc::Global;
 use std::collections::BTreeMap;
 use std::sync::Arc;
 
@@ -429,22 +429,6 @@ fn is_of_kind(kind: PushKind, push: &Push) -> bool
         PushKind::Before => matches!(push.kind, PushKind::Before),
         PushKind::After => matches!(push.kind, PushKind::After),
         PushKind::Replace => matches!(push.kind, PushKind::Replace),
-    }
-}
-
-// The attributes of a copy that is put instead of an element or beside one.
-fn attributes_of(
-    alloc: Global,
-    element: &Node,
-    replaced: Option<&Node>,
-) -> Result<List<Attribute>, AllocError>
-    ensures { (name other : List ℕ) → IfOk result (λ kept. kept ≡ (making_spec.pushed_copy
-        (sight_spec.element_before other replaced.entry)
-        (walk_spec.element_of name element.now)).attributes) }
-{
-    match replaced {
-        Some(replaced) => attributes_instead(alloc, element, replaced),
-        None => attributes_beside(alloc, element),
     }
 }
 

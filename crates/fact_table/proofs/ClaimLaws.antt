@@ -1,16 +1,15 @@
 -- Claims that run, found one by one.
-use Rattle.std.proofs.Common.{◌≡◌, ◌∙◌, ◌+◌, ◌<◌, ◌≤◌, ◌⊎◌, ◌==◌, ℕ, zero, suc, Bool, true, false, not, List, [], ◌∷◌, Some, refl, sym, ap, subst, inl, inr, length, map, filter, option_map, slice_get, get_or, if◌then◌else◌, arith}
+use Rattle.std.proofs.Common.{◌≡◌, ◌∙◌, ◌+◌, ◌<◌, ◌≤◌, ◌⊎◌, ◌==◌, ℕ, zero, suc, Bool, true, false, not, List, [], ◌∷◌, Some, refl, sym, ap, subst, inl, inr, length, option_map, slice_get, get_or, if◌then◌else◌, arith}
 use Rattle.std.proofs.lemmas.Bool.{false≢true}
 use Rattle.std.proofs.lemmas.Bool.Decides.{nat_tests}
-use Rattle.std.proofs.lemmas.List.{length-map}
 use Rattle.std.proofs.lemmas.Option.{none-some, same_Some, slice_get-map, slice_get_read, slice_get_within}
 use Rattle.dita_doc.specs.declared.fact.FactKey.{FactKey}
 use Rattle.facts.specs.Judged.{Tells}
-use Rattle.facts.specs.Latest.{NoneRuns, Runs}
+use Rattle.facts.specs.Latest.{NoneRuns}
 use Rattle.facts.specs.Rows.{Running, Stands}
 use Rattle.facts.specs.Table.{others}
 use Rattle.fact_table.proofs.MemoLaws.{IsMade, made_from}
-use Rattle.fact_table.specs.Claims.{AreNamesOf, IsFor, IsSerialFor, RunsOf, TellsRunning, claim_seen, claims_seen}
+use Rattle.fact_table.specs.Claims.{AreNamesOf, IsFor, IsSerialFor, RunsOf, claim_seen, claims_seen}
 use Rattle.fact_table.specs.declared.claims.RunningClaim.{RunningClaim}
 
 -- what an answer tells

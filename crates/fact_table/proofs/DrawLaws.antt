@@ -1,10 +1,10 @@
 -- A table whose shelf has made room, and a claim that is put behind the others.
-use Rattle.std.proofs.Common.{◌≡◌, ◌∙◌, ◌+◌, ◌<◌, ◌≤◌, ◌⊎◌, ◌^◌, ℕ, List, [], ◌∷◌, ◌++◌, refl, sym, ap, subst, inl, inr, length, arith, length-append}
+use Rattle.std.proofs.Common.{◌≡◌, ◌∙◌, ◌+◌, ◌<◌, ◌≤◌, ◌^◌, ℕ, List, [], ◌∷◌, ◌++◌, sym, ap, subst, inl, inr, length, arith, length-append}
 use Rattle.std.specs.VecDeque.{deque_capacity, deque_len}
 use Rattle.dita_doc.specs.Desk.{State}
 use Rattle.dita_doc.specs.declared.fact.FactKey.{FactKey}
 use Rattle.facts.proofs.Places.{push_at}
-use Rattle.facts.specs.Rows.{Claim, Running, Stands, claim_of}
+use Rattle.facts.specs.Rows.{Claim, Running}
 use Rattle.facts.specs.Table.{TableData, next_claim}
 use Rattle.fact_table.specs.Claims.{claim_seen, claims_seen}
 use Rattle.fact_table.specs.Inside.{IsTable, data_seen}

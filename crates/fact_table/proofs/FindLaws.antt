@@ -1,18 +1,17 @@
 -- Rows that are read at their ranks, while the rows of a key are sought.
-use Rattle.std.proofs.Common.{◌≡◌, ◌∙◌, ◌+◌, ◌-◌, ◌<◌, ◌≤◌, ℕ, Bool, true, false, List, Some, refl, sym, ap, subst, inl, inr, length, option_map, slice_get, slice_index_or, arith}
+use Rattle.std.proofs.Common.{◌≡◌, ◌∙◌, ◌+◌, ◌-◌, ◌<◌, ◌≤◌, ℕ, Bool, List, Some, sym, ap, subst, inl, inr, length, option_map, slice_get, slice_index_or, arith}
 use Rattle.std.proofs.lemmas.List.{length-map}
 use Rattle.std.proofs.lemmas.Option.{slice_get-map, slice_get_read, slice_get_within}
 use Rattle.dita_doc.specs.Desk.{State}
 use Rattle.dita_doc.specs.declared.fact.FactKey.{FactKey}
 use Rattle.facts.specs.Judged.{BuildKey, Tells}
-use Rattle.facts.specs.Latest.{Agrees, FactAgrees, IsLast}
-use Rattle.facts.specs.Memo.{MayNote, PlanAgrees}
+use Rattle.facts.specs.Latest.{FactAgrees, IsLast}
+use Rattle.facts.specs.Memo.{PlanAgrees}
 use Rattle.facts.specs.Rows.{RowData, Stands}
 use Rattle.facts.specs.declared.fact.Fact.{Fact}
 use Rattle.facts.specs.declared.judged.Judged.{Judged}
-use Rattle.fact_table.specs.Noted.{MayClaim, MayGrow, MayJudge}
+use Rattle.fact_table.specs.Noted.{MayJudge}
 use Rattle.fact_table.specs.Shelf.{IsNewest, IsShelf, row_of_kept, rows_seen}
-use Rattle.fact_table.specs.declared.memo.Noted.{Noted}
 use Rattle.fact_table.specs.declared.shelf.Kept.{Kept}
 use Rattle.fact_table.specs.declared.shelf.Shelf.{Shelf}
 use Rattle.fact_table.proofs.WalkLaws.{Walk, goes_on, is_last, lower, of_key}

@@ -6,6 +6,7 @@ pub mod MemoLaws
 pub mod ClaimLaws
 pub mod FindLaws
 pub mod ShelfLaws
+pub mod FieldLaws
 pub mod TableLaws
 pub mod DrawLaws
 pub mod PublishLaws

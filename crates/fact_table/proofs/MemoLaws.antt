@@ -5,12 +5,12 @@ use Rattle.dita_doc.specs.Desk.{State}
 use Rattle.dita_doc.specs.declared.fact.FactKey.{FactKey}
 use Rattle.facts.specs.Judged.{BuildKey, Tells}
 use Rattle.facts.specs.Latest.{FactAgrees}
-use Rattle.facts.specs.Memo.{AreRight, IsNew, IsOf, IsRight, MayNote, PlanAgrees}
+use Rattle.facts.specs.Memo.{AreRight, IsNew, IsRight, MayNote, PlanAgrees}
 use Rattle.facts.specs.Rows.{RowData, Stands, plan_in, plan_serial}
 use Rattle.facts.specs.declared.fact.Fact.{Fact}
 use Rattle.facts.specs.declared.fact.PlanFact.{PlanFact}
 use Rattle.facts.specs.declared.judged.Judged.{Judged}
-use Rattle.fact_table.specs.Noted.{AddsAtMost, AllHaveRows, AreRaised, HasRow, IsKnown, IsNoted, IsRaised, MayClaim, MayGrow, MayJudge, judged_of, judged_seen}
+use Rattle.fact_table.specs.Noted.{AddsAtMost, AllHaveRows, AreRaised, IsKnown, IsNoted, IsRaised, MayClaim, MayGrow, judged_of, judged_seen}
 use Rattle.fact_table.specs.declared.memo.Noted.{Noted}
 
 -- an element of a list that is made of another stands for one of the other

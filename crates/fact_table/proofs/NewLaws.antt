@@ -1,11 +1,11 @@
 -- What holds inside of a table without rows and claims.
-use Rattle.std.proofs.Common.{◌≡◌, ◌+◌, ◌<◌, ◌≤◌, ◌^◌, ℕ, List, [], Some, refl, sym, ap, ◌∙◌, subst, length, map, slice_get, arith}
+use Rattle.std.proofs.Common.{◌≡◌, ◌<◌, ◌^◌, List, [], sym, ap, ◌∙◌, length, slice_get, arith}
 use Rattle.std.proofs.lemmas.Option.{none-some}
-use Rattle.std.specs.VecDeque.{deque_capacity, deque_len}
-use Rattle.facts.specs.Rows.{RowData, Running, Stands}
+use Rattle.std.specs.VecDeque.{deque_len}
+use Rattle.facts.specs.Rows.{Stands}
 use Rattle.facts.specs.Table.{size}
 use Rattle.fact_table.specs.Claims.{claims_seen}
-use Rattle.fact_table.specs.Inside.{IsTable, data_seen}
+use Rattle.fact_table.specs.Inside.{IsTable}
 use Rattle.fact_table.specs.Shelf.{IsShelf, rows_seen}
 use Rattle.fact_table.specs.declared.table.Table.TheInside.{Inside}
 

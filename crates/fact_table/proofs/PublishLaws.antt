@@ -7,11 +7,11 @@ use Rattle.std.specs.Coded.{Coded-set, coded_ℕ}
 use Rattle.std.specs.VecDeque.{deque_capacity, deque_len}
 use Rattle.dita_doc.specs.declared.fact.FactKey.{FactKey}
 use Rattle.facts.proofs.Places.{filtered_at}
-use Rattle.facts.specs.Rows.{Claim, RowData, Running, Stands, claim_of, plan_serial, serial_of_plan}
-use Rattle.facts.specs.Table.{left, made, others, row_bytes, row_of, size, value_bytes, with_row}
+use Rattle.facts.specs.Rows.{Claim, RowData, Running, Stands, claim_of, plan_serial}
+use Rattle.facts.specs.Table.{left, made, others, row_of, size, value_bytes, with_row}
 use Rattle.facts.specs.contracts.fact.Fact.{the_row}
 use Rattle.facts.specs.declared.fact.Fact.{Fact}
-use Rattle.fact_table.specs.Answers.{IsRunning, RunsAs}
+use Rattle.fact_table.specs.Answers.{IsRunning}
 use Rattle.fact_table.specs.Claims.{AreNamesOf, claim_seen, claims_seen}
 use Rattle.fact_table.specs.Inside.{IsTable, data_seen}
 use Rattle.fact_table.specs.Noted.{AreRaised, remembered}
@@ -21,7 +21,8 @@ use Rattle.fact_table.specs.declared.claims.RunningClaim.{RunningClaim}
 use Rattle.fact_table.specs.declared.memo.Noted.{Noted}
 use Rattle.fact_table.specs.declared.shelf.Shelf.{Shelf}
 use Rattle.fact_table.specs.declared.table.Table.TheInside.{Inside}
-use Rattle.fact_table.proofs.TableLaws.{Publishes, one_claim, same_row}
+use Rattle.fact_table.proofs.FieldLaws.{same_row}
+use Rattle.fact_table.proofs.TableLaws.{Publishes, one_claim}
 
 -- Room and numbers
 

@@ -1,15 +1,15 @@
 -- Rows by their ranks: with one more row behind, without the first row, and without a key that has no row.
-use Rattle.std.proofs.Common.{◌≡◌, ◌∙◌, ◌+◌, ◌-◌, ◌<◌, ◌≤◌, ◌⊎◌, ℕ, zero, suc, Bool, true, false, List, [], ◌∷◌, ◌++◌, Some, refl, sym, ap, subst, inl, inr, length, map, slice_get, if◌then◌else◌, nat_le, arith, length-append}
+use Rattle.std.proofs.Common.{◌≡◌, ◌∙◌, ◌+◌, ◌-◌, ◌<◌, ◌≤◌, ◌⊎◌, ℕ, suc, Bool, true, false, List, [], ◌∷◌, ◌++◌, Some, refl, sym, ap, subst, inl, inr, length, slice_get, if◌then◌else◌, nat_le, arith, length-append}
 use Rattle.std.proofs.lemmas.Bool.Decides.{leb_tells}
 use Rattle.std.proofs.lemmas.List.{length-map}
 use Rattle.std.proofs.lemmas.List.Sums.{sum_by-append}
-use Rattle.std.proofs.lemmas.Option.{same_Some, slice_get_within}
+use Rattle.std.proofs.lemmas.Option.{slice_get_within}
 use Rattle.dita_doc.specs.declared.fact.FactKey.{FactKey}
 use Rattle.facts.proofs.Places.{push_at, slice_get-push}
 use Rattle.facts.proofs.TableLaws.{left_whole}
 use Rattle.facts.specs.Rows.{RowData, Running, Stands}
 use Rattle.facts.specs.Table.{left, size}
-use Rattle.fact_table.specs.Ranks.{AreSame, IsKnown, IsRenewed, Ranks, rank_in}
+use Rattle.fact_table.specs.Ranks.{AreSame, IsRenewed, Ranks, rank_in}
 use Rattle.fact_table.specs.Shelf.{AreKept, IsNewest, IsShelf, KnowsClaims, StandsAt, row_of_kept, rows_of, rows_seen}
 use Rattle.fact_table.specs.declared.shelf.Kept.{Kept}
 use Rattle.fact_table.specs.declared.shelf.Shelf.{Shelf}

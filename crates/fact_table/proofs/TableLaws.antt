@@ -1,5 +1,5 @@
 -- What a table holds inside, after its rows and claims have changed.
-use Rattle.std.proofs.Common.{◌≡◌, ◌∙◌, ◌+◌, ◌-◌, ◌<◌, ◌≤◌, ◌^◌, ◌⊎◌, ◌==◌, ℕ, not, true, List, [], ◌∷◌, ◌++◌, Some, refl, sym, ap, subst, inl, inr, length, map, slice_get, arith, length-append}
+use Rattle.std.proofs.Common.{◌≡◌, ◌∙◌, ◌+◌, ◌-◌, ◌<◌, ◌≤◌, ◌^◌, ◌⊎◌, ◌==◌, ℕ, not, true, List, [], ◌∷◌, ◌++◌, Some, refl, sym, ap, subst, inl, inr, length, slice_get, arith, length-append}
 use Rattle.std.proofs.lemmas.Bool.Decides.{nat_tests}
 use Rattle.std.proofs.lemmas.List.{length-map}
 use Rattle.std.proofs.lemmas.Option.{same_Some, slice_get_within}
@@ -10,50 +10,22 @@ use Rattle.facts.proofs.Places.{IsEnd, WasAt, WereBehind, filtered_at, filtered_
 use Rattle.facts.proofs.TableLaws.{left_ends, left_fits}
 use Rattle.facts.specs.Memo.{HaveRows}
 use Rattle.facts.specs.Rows.{RowData, Running, Stands, plan_serial, serial_of_plan}
-use Rattle.facts.specs.Table.{TableData, claimed, left, made, next_claim, others, published, released, row_bytes, row_of, size, with_row}
+use Rattle.facts.specs.Table.{TableData, claimed, left, made, next_claim, others, published, released, row_of, size, with_row}
 use Rattle.facts.specs.declared.fact.Fact.{Fact}
 use Rattle.facts.specs.declared.judged.Judged.{Judged}
 use Rattle.fact_table.specs.Answers.{AreAmong}
 use Rattle.fact_table.specs.Claims.{claim_seen, claims_seen}
-use Rattle.fact_table.specs.Inside.{AreDrawn, AreWords, HasRoom, IsTable, data_seen}
+use Rattle.fact_table.specs.Inside.{AreDrawn, AreWords, IsTable, data_seen}
 use Rattle.fact_table.specs.Noted.{AllHaveRows, AreRaised, HasRow, IsRaised, is_behind, judged_of, judged_seen, remembered}
 use Rattle.fact_table.specs.Shelf.{IsShelf, KnowsClaims, row_of_kept, rows_seen}
 use Rattle.fact_table.specs.declared.memo.Noted.{Noted}
 use Rattle.fact_table.specs.declared.shelf.Shelf.{Shelf}
 use Rattle.fact_table.specs.declared.table.Table.TheInside.{Inside}
 use Rattle.fact_table.proofs.ClaimLaws.{fewer}
+use Rattle.fact_table.proofs.FieldLaws.{same_table}
 use Rattle.fact_table.proofs.ListLaws.{end_length, still_at}
 use Rattle.fact_table.proofs.MemoLaws.{IsMade, made_from, made_of}
 use Rattle.fact_table.proofs.WalkLaws.{lower}
-
--- Tables and rows by their fields
-
-abbrev table_of : List RowData → List Running → ℕ → ℕ → ℕ → TableData
-table_of rows running drawn dropped limit =
-    record { rows = rows; running = running; drawn = drawn; dropped = dropped; limit = limit }
-
-pub same_table : (a b : TableData) → a.rows ≡ b.rows → a.running ≡ b.running → a.drawn ≡ b.drawn
-    → a.dropped ≡ b.dropped → a.limit ≡ b.limit → a ≡ b
-same_table a b rows running drawn dropped limit =
-    ap (λ (x : List RowData). table_of x a.running a.drawn a.dropped a.limit) rows
-    ∙ ap (λ (x : List Running). table_of b.rows x a.drawn a.dropped a.limit) running
-    ∙ ap (λ (x : ℕ). table_of b.rows b.running x a.dropped a.limit) drawn
-    ∙ ap (λ (x : ℕ). table_of b.rows b.running b.drawn x a.limit) dropped
-    ∙ ap (λ (x : ℕ). table_of b.rows b.running b.drawn b.dropped x) limit
-
-abbrev row_by : ℕ → ℕ → ℕ → ℕ → ℕ → Fact → RowData
-row_by serial stamp rank mark bytes fact =
-    record { serial = serial; stamp = stamp; rank = rank; mark = mark; bytes = bytes; fact = fact }
-
-pub same_row : (a b : RowData) → a.serial ≡ b.serial → a.stamp ≡ b.stamp → a.rank ≡ b.rank → a.mark ≡ b.mark
-    → a.bytes ≡ b.bytes → a.fact ≡ b.fact → a ≡ b
-same_row a b serial stamp rank mark bytes fact =
-    ap (λ (x : ℕ). row_by x a.stamp a.rank a.mark a.bytes a.fact) serial
-    ∙ ap (λ (x : ℕ). row_by b.serial x a.rank a.mark a.bytes a.fact) stamp
-    ∙ ap (λ (x : ℕ). row_by b.serial b.stamp x a.mark a.bytes a.fact) rank
-    ∙ ap (λ (x : ℕ). row_by b.serial b.stamp b.rank x a.bytes a.fact) mark
-    ∙ ap (λ (x : ℕ). row_by b.serial b.stamp b.rank b.mark x a.fact) bytes
-    ∙ ap (λ (x : Fact). row_by b.serial b.stamp b.rank b.mark b.bytes x) fact
 
 -- Numbers
 

@@ -1,6 +1,6 @@
 -- Rows of a key, found from its newest on: how far the search has come.
-use Rattle.std.proofs.Common.{◌≡◌, ◌+◌, ◌-◌, ◌<◌, ◌≤◌, ◌⊎◌, ℕ, zero, suc, List, Option, Some, None, refl, sym, ap, ◌∙◌, subst, inl, inr, length, map, slice_get, arith}
-use Rattle.std.proofs.lemmas.Option.{none-some, same_Some, slice_get-map, slice_get_within}
+use Rattle.std.proofs.Common.{◌≡◌, ◌+◌, ◌-◌, ◌<◌, ◌≤◌, ◌⊎◌, ℕ, zero, suc, List, Some, sym, ap, ◌∙◌, subst, inl, inr, length, slice_get, arith}
+use Rattle.std.proofs.lemmas.Option.{same_Some, slice_get_within}
 use Rattle.dita_doc.specs.Desk.{State}
 use Rattle.dita_doc.specs.declared.fact.FactKey.{FactKey}
 use Rattle.facts.specs.Latest.{FactAgrees, IsLast, NoneAgrees, NoneFrom}

@@ -1,9 +1,9 @@
 -- What a claim and a publish are answered (own).
-use Rattle.std.specs.Prelude.{◌≡◌, ◌+◌, ◌-◌, ℕ, List, length}
+use Rattle.std.specs.Prelude.{◌≡◌, List}
 use Rattle.facts.specs.Latest as latest
 use Rattle.facts.specs.Latest.{ClaimAnswer}
 use Rattle.facts.specs.Rows.{Claim, RowData, Running, Stands, claim_of, row_data}
-use Rattle.facts.specs.Table.{TableData, left, published, row_of}
+use Rattle.facts.specs.Table.{TableData, published, row_of}
 use Rattle.facts.specs.declared.fact.Fact.{Fact}
 use Rattle.fact_table.specs.declared.ticket.Claimed.{Claimed}
 use Rattle.fact_table.specs.declared.ticket.Claimed.TheVariants.{Have, Taken, Yours}

@@ -1,5 +1,5 @@
 -- Claims that run, as data (own).
-use Rattle.std.specs.Prelude.{◌≡◌, ◌≤◌, ◌+◌, ℕ, Bool, true, false, List, Option, IsSome, length, map}
+use Rattle.std.specs.Prelude.{◌≡◌, ℕ, Bool, List, length, map}
 use Rattle.std.specs.Arc.{arc_value}
 use Rattle.dita_doc.specs.declared.fact.FactKey.{FactKey}
 use Rattle.facts.specs.Judged.{Tells}

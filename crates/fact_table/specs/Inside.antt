@@ -1,5 +1,5 @@
 -- What holds inside of a table (own).
-use Rattle.std.specs.Prelude.{◌≡◌, ◌+◌, ◌<◌, ◌≤◌, ◌^◌, ℕ, List, Some, length, slice_get}
+use Rattle.std.specs.Prelude.{◌≡◌, ◌+◌, ◌<◌, ◌≤◌, ◌^◌, ℕ, Some, length, slice_get}
 use Rattle.std.specs.VecDeque.{deque_capacity, deque_len}
 use Rattle.facts.specs.Rows.{Running, Stands}
 use Rattle.facts.specs.Table.{TableData, made, size}

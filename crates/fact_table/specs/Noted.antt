@@ -1,12 +1,11 @@
 -- Judgements of plans that a table keeps, each with the rank of the last row that is known to rest on the plan (own); and
 -- what a claim must know of rows so that they may be judged.
-use Rattle.std.specs.Prelude.{◌≡◌, ◌⊎◌, ◌≤◌, ◌<◌, ◌+◌, ◌++◌, ◌∷◌, [], ℕ, Bool, List, filter, map, nat_lt, if◌then◌else◌, nat_le}
+use Rattle.std.specs.Prelude.{◌≡◌, ◌⊎◌, ℕ, Bool, List, filter, map, nat_lt, if◌then◌else◌, nat_le}
 use Rattle.dita_doc.specs.Desk.{State}
 use Rattle.dita_doc.specs.declared.fact.FactKey.{FactKey}
 use Rattle.facts.specs.Judged.{BuildKey, HasAgreed, build_key}
 use Rattle.facts.specs.Latest.{FactAgrees}
-use Rattle.facts.specs.Memo as memo
-use Rattle.facts.specs.Memo.{AreRight, IsNew, IsOf, IsRight, PlanAgrees}
+use Rattle.facts.specs.Memo.{AreRight, IsOf, IsRight, PlanAgrees}
 use Rattle.facts.specs.Rows.{RowData, Stands, plan_in, plan_serial}
 use Rattle.facts.specs.declared.fact.Fact.{Fact}
 use Rattle.facts.specs.declared.judged.Judged.{Judged}

@@ -1,5 +1,4 @@
-use Rattle.std.proofs.Common.{◌∙◌, ◌≡◌, ◌+◌, ◌-◌, ◌≤◌, arith, refl, rules}
-use Rattle.fact_table.specs.Shelf.{row_of_kept}
+use Rattle.std.proofs.Common.{arith, refl}
 use Rattle.fact_table.proofs.ShelfLaws.{drop_is, first_low}
 use Rattle.fact_table.proofs.shelf.Shelf.drop_first.Goals as goal
 

@@ -1,11 +1,10 @@
 -- The search begins behind all rows, and goes from each row of the key to the one before it.
-use Rattle.std.proofs.Common.{◌≡◌, ◌∙◌, rules, arith, length, refl, sym, subst, true, false}
+use Rattle.std.proofs.Common.{◌∙◌, rules, length, refl, sym, subst, true, false}
 use Rattle.dita_doc.specs.Desk.{State}
 use Rattle.facts.specs.Latest.{Agrees, IsLast}
-use Rattle.facts.specs.Rows.{RowData, row_data}
+use Rattle.facts.specs.Rows.{RowData}
 use Rattle.fact_table.specs.Noted.{MayGrow, judged_seen}
 use Rattle.fact_table.specs.Shelf.{IsNewest, row_of_kept, rows_seen}
-use Rattle.fact_table.specs.declared.memo.Noted.{Noted}
 use Rattle.fact_table.proofs.FindLaws.{IsRead, agreed_last, is_within, may_judge, older_lower, row_of_key, row_stands, tells_first, walk_on}
 use Rattle.fact_table.proofs.MemoLaws.{may_claim_more, notes_more, notes_nothing, rows_more}
 use Rattle.fact_table.proofs.WalkLaws.{begins, ends}

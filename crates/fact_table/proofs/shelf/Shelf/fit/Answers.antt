@@ -1,4 +1,4 @@
-use Rattle.std.proofs.Common.{◌∙◌, ◌≡◌, ◌+◌, ◌<◌, ◌≤◌, arith, ap, length, refl, subst, sym}
+use Rattle.std.proofs.Common.{◌∙◌, ◌<◌, arith, ap, length, refl, subst, sym}
 use Rattle.facts.specs.Rows.{row_data}
 use Rattle.facts.specs.Table.{left}
 use Rattle.fact_table.specs.Claims.{claims_seen}

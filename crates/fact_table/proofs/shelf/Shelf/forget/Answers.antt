@@ -1,4 +1,4 @@
-use Rattle.std.proofs.Common.{◌≤◌, ◌≡◌, arith, refl, subst}
+use Rattle.std.proofs.Common.{arith, refl}
 use Rattle.fact_table.specs.Claims.{RunsOf, claims_seen}
 use Rattle.fact_table.proofs.ClaimLaws.{told_no}
 use Rattle.fact_table.proofs.ShelfLaws.{forget_is, knows_others}

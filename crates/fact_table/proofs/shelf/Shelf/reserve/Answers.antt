@@ -1,4 +1,4 @@
-use Rattle.std.proofs.Common.{arith, refl}
+use Rattle.std.proofs.Common.{refl}
 use Rattle.fact_table.proofs.KeyLaws.{same_ranks}
 use Rattle.fact_table.proofs.ShelfLaws.{reserve_is}
 use Rattle.fact_table.proofs.shelf.Shelf.reserve.Goals as goal

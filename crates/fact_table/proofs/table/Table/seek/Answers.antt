@@ -1,4 +1,4 @@
-use Rattle.std.proofs.Common.{◌∙◌, ap, refl, subst, sym, IfOk, Option}
+use Rattle.std.proofs.Common.{ap, refl, subst, sym, IfOk}
 use Rattle.facts.specs.Latest.{Agrees, IsLatest}
 use Rattle.facts.specs.Memo.{MayNote}
 use Rattle.fact_table.specs.Noted.{MayClaim, judged_seen}
