@@ -40,9 +40,7 @@ fn a_part_is_granted_met_published_and_had(rt: HostRuntime) -> Result<(), Fail> 
     assert!(rt; matches!(&met, Claimed::Taken(1)));
     let row = publish(&rt, &desk, &mut first, ticket, part, &snapshot);
     assert_eq!(rt; numbers(&row), [1, 1, 1, 1, 101]);
-    let Claimed::Have(had) = claim(&rt, alloc, &desk, &mut third, &key, &snapshot)? else {
-        return Err(Fail::new("not had"));
-    };
+    let had = row_of(claim(&rt, alloc, &desk, &mut third, &key, &snapshot)?)?;
     assert_eq!(rt; numbers(&had), [1, 1, 1, 1, 101]);
     desk.join(&mut pass, first);
     desk.join(&mut pass, second);
@@ -91,6 +89,14 @@ fn a_claim_is_released(rt: HostRuntime) -> Result<(), Fail> {
     Ok(())
 }
 
+// The row with which a claim is answered.
+fn row_of(answer: Claimed) -> Result<Row, Fail> {
+    match answer {
+        Claimed::Have(row) => Ok(row),
+        Claimed::Yours(_) | Claimed::Taken(_) => Err(Fail::new("not had")),
+    }
+}
+
 // A plan that was claimed for one build is had by it and by the next. Two texts are put, so the
 // build at place 2 has the stamp 2 and two names. Its plan is granted under the first serial, and a
 // second hand meets that claim. A text is put anew before the plan is published: the mark is still
@@ -121,16 +127,12 @@ fn a_plan_serves_two_builds(rt: HostRuntime) -> Result<(), Fail> {
     assert!(rt; matches!(&stored, (3, Reply::Stored(4))));
     let row = publish(&rt, &desk, &mut first, ticket, part, &snapshot);
     assert_eq!(rt; numbers(&row), [1, 2, 1, 1, 128]);
-    let Claimed::Have(had) = claim(&rt, alloc, &desk, &mut second, &key, &snapshot)? else {
-        return Err(Fail::new("not had"));
-    };
+    let had = row_of(claim(&rt, alloc, &desk, &mut second, &key, &snapshot)?)?;
     assert_eq!(rt; numbers(&had), [1, 2, 1, 1, 128]);
     let (place, later) = begin(&rt, alloc, &desk, &mut pass, 5, &map)?;
     assert_eq!(rt; (place, later.stamp), (4, 4));
     let mut third = hired(&desk, &mut pass, &later);
-    let Claimed::Have(had) = claim(&rt, alloc, &desk, &mut third, &key, &later)? else {
-        return Err(Fail::new("not had by the next build"));
-    };
+    let had = row_of(claim(&rt, alloc, &desk, &mut third, &key, &later)?)?;
     assert_eq!(rt; numbers(&had), [1, 2, 1, 1, 128]);
     desk.join(&mut pass, first);
     desk.join(&mut pass, second);
