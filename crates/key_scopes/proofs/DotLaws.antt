@@ -1,4 +1,4 @@
--- A key that begins with a name and a dot: where it is cut, and the names that fit at each dot.
+-- A key that begins with a name and a dot: where it is cut, and of some chosen names those that fit at each dot.
 use Rattle.std.specs.Prelude.{◌≡◌, ◌+◌, ◌<◌, ◌≤◌, ◌==◌, ◌&&◌, ◌||◌, ◌⊎◌, ℕ, zero, suc, Bool, true, false, List, [], ◌∷◌, ◌++◌, Option, Some, None, bytes_eq, codes, drop, find, is_some, length, nat_lt, option_map, take, if◌then◌else◌}
 use Rattle.std.specs.List.{All}
 use Rattle.std.proofs.Common.{refl, sym, ap, ◌∙◌, arith, get_or, inl, inr}
@@ -7,12 +7,12 @@ use Rattle.std.proofs.lemmas.Bool.Decides.{nat_tests}
 use Rattle.std.proofs.lemmas.List.{length-take}
 use Rattle.std.proofs.lemmas.List.Elements.{All-cons, All-head, All-nil, All-tail, All-weaker}
 use Rattle.dita_doc.specs.declared.plan.Scope.{Scope}
-use Rattle.dita_doc.proofs.Tests.{equal_text, first_holds, same_text, second_holds}
+use Rattle.dita_doc.proofs.Tests.{equal_text, same_text, second_holds}
 use Rattle.key_scopes.specs.declared.children.ChildName.{ChildName}
 use Rattle.key_scopes.specs.Children.{AreChildNames, all_names, is_named, those_named}
-use Rattle.key_scopes.specs.Ways.{Way, is_behind, is_earlier, leads, next_way, way_in}
+use Rattle.key_scopes.specs.Ways.{leads, way_in}
 use Rattle.key_scopes.proofs.FirstLaws.{find_filter}
-use Rattle.key_scopes.proofs.TurnLaws.{all_in_turn, find_either, find_neither, found_passes, is_not_behind}
+use Rattle.key_scopes.proofs.TurnLaws.{all_in_turn, find_either, find_neither, is_not_behind}
 use Rattle.map_spec.specs.Scopes.{behind}
 
 abbrev pub behind_dot : List ℕ → List ℕ → Option (List ℕ)
@@ -60,13 +60,13 @@ cut_there (suc dot) (c ∷ key) d within is =
     let more : suc (dot + 1) ≡ suc dot + 1 = omega arith in
     rw test (cut_there dot key d (omega arith) is ∙ ap (λ n. Some (drop n (c ∷ key))) more)
 
--- A name that fits, up to so many bytes
+-- A name of those chosen that fits, up to so many bytes
 
-abbrev pub fits : ℕ → ℕ → List ℕ → Option Way → ChildName → Bool
-fits dots scope key last name = nat_lt (length name.name) dots && (leads scope key name && is_behind last name)
+abbrev pub fits : ℕ → ℕ → List ℕ → (ChildName → Bool) → ChildName → Bool
+fits dots scope key chosen name = nat_lt (length name.name) dots && (leads scope key name && chosen name)
 
-abbrev pub fits_at : ℕ → ℕ → List ℕ → Option Way → ChildName → Bool
-fits_at dot scope key last name = is_named scope (take dot key) name && is_behind last name
+abbrev pub fits_at : ℕ → ℕ → List ℕ → (ChildName → Bool) → ChildName → Bool
+fits_at dot scope key chosen name = is_named scope (take dot key) name && chosen name
 
 -- what is left of the test if a name leads on
 fits_dot : (dot scope : ℕ) (key : List ℕ) (name : List ℕ) (d : ℕ) → dot < length key → get_or key dot d ≡ 46
@@ -220,20 +220,20 @@ kept a false c p m e = by_four a c p m
     by_four false true true m = refl
     by_four false true false m = refl
 
-pub fits_more : (dot scope : ℕ) (key : List ℕ) (last : Option Way) (name : ChildName) (d : ℕ) → dot < length key
-    → get_or key dot d ≡ 46
-    → fits (dot + 1) scope key last name ≡ (fits dot scope key last name || fits_at dot scope key last name)
-fits_more dot scope key last name d within is =
+pub fits_more : (dot scope : ℕ) (key : List ℕ) (chosen : ChildName → Bool) (name : ChildName) (d : ℕ)
+    → dot < length key → get_or key dot d ≡ 46
+    → fits (dot + 1) scope key chosen name ≡ (fits dot scope key chosen name || fits_at dot scope key chosen name)
+fits_more dot scope key chosen name d within is =
     shuffled (nat_lt (length name.name) (dot + 1)) (is_some (behind_dot name.name key)) (nat_lt (length name.name) dot)
-    (name.parent == scope) (bytes_eq name.name (take dot key)) (is_behind last name)
+    (name.parent == scope) (bytes_eq name.name (take dot key)) (chosen name)
     (fits_dot dot scope key name.name d within is)
 
-pub fits_still : (dot scope : ℕ) (key : List ℕ) (last : Option Way) (name : ChildName) (d : ℕ)
+pub fits_still : (dot scope : ℕ) (key : List ℕ) (chosen : ChildName → Bool) (name : ChildName) (d : ℕ)
     → (get_or key dot d ≡ 46 → true ≡ false)
-    → fits (dot + 1) scope key last name ≡ fits dot scope key last name
-fits_still dot scope key last name d other =
+    → fits (dot + 1) scope key chosen name ≡ fits dot scope key chosen name
+fits_still dot scope key chosen name d other =
     kept (nat_lt (length name.name) (dot + 1)) (is_some (behind_dot name.name key)) (nat_lt (length name.name) dot)
-    (name.parent == scope) (is_behind last name) (fits_no_dot dot key name.name d other)
+    (name.parent == scope) (chosen name) (fits_no_dot dot key name.name d other)
 
 pub leads_short : (scope : ℕ) (key : List ℕ) (n : ChildName) → leads scope key n ≡ true → length n.name < length key
 leads_short scope key n e =
@@ -262,81 +262,56 @@ find_nothing : (p : ChildName → Bool) (names : List ChildName) → ((n : Child
 find_nothing p [] none = refl
 find_nothing p (name ∷ names) none = rw (none name) (find_nothing p names none)
 
-module _ (scopes : List Scope) (scope : ℕ) (key : List ℕ) (last : Option Way) where
+module _ (scopes : List Scope) (scope : ℕ) (key : List ℕ) (chosen : ChildName → Bool) where
   abbrev pub first_fit : ℕ → Option ChildName
-  first_fit dots = find (fits dots scope key last) (all_names scopes)
+  first_fit dots = find (fits dots scope key chosen) (all_names scopes)
 
   pub first_none : None ≡ option_map (way_in key) (first_fit 0)
-  first_none = ap (option_map (way_in key)) (sym (find_nothing (fits 0 scope key last) (all_names scopes)
+  first_none = ap (option_map (way_in key)) (sym (find_nothing (fits 0 scope key chosen) (all_names scopes)
       (λ n. let test : nat_lt (length n.name) 0 ≡ false = grind (arith, nat_tests) in rw test refl)))
 
   pub first_still : (dot d : ℕ) → (get_or key dot d ≡ 46 → true ≡ false) → first_fit (dot + 1) ≡ first_fit dot
   first_still dot d other =
-      find_same (fits (dot + 1) scope key last) (fits dot scope key last) (all_names scopes)
-      (all_each (λ n. fits (dot + 1) scope key last n ≡ fits dot scope key last n) (all_names scopes)
-      (λ n. fits_still dot scope key last n d other))
+      find_same (fits (dot + 1) scope key chosen) (fits dot scope key chosen) (all_names scopes)
+      (all_each (λ n. fits (dot + 1) scope key chosen n ≡ fits dot scope key chosen n) (all_names scopes)
+      (λ n. fits_still dot scope key chosen n d other))
 
-  found_at : (dot : ℕ) → find (is_behind last) (those_named scope (take dot key) (all_names scopes))
-      ≡ find (fits_at dot scope key last) (all_names scopes)
-  found_at dot = find_filter (is_behind last) (is_named scope (take dot key)) (all_names scopes)
-
-  pub found_long : (dot : ℕ) (name : ChildName) → dot < length key
-      → find (is_behind last) (those_named scope (take dot key) (all_names scopes)) ≡ Some name → length name.name ≡ dot
-  found_long dot name within found =
-      let fit = found_passes (fits_at dot scope key last) (all_names scopes) name (sym (found_at dot) ∙ found) in
-      let named = first_holds (is_named scope (take dot key) name) (is_behind last name) fit in
-      let same = same_text name.name (take dot key)
-      (second_holds (name.parent == scope) (bytes_eq name.name (take dot key)) named) in
-      ap length same ∙ omega (arith, length-take dot key)
+  found_at : (dot : ℕ) → find chosen (those_named scope (take dot key) (all_names scopes))
+      ≡ find (fits_at dot scope key chosen) (all_names scopes)
+  found_at dot = find_filter chosen (is_named scope (take dot key)) (all_names scopes)
 
   pub first_past : (dot d : ℕ) → dot < length key → get_or key dot d ≡ 46
-      → find (is_behind last) (those_named scope (take dot key) (all_names scopes)) ≡ None
+      → find chosen (those_named scope (take dot key) (all_names scopes)) ≡ None
       → first_fit (dot + 1) ≡ first_fit dot
   first_past dot d within is none =
-      find_neither (fits dot scope key last) (fits_at dot scope key last) (fits (dot + 1) scope key last)
-      (all_names scopes) (λ n. fits_more dot scope key last n d within is) (sym (found_at dot) ∙ none)
+      find_neither (fits dot scope key chosen) (fits_at dot scope key chosen) (fits (dot + 1) scope key chosen)
+      (all_names scopes) (λ n. fits_more dot scope key chosen n d within is) (sym (found_at dot) ∙ none)
 
   pub first_found_at : (dot d : ℕ) (name : ChildName) → dot < length key → get_or key dot d ≡ 46
-      → find (is_behind last) (those_named scope (take dot key) (all_names scopes)) ≡ Some name
-      → option_map (way_in key) (first_fit (dot + 1))
-      ≡ (if is_earlier (option_map (way_in key) (first_fit dot)) name then Some (way_in key name)
-      else option_map (way_in key) (first_fit dot))
+      → find chosen (those_named scope (take dot key) (all_names scopes)) ≡ Some name
+      → first_fit (dot + 1) ≡ (if is_not_behind (first_fit dot) name then Some name else first_fit dot)
   first_found_at dot d name within is found =
-      ap (option_map (way_in key)) (find_either (fits dot scope key last) (fits_at dot scope key last)
-      (fits (dot + 1) scope key last) (all_names scopes) name (all_in_turn scopes)
-      (λ n. fits_more dot scope key last n d within is) (sym (found_at dot) ∙ found))
-      ∙ by_first (first_fit dot)
-    where
-      by_first : (first : Option ChildName)
-          → option_map (way_in key) (if is_not_behind first name then Some name else first)
-          ≡ (if is_earlier (option_map (way_in key) first) name then Some (way_in key name)
-          else option_map (way_in key) first)
-      by_first None = refl
-      by_first (Some first) = by_test (is_not_behind (Some first) name) refl
-        where
-          by_test : (a : Bool) → is_not_behind (Some first) name ≡ a
-              → option_map (way_in key) (if a then Some name else Some first)
-              ≡ (if a then Some (way_in key name) else Some (way_in key first))
-          by_test true e = refl
-          by_test false e = refl
+      find_either (fits dot scope key chosen) (fits_at dot scope key chosen) (fits (dot + 1) scope key chosen)
+      (all_names scopes) name (all_in_turn scopes)
+      (λ n. fits_more dot scope key chosen n d within is) (sym (found_at dot) ∙ found)
 
   -- no name is as long as the key, or longer than the longest
   pub first_of_all : (dots : ℕ) → All (λ n. (leads scope key n ≡ true → length n.name < dots)) (all_names scopes)
-      → option_map (way_in key) (first_fit dots) ≡ next_way scopes scope key last
+      → first_fit dots ≡ find (λ n. leads scope key n && chosen n) (all_names scopes)
   first_of_all dots short =
-      ap (option_map (way_in key)) (find_same (fits dots scope key last)
-      (λ n. leads scope key n && is_behind last n) (all_names scopes) (each (all_names scopes) short))
+      find_same (fits dots scope key chosen)
+      (λ n. leads scope key n && chosen n) (all_names scopes) (each (all_names scopes) short)
     where
       each : (names : List ChildName) → All (λ n. (leads scope key n ≡ true → length n.name < dots)) names
-          → All (λ n. fits dots scope key last n ≡ (leads scope key n && is_behind last n)) names
-      each [] short = All-nil (λ n. fits dots scope key last n ≡ (leads scope key n && is_behind last n))
+          → All (λ n. fits dots scope key chosen n ≡ (leads scope key n && chosen n)) names
+      each [] short = All-nil (λ n. fits dots scope key chosen n ≡ (leads scope key n && chosen n))
       each (name ∷ names) short =
-          All-cons (λ n. fits dots scope key last n ≡ (leads scope key n && is_behind last n)) name names
+          All-cons (λ n. fits dots scope key chosen n ≡ (leads scope key n && chosen n)) name names
           (by_test (leads scope key name) refl)
           (each names (All-tail (λ n. (leads scope key n ≡ true → length n.name < dots)) name names short))
         where
           by_test : (a : Bool) → leads scope key name ≡ a
-              → (nat_lt (length name.name) dots && (a && is_behind last name)) ≡ (a && is_behind last name)
+              → (nat_lt (length name.name) dots && (a && chosen name)) ≡ (a && chosen name)
           by_test true e =
               let low = All-head (λ n. (leads scope key n ≡ true → length n.name < dots)) name names short e in
               let test : nat_lt (length name.name) dots ≡ true = grind (arith, nat_tests) in
@@ -348,13 +323,13 @@ module _ (scopes : List Scope) (scope : ℕ) (key : List ℕ) (last : Option Way
               by_any false = refl
 
   pub first_at_end : (dots : ℕ) → length key ≤ dots
-      → option_map (way_in key) (first_fit dots) ≡ next_way scopes scope key last
+      → first_fit dots ≡ find (λ n. leads scope key n && chosen n) (all_names scopes)
   first_at_end dots end =
       first_of_all dots (all_each (λ n. (leads scope key n ≡ true → length n.name < dots)) (all_names scopes)
       (λ n e. let low = leads_short scope key n e in omega (arith, low, end)))
 
   pub first_behind_longest : (names : List ChildName) (longest dots : ℕ) → AreChildNames scopes names longest
-      → longest < dots → option_map (way_in key) (first_fit dots) ≡ next_way scopes scope key last
+      → longest < dots → first_fit dots ≡ find (λ n. leads scope key n && chosen n) (all_names scopes)
   first_behind_longest names longest dots are past =
       first_of_all dots (All-weaker (λ n. length n.name ≤ longest)
       (λ n. (leads scope key n ≡ true → length n.name < dots))

@@ -9,6 +9,7 @@ pub mod DefineLaws
 pub mod LevelLaws
 pub mod OwnKeyLaws
 pub mod OrderLaws
+pub mod HolderLaws
 pub mod SortedLaws
 pub mod ChildLaws
 pub mod CountLaws
@@ -21,11 +22,14 @@ pub mod ScopeTreeLaws
 pub mod MadeLaws
 pub mod TurnLaws
 pub mod DotLaws
+pub mod PartLaws
 pub mod WayLaws
 pub mod RisingLaws
 pub mod SearchLaws
 pub mod LookupLaws
 pub mod PastLaws
+pub mod HoldLaws
+pub mod CutLaws
 pub mod RiseLaws
 pub mod FindLaws
 pub mod ScopedLaws

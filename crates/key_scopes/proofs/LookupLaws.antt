@@ -56,10 +56,10 @@ ends_itself key = ap (λ n. drop n key) (minus_same (length key))
     minus_same n = omega arith
 
 -- the rest behind a name is one of its ends
-pub step_rest : (scopes : List _) (scope : ℕ) (key rest : List ℕ) (last : Option Way) (result : Option SearchStep)
-    (step : SearchStep) → EndsWith key rest → option_map way_of result ≡ next_way scopes scope rest last
-    → result ≡ Some step → EndsWith key step.rest.now
-step_rest scopes scope key rest last result step is next some = by_found _ (sym (ap (option_map way_of) some) ∙ next)
+pub step_rest : (scopes : List _) (own_at : ℕ → List ℕ → Option ℕ) (scope : ℕ) (key rest : List ℕ) (last : Option Way)
+    (result : Option SearchStep) (step : SearchStep) → EndsWith key rest
+    → option_map way_of result ≡ next_way scopes own_at scope rest last → result ≡ Some step → EndsWith key step.rest.now
+step_rest scopes own_at scope key rest last result step is next some = by_found _ (sym (ap (option_map way_of) some) ∙ next)
   where
     by_found : (found : Option ChildName) → Some (way_of step) ≡ option_map (way_in rest) found → EndsWith key step.rest.now
     by_found None e = absurd (cc)

@@ -1,6 +1,6 @@
 -- What is not found: nothing in a scope beyond the table, and no qualified key without a dot.
 use Rattle.std.specs.Prelude.{◌≡◌, ◌+◌, ◌<◌, ◌≤◌, ◌==◌, ◌&&◌, ◌++◌, ◌⊎◌, ℕ, zero, suc, Bool, true, false, not, List, [], ◌∷◌, Option, Some, None, codes, filter, find, is_some, length, nat_lt, slice_get}
-use Rattle.std.specs.List.{flat_map, list_any}
+use Rattle.std.specs.List.{flat_map}
 use Rattle.std.specs.Option.{option_map_or}
 use Rattle.std.proofs.Common.{refl, sym, ap, ◌∙◌, arith, inl, inr}
 use Rattle.std.proofs.lemmas.Bool.{cases_Bool, true≢false}
@@ -11,7 +11,7 @@ use Rattle.dita_doc.proofs.Tests.{and_false}
 use Rattle.key_scopes.specs.declared.children.ChildName.{ChildName}
 use Rattle.key_scopes.specs.Above.{AreInPreorder, parent_in}
 use Rattle.key_scopes.specs.Children.{all_names}
-use Rattle.key_scopes.specs.Ways.{answers, leads, qualified_in}
+use Rattle.key_scopes.specs.Ways.{answers, has_dot, leads, qualified_in}
 use Rattle.key_scopes.proofs.ScopeTreeLaws.{begun_within}
 use Rattle.key_scopes.proofs.WayLaws.{tried_in}
 use Rattle.map_spec.specs.Cascade.{places_up}
@@ -125,9 +125,6 @@ qualified_past zero world nodes scope key ordered out = refl
 qualified_past (suc steps) world nodes scope key ordered out = rw (no_children nodes scope ordered out) refl
 
 -- A key without a dot
-
-abbrev pub has_dot : List ℕ → Bool
-has_dot key = list_any (λ b. b == 46) key
 
 no_dot : (name key : List ℕ) → has_dot key ≡ false → behind (name ++ codes ".") key ≡ None
 no_dot [] [] none = refl

@@ -9,7 +9,8 @@ use Rattle.key_scopes.specs.Children.{AreChildNames}
 use Rattle.key_scopes.specs.Rising.{by_names}
 use Rattle.key_scopes.specs.Table.{Table}
 use Rattle.key_scopes.specs.Ways.{Way, next_way, way_of}
-use Rattle.key_scopes.proofs.WayLaws.{behind_way, by_all_ways, by_way, no_way_behind, way_behind}
+use Rattle.key_scopes.proofs.HoldLaws.{no_way_behind, way_behind}
+use Rattle.key_scopes.proofs.WayLaws.{behind_way, by_all_ways, by_way}
 
 -- a table has the names of its scopes
 abbrev pub HasNames : Table → Type 0
@@ -17,13 +18,13 @@ HasNames table = AreChildNames table.scopes table.names table.longest
 
 module _ (all : List Scope) (own_at : ℕ → List ℕ → Option ℕ) where
   pub none_by : (scope : ℕ) (key : List ℕ) (last : Option Way) (result : Option SearchStep)
-      → option_map way_of result ≡ next_way all scope key last → result ≡ None
+      → option_map way_of result ≡ next_way all own_at scope key last → result ≡ None
       → behind_way all own_at scope key last ≡ None
   none_by scope key last result e none =
       no_way_behind all own_at scope key last (sym e ∙ ap (option_map way_of) none)
 
   pub some_by : (scope : ℕ) (key : List ℕ) (last : Option Way) (result : Option SearchStep) (step : SearchStep)
-      → option_map way_of result ≡ next_way all scope key last → result ≡ Some step
+      → option_map way_of result ≡ next_way all own_at scope key last → result ≡ Some step
       → behind_way all own_at scope key last
       ≡ option_or (by_way all own_at (way_of step)) (behind_way all own_at scope key (Some (way_of step)))
   some_by scope key last result step e some =

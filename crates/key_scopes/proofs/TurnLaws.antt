@@ -1,15 +1,11 @@
 -- Names by scope and rank: the first of some of them, and those behind it.
-use Rattle.std.specs.Prelude.{◌≡◌, ◌+◌, ◌<◌, ◌≤◌, ◌==◌, ◌&&◌, ◌||◌, ◌⊎◌, ℕ, zero, suc, Bool, true, false, not, List, [], ◌∷◌, ◌++◌, Option, Some, None, filter, find, length, nat_lt, slice_get, if◌then◌else◌}
-use denote.Param.Members.{Mut}
-use Rattle.std.specs.Borrow.{Bor}
-use Rattle.std.specs.Fn.{Called, ComputesKey}
+use Rattle.std.specs.Prelude.{◌≡◌, ◌+◌, ◌<◌, ◌≤◌, ◌==◌, ◌&&◌, ◌||◌, ◌⊎◌, ℕ, zero, suc, Bool, true, false, not, List, [], ◌∷◌, ◌++◌, Option, Some, None, filter, find, length, nat_lt, if◌then◌else◌}
 use Rattle.std.specs.List.{All, flat_map}
-use Rattle.std.specs.List.Sorted.{IsPartitionPoint, IsPartitionedBy}
+use Rattle.std.specs.List.Sorted.{IsPartitionedBy}
 use Rattle.std.proofs.Common.{refl, sym, ap, subst, ◌∙◌, arith, get_or, inl, inr}
-use Rattle.std.proofs.lemmas.Bool.{cases_Bool, eq-eqb, eqb-true, not-false, not-true, true≢false}
+use Rattle.std.proofs.lemmas.Bool.{cases_Bool, eq-eqb, eqb-true, true≢false}
 use Rattle.std.proofs.lemmas.Bool.Decides.{nat_tests}
 use Rattle.std.proofs.lemmas.List.Elements.{All-append, All-cons, All-get_or, All-head, All-nil, All-tail, All-weaker}
-use Rattle.std.proofs.lemmas.List.Sorted.{IsPartitionPoint-from_clause}
 use Rattle.dita_doc.specs.declared.plan.Scope.{Scope}
 use Rattle.key_scopes.specs.declared.children.ChildName.{ChildName}
 use Rattle.key_scopes.specs.Children.{all_names, child_names_of, ranked}
@@ -86,7 +82,7 @@ not_itself a = by_one (cases_Bool (is_later a.child a.rank a))
 
 -- Names in turn
 
-in_turn_at : (names : List ChildName) → AreInTurn names → (i j : ℕ) (d : ChildName) → i < j → j < length names
+pub in_turn_at : (names : List ChildName) → AreInTurn names → (i j : ℕ) (d : ChildName) → i < j → j < length names
     → is_later (get_or names i d).child (get_or names i d).rank (get_or names j d) ≡ true
 in_turn_at [] turn i j d low within = absurd (omega arith)
 in_turn_at (name ∷ names) turn i zero d low within = absurd (omega arith)
@@ -112,49 +108,6 @@ parted_in_turn child rank names turn i j d le inside below = by_test (cases_Bool
     by_test (inr differs) =
         let less : i < j = grind (arith, nat_tests) in
         by_later less (cases_Bool (is_later child rank (get_or names i d)))
-
-pub found_passes : (p : ChildName → Bool) (names : List ChildName) (name : ChildName) → find p names ≡ Some name
-    → p name ≡ true
-found_passes p [] name is = absurd (cc)
-found_passes p (first ∷ names) name is = by_one (λ there. found_passes p names name there) (p first) refl
-  where
-    by_one : (find p names ≡ Some name → p name ≡ true) → (a : Bool) → p first ≡ a → p name ≡ true
-    by_one behind true e =
-        let there = rw e at is in
-        let same : first ≡ name = cc in
-        ap p (sym same) ∙ e
-    by_one behind false e = behind (rw e at is)
-
-halves : (p : ChildName → Bool) (names : List ChildName) (at : ℕ)
-    → ((k : ℕ) (d : ChildName) → k < at → k < length names → p (get_or names k d) ≡ false)
-    → ((k : ℕ) (d : ChildName) → at ≤ k → k < length names → p (get_or names k d) ≡ true)
-    → find p names ≡ slice_get names at
-halves p [] at before after = refl
-halves p (name ∷ names) zero before after = rw (after 0 name (omega arith) (omega arith)) refl
-halves p (name ∷ names) (suc at) before after =
-    rw (before 0 name (omega arith) (omega arith))
-    (halves p names at (λ k d low within. before (suc k) d (omega arith) (omega arith))
-    (λ k d low within. after (suc k) d (omega arith) (omega arith)))
-
--- what is found by halving is the first
-pub found_by_half : (p : ChildName → Bool) (names : List ChildName) (at : ℕ)
-    → IsPartitionPoint (λ name. not (p name) ≡ true) (λ name. not (p name) ≡ false) names at
-    → find p names ≡ slice_get names at
-found_by_half p names at part =
-    halves p names at (λ k d low within. not-true (p (get_or names k d)) (part.0 k d (omega arith) low))
-    (λ k d low within. not-false (p (get_or names k d)) (part.1 k d low within))
-
--- so the first name behind stands where `partition_point` parts the names
-pub found_parted : (child rank : ℕ) {F : Type 0} {g : Mut F (Bor ChildName × Unit {0}) Bool} {f : F}
-    (names : List ChildName) (count : ℕ) → ((q : ChildName → Bool) → ComputesKey g q f → IsPartitionedBy q names
-    → IsPartitionPoint (λ name. q name ≡ true) (λ name. q name ≡ false) names count)
-    → ((a : Bor ChildName × Unit {0}) (r : Bool) (later : F) → Called g f a r later
-    → (r ≡ not (is_later child rank a.0.now)) × (later ≡ f)) → AreInTurn names
-    → find (is_later child rank) names ≡ slice_get names count
-found_parted child rank names count partitioned called turn =
-    found_by_half (is_later child rank) names count
-    (IsPartitionPoint-from_clause (λ name. not (is_later child rank name)) names count partitioned
-    (parted_in_turn child rank names turn) called)
 
 All-filtered : (P : ChildName → Type 0) (p : ChildName → Bool) (names : List ChildName) → All P names
     → All P (filter p names)

@@ -1,29 +1,27 @@
 -- The definitions by qualified keys, way by way: those of the language, and those of a search over scopes.
-use Rattle.std.specs.Prelude.{◌≡◌, ◌+◌, ◌<◌, ◌≤◌, ◌==◌, ◌&&◌, ℕ, zero, suc, Bool, true, false, List, [], ◌∷◌, ◌++◌, Option, Some, None, filter, find, length, map, option_map, slice_get}
+use Rattle.std.specs.Prelude.{◌≡◌, ◌+◌, ◌<◌, ◌≤◌, ◌==◌, ◌&&◌, ℕ, zero, suc, Bool, true, false, List, [], ◌∷◌, ◌++◌, Option, Some, None, filter, length, map, option_map, slice_get}
 use Rattle.std.specs.List.{All, filter_map, flat_map}
 use Rattle.std.specs.Option.{option_and_then, option_or}
-use Rattle.std.proofs.Common.{refl, sym, ap, subst, ◌∙◌, arith}
+use Rattle.std.proofs.Common.{refl, sym, ap, ◌∙◌, arith}
 use Rattle.std.proofs.lemmas.Bool.{eqb-true}
 use Rattle.std.proofs.lemmas.Bool.Decides.{nat_tests}
 use Rattle.std.proofs.lemmas.List.{length-drop, map-append}
-use Rattle.std.proofs.lemmas.List.Elements.{All-head, All-tail, All-weaker}
+use Rattle.std.proofs.lemmas.List.Elements.{All-head, All-tail}
 use Rattle.dita_doc.specs.declared.plan.PlanNode.{PlanNode}
 use Rattle.dita_doc.specs.declared.plan.Scope.{Scope}
-use Rattle.dita_doc.proofs.Tests.{and_false, and_true, second_holds}
+use Rattle.dita_doc.proofs.Tests.{and_true}
 use Rattle.key_scopes.specs.declared.children.ChildName.{ChildName}
 use Rattle.key_scopes.specs.Children.{all_names, child_names_of, ranked}
 use Rattle.key_scopes.specs.Rising.{by_names}
-use Rattle.key_scopes.specs.Ways.{AreInTurn, Way, answers, is_behind, is_later, leads, next_way, qualified_in, way_in}
+use Rattle.key_scopes.specs.Ways.{Way, answers, is_behind, leads, qualified_in, way_in}
 use Rattle.key_scopes.proofs.DotLaws.{all_each, behind_dot, cut, leads_short}
-use Rattle.key_scopes.proofs.FirstLaws.{find_is}
 use Rattle.key_scopes.proofs.OptionLaws.{or_assoc}
-use Rattle.key_scopes.proofs.TurnLaws.{all_in_turn, later_trans, not_itself, not_later}
 use Rattle.map_spec.specs.Scopes.{begins, behind, first_found, is_child_of, numbered, own, places, qualified, scope_begun, scopes}
 use Rattle.reader_spec.specs.World.{World}
 
 -- Lists of answers
 
-first_cons : (x : Option ℕ) (xs : List (Option ℕ)) → first_found (x ∷ xs) ≡ option_or x (first_found xs)
+pub first_cons : (x : Option ℕ) (xs : List (Option ℕ)) → first_found (x ∷ xs) ≡ option_or x (first_found xs)
 first_cons None xs = refl
 first_cons (Some x) xs = refl
 
@@ -237,7 +235,7 @@ abbrev pub behind_way : List Scope → (ℕ → List ℕ → Option ℕ) → ℕ
 behind_way all own_at scope key last = answers (by_way all own_at) key
     (filter (λ name. leads scope key name && is_behind last name) (all_names all))
 
-filter_same : (p q : ChildName → Bool) (names : List ChildName) → All (λ n. p n ≡ q n) names
+pub filter_same : (p q : ChildName → Bool) (names : List ChildName) → All (λ n. p n ≡ q n) names
     → filter p names ≡ filter q names
 filter_same p q [] same = refl
 filter_same p q (name ∷ names) same =
@@ -262,95 +260,3 @@ by_all_ways all own_at scope key =
     ∙ ap (answers (by_way all own_at) key) (filter_same (leads scope key) (λ name. leads scope key name && true)
     (all_names all) (all_each (λ name. leads scope key name ≡ (leads scope key name && true))
     (all_names all) (λ name. sym (and_true (leads scope key name)))))
-
-filter_nothing : (p : ChildName → Bool) (names : List ChildName) → find p names ≡ None → filter p names ≡ []
-filter_nothing p [] none = refl
-filter_nothing p (name ∷ names) none = by_one (λ there. filter_nothing p names there) (p name) refl
-  where
-    by_one : (find p names ≡ None → filter p names ≡ []) → (a : Bool) → p name ≡ a → filter p (name ∷ names) ≡ []
-    by_one behind true e = let there = rw e at none in absurd (cc)
-    by_one behind false e = rw e (behind (rw e at none))
-
-pub no_way_behind : (all : List Scope) (own_at : ℕ → List ℕ → Option ℕ) (scope : ℕ) (key : List ℕ) (last : Option Way)
-    → next_way all scope key last ≡ None → behind_way all own_at scope key last ≡ None
-no_way_behind all own_at scope key last none =
-    ap (answers (by_way all own_at) key)
-    (filter_nothing (λ name. leads scope key name && is_behind last name) (all_names all)
-    (by_found (find (λ name. leads scope key name && is_behind last name) (all_names all)) refl none))
-  where
-    by_found : (found : Option ChildName)
-        → find (λ name. leads scope key name && is_behind last name) (all_names all) ≡ found
-        → option_map (way_in key) (find (λ name. leads scope key name && is_behind last name) (all_names all))
-        ≡ None
-        → find (λ name. leads scope key name && is_behind last name) (all_names all) ≡ None
-    by_found None e f = e
-    by_found (Some name) e f = let there = rw e at f in absurd (cc)
-
-behind_both : (last : Option Way) (a b : ChildName) → is_behind last a ≡ true → is_later a.child a.rank b ≡ true
-    → is_behind last b ≡ true
-behind_both None a b first second = refl
-behind_both (Some way) a b first second = later_trans way.child way.rank a b first second
-
-split_first : (scope : ℕ) (key : List ℕ) (last : Option Way) (names : List ChildName) (first : ChildName)
-    → AreInTurn names → find (λ name. leads scope key name && is_behind last name) names ≡ Some first
-    → filter (λ name. leads scope key name && is_behind last name) names
-    ≡ first ∷ filter (λ name. leads scope key name && is_later first.child first.rank name) names
-split_first scope key last [] first turn is = absurd (cc)
-split_first scope key last (name ∷ names) first turn is =
-    by_one (λ there. split_first scope key last names first turn.1 there)
-    (leads scope key name && is_behind last name) refl
-  where
-    by_one : (find (λ name. leads scope key name && is_behind last name) names ≡ Some first
-        → filter (λ name. leads scope key name && is_behind last name) names
-        ≡ first ∷ filter (λ name. leads scope key name && is_later first.child first.rank name) names)
-        → (a : Bool) → (leads scope key name && is_behind last name) ≡ a
-        → filter (λ name. leads scope key name && is_behind last name) (name ∷ names)
-        ≡ first ∷ filter (λ name. leads scope key name && is_later first.child first.rank name) (name ∷ names)
-    by_one behind true e =
-        let there = rw e at is in
-        let same : name ≡ first = cc in
-        let before = second_holds (leads scope key name) (is_behind last name) e in
-        let left : filter (λ name. leads scope key name && is_behind last name) (name ∷ names)
-        ≡ name ∷ filter (λ n. leads scope key n && is_behind last n) names = rw e refl in
-        let none : (leads scope key name && is_later name.child name.rank name) ≡ false =
-        ap (λ a. leads scope key name && a) (not_itself name) ∙ and_false (leads scope key name) in
-        let right : filter (λ n. leads scope key n && is_later name.child name.rank n) (name ∷ names)
-        ≡ filter (λ n. leads scope key n && is_later name.child name.rank n) names = rw none refl in
-        subst (λ one. filter (λ n. leads scope key n && is_behind last n) (name ∷ names)
-        ≡ one ∷ filter (λ n. leads scope key n && is_later one.child one.rank n) (name ∷ names)) same
-        (left ∙ ap (λ some. name ∷ some) (filter_same (λ n. leads scope key n && is_behind last n)
-        (λ n. leads scope key n && is_later name.child name.rank n) names
-        (All-weaker (λ n. is_later name.child name.rank n ≡ true)
-        (λ n. (leads scope key n && is_behind last n) ≡ (leads scope key n && is_later name.child name.rank n))
-        (λ n later. ap (λ a. leads scope key n && a) (behind_both last name n before later ∙ sym later)) names turn.0)
-        ∙ sym right))
-    by_one behind false e =
-        let there : find (λ name. leads scope key name && is_behind last name) names ≡ Some first = rw e at is in
-        let later = (find_is (λ n. is_later name.child name.rank n ≡ true)
-        (λ name. leads scope key name && is_behind last name) names first there turn.0).0 in
-        let none : (leads scope key name && is_later first.child first.rank name) ≡ false =
-        ap (λ a. leads scope key name && a) (not_later name first later) ∙ and_false (leads scope key name) in
-        rw (e, none) (behind there)
-
-pub way_behind : (all : List Scope) (own_at : ℕ → List ℕ → Option ℕ) (scope : ℕ) (key : List ℕ) (last : Option Way) (way : Way)
-    → next_way all scope key last ≡ Some way
-    → behind_way all own_at scope key last
-    ≡ option_or (by_way all own_at way) (behind_way all own_at scope key (Some way))
-way_behind all own_at scope key last way is =
-    by_found (find (λ name. leads scope key name && is_behind last name) (all_names all)) refl
-  where
-    by_found : (found : Option ChildName)
-        → find (λ name. leads scope key name && is_behind last name) (all_names all) ≡ found
-        → behind_way all own_at scope key last
-        ≡ option_or (by_way all own_at way) (behind_way all own_at scope key (Some way))
-    by_found None e =
-        let none : None ≡ Some way = sym (ap (option_map (way_in key)) e) ∙ is in absurd (cc)
-    by_found (Some name) e =
-        let some : Some (way_in key name) ≡ Some way = sym (ap (option_map (way_in key)) e) ∙ is in
-        let same : way_in key name ≡ way = cc in
-        subst (λ w. behind_way all own_at scope key last
-        ≡ option_or (by_way all own_at w) (behind_way all own_at scope key (Some w))) same
-        (ap (answers (by_way all own_at) key) (split_first scope key last (all_names all) name
-        (all_in_turn all) e)
-        ∙ first_cons (by_way all own_at (way_in key name)) (map (λ n. by_way all own_at (way_in key n))
-        (filter (λ n. leads scope key n && is_later name.child name.rank n) (all_names all))))

@@ -1,5 +1,5 @@
 -- The first definitions of keys (own): of the entries in their order the first of each key in each scope.
-use Rattle.std.specs.Prelude.{◌≡◌, ◌<◌, ◌≤◌, ◌++◌, ℕ, Bool, false, not, List, [], ◌∷◌, Option, Some, None, filter, length, nat_lt, slice_get, if◌then◌else◌}
+use Rattle.std.specs.Prelude.{◌≡◌, ◌<◌, ◌≤◌, ◌++◌, ℕ, Bool, true, false, not, List, [], ◌∷◌, Option, Some, None, bytes_eq, filter, is_some, length, nat_lt, slice_get, if◌then◌else◌}
 use Rattle.std.specs.Cmp.Lexicographic.{slice_cmp}
 use Rattle.std.specs.List.Sorted.{IsPermutation}
 use Rattle.std.specs.Option.{option_and_then}
@@ -59,6 +59,23 @@ abbrev pub own_at : List Definition → ℕ → ℕ → List ℕ → Option ℕ
 own_at definitions at scope key = option_and_then (λ (definition : Definition).
     if is_eq (first_order (first_of definition) (probe scope key)) then Some definition.node else None)
     (slice_get definitions at)
+
+-- the scope of the definition at a place, if it is of this key
+abbrev pub scope_at : List Definition → ℕ → List ℕ → Option ℕ
+scope_at definitions at key = option_and_then (λ (definition : Definition).
+    if bytes_eq key definition.key then Some definition.scope else None)
+    (slice_get definitions at)
+
+-- by the scopes' own definitions of a key: a scope has one, and from another on none before it
+pub record IsFirstHolder (own : ℕ → Option ℕ) (from scope : ℕ) : Type 0 where
+  pub behind : from ≤ scope
+  pub holds : is_some (own scope) ≡ true
+  pub first : (other : ℕ) → from ≤ other → other < scope → own other ≡ None
+
+-- the first scope from one on that has one, if any has
+abbrev pub IsNextHolder : (ℕ → Option ℕ) → ℕ → Option ℕ → Type 0
+IsNextHolder own from None = (other : ℕ) → from ≤ other → own other ≡ None
+IsNextHolder own from (Some scope) = IsFirstHolder own from scope
 
 -- the order of entries: by key, scope, level and place
 abbrev pub entry_order : KeyEntry → KeyEntry → Ordering

@@ -1,6 +1,6 @@
 -- The ways from a scope into those in it (own): by the names with which a key begins; and what is found by them.
 use Rattle.std.specs.Prelude.{◌≡◌, ◌+◌, ◌==◌, ◌&&◌, ◌||◌, ℕ, zero, suc, Bool, true, not, List, [], ◌∷◌, ◌++◌, Option, Some, None, codes, drop, filter, find, is_some, length, map, nat_lt, option_map}
-use Rattle.std.specs.List.{All}
+use Rattle.std.specs.List.{All, list_any}
 use Rattle.std.specs.Option.{option_or}
 use Rattle.dita_doc.specs.declared.plan.Scope.{Scope}
 use Rattle.key_scopes.specs.declared.children.ChildName.{ChildName}
@@ -49,10 +49,18 @@ qualified_in (suc steps) all own_at scope key = answers (λ (way : Way).
     option_or (own_at way.child way.rest) (qualified_in steps all own_at way.child way.rest)) key
     (filter (leads scope key) (all_names all))
 
--- the first way behind the last one
-abbrev pub next_way : List Scope → ℕ → List ℕ → Option Way → Option Way
-next_way scopes scope key last =
-    option_map (way_in key) (find (λ name. leads scope key name && is_behind last name) (all_names scopes))
+abbrev pub has_dot : List ℕ → Bool
+has_dot key = list_any (λ b. b == 46) key
+
+-- whether something may be found in a scope for what is left of a key: without a dot only its own definition
+abbrev pub may_hold : (ℕ → List ℕ → Option ℕ) → ℕ → List ℕ → Bool
+may_hold own_at scope rest = has_dot rest || is_some (own_at scope rest)
+
+-- the first way behind the last one by which something may be found
+abbrev pub next_way : List Scope → (ℕ → List ℕ → Option ℕ) → ℕ → List ℕ → Option Way → Option Way
+next_way scopes own_at scope key last = option_map (way_in key) (find (λ name. leads scope key name
+    && may_hold own_at name.child (way_in key name).rest && is_behind last name)
+    (all_names scopes))
 
 -- names by scope and rank, each once
 abbrev pub AreInTurn : List ChildName → Type 0

@@ -132,13 +132,13 @@ fn named_in<'a>(sorted: &'a [ChildName], parent: u32, name: &[u8]) -> &'a [Child
     names_before(rest, count)
 }
 
-fn names_behind(names: &[ChildName], count: usize) -> &[ChildName]
+pub(crate) fn names_behind(names: &[ChildName], count: usize) -> &[ChildName]
     ensures { result.now ≡ drop count names.now }
 {
     names.get(count..).unwrap_or(&[])
 }
 
-fn names_before(names: &[ChildName], count: usize) -> &[ChildName]
+pub(crate) fn names_before(names: &[ChildName], count: usize) -> &[ChildName]
     ensures { result.now ≡ take count names.now }
 {
     names.get(..count).unwrap_or(names)

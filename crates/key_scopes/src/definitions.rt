@@ -66,6 +66,17 @@ impl Definitions {
         own_at(&self.sorted, at, scope, key)
     }
 
+    /// The first scope from this one on that defines a key itself.
+    pub(crate) fn holder_from(&self, scope: u32, key: &[u8]) -> Option<u32>
+        ensures { spec.AreStrict (table_spec.firsts_of self.now.sorted.items)
+            → spec.IsNextHolder (λ other.
+            table_spec.own_in (table_spec.firsts_of self.now.sorted.items) other key.now)
+            scope result }
+    {
+        let at = place_for(&self.sorted, scope, key);
+        scope_at(&self.sorted, at, key)
+    }
+
     /// The definition of a key in the outermost scope that is this one or stands around it.
     pub(crate) fn outermost(&self, spans: &Spans, scope: u32, key: &[u8]) -> Option<&Definition>
         ensures { spec.AreStrict (table_spec.firsts_of self.now.sorted.items)
@@ -143,6 +154,18 @@ fn own_at(sorted: &[Definition], at: usize, scope: u32, key: &[u8]) -> Option<u3
     let own = sorted.get(at)?;
     if own.order(scope, key) == Ordering::Equal {
         Some(own.node)
+    } else {
+        None
+    }
+}
+
+// The scope of the definition at a place, if it is of this key.
+fn scope_at(sorted: &[Definition], at: usize, key: &[u8]) -> Option<u32>
+    ensures { result ≡ spec.scope_at sorted.now at key.now }
+{
+    let own = sorted.get(at)?;
+    if key == own.key.as_bytes() {
+        Some(own.scope)
     } else {
         None
     }

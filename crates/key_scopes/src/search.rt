@@ -1,15 +1,20 @@
 //! The search for a key.
 
-ghost use Rattle.std.specs.Prelude.{◌≡◌, ◌&&◌, ◌<◌, ◌^◌, Option, true, find, length, nat_lt, option_map, IfSome};
+ghost use Rattle.std.specs.Prelude.{◌≡◌, ◌<◌, ◌≤◌, ◌^◌, true, false, filter, find, is_some, length, nat_le, not, option_map, IfSome};
+ghost use Rattle.std.specs.List.{All};
+ghost use Rattle.std.specs.List.Sorted.{IsPartitionPoint};
 ghost use Rattle.std.specs.Option.{option_copied, option_or};
 ghost use Rattle.dita_doc.specs.declared.plan.Scope as scope_spec;
+ghost use Rattle.key_scopes.specs.declared.children.ChildName.{ChildName};
+ghost use Rattle.key_scopes.specs.Defined as defined_spec;
 ghost use Rattle.key_scopes.specs.Found as found_spec;
 ghost use Rattle.key_scopes.specs.Rising as rising_spec;
 ghost use Rattle.key_scopes.specs.Steps as spec;
+ghost use Rattle.key_scopes.specs.Table as table_spec;
 ghost use Rattle.key_scopes.specs.Ways as ways_spec;
 
-use crate::children::ChildName;
-use crate::definitions::Definition;
+use crate::children::{ChildName, names_before, names_behind};
+use crate::definitions::{Definition, Definitions};
 use crate::table::ScopeTable;
 
 // The way into a scope by one of its names, with which a key begins: the scope, where the name
@@ -136,8 +141,9 @@ fn qualified(table: &ScopeTable, scope: u32, key: &[u8]) -> Option<u32>
     }
 }
 
-// The first way behind this one from a scope into one of those in it. A key is cut at no dot behind
-// the longest name.
+// The first way behind this one from a scope into one of those in it by which something may be
+// found. A key is cut at no dot behind the longest name. At each dot only names up to the first way
+// so far are looked at, so that all steps together go through them once.
 pub(crate) fn next_step<'k>(
     table: &ScopeTable,
     scope: u32,
@@ -147,8 +153,8 @@ pub(crate) fn next_step<'k>(
     ensures rest { IfSome result (λ step. length step.rest.now < length key.now) }
     ensures behind { IfSome result (λ step. spec.last_order after.entry < spec.step_order step) }
     ensures low { IfSome result (λ step. spec.step_order step < 2 ^ 97) }
-    ensures value { option_map ways_spec.way_of result ≡ ways_spec.next_way table.now.scopes scope
-        key.now (option_map ways_spec.way_of after.entry) }
+    ensures value { option_map ways_spec.way_of result ≡ ways_spec.next_way table.now.scopes
+        (found_spec.own_of table.now) scope key.now (option_map ways_spec.way_of after.entry) }
 {
     let children = &table.children;
     let mut first: Option<SearchStep<'k>> = None;
@@ -159,10 +165,10 @@ pub(crate) fn next_step<'k>(
         if *byte != b'.' {
             continue;
         }
-        if let Some(name) = name_behind(children.named(scope, &key[..dot]), after) {
-            if is_earlier(name, first) {
-                first = Some(step_into(name.child, name.rank, &key[dot + 1..]));
-            }
+        let rest = &key[dot + 1..];
+        let names = names_after(children.named(scope, &key[..dot]), after);
+        if let Some(name) = first_holding(table, names_until(names, first), rest) {
+            first = Some(step_into(name.child, name.rank, rest));
         }
     }
     first
@@ -179,32 +185,89 @@ fn step_into(child: u32, rank: usize, rest: &[u8]) -> SearchStep<'_>
     SearchStep { child, rank, rest }
 }
 
-// Whether no way stands before that by a name.
-fn is_earlier(name: &ChildName, first: Option<SearchStep<'_>>) -> bool
-    ensures { result
-        ≡ ways_spec.is_earlier (option_map ways_spec.way_of first.entry) name.now }
+// Those of some names in order that stand behind a way.
+fn names_after<'a>(names: &'a [ChildName], after: Option<SearchStep<'_>>) -> &'a [ChildName]
+    ensures order { ways_spec.AreInTurn names.now → All (λ name.
+        spec.last_order after.entry < spec.name_order name) result.now }
+    ensures value { ways_spec.AreInTurn names.now → result.now
+        ≡ filter (ways_spec.is_behind (option_map ways_spec.way_of after.entry)) names.now }
 {
-    match first {
-        Some(first) => !first.is_before(name),
-        None => true,
+    match after {
+        Some(after) => names_behind(names, count_until(names, after)),
+        None => names,
     }
 }
 
-// The first of some names in order that stands behind a way.
-fn name_behind<'a>(names: &'a [ChildName], after: Option<SearchStep<'_>>) -> Option<&'a ChildName>
-    ensures behind { IfSome result (λ name.
-        spec.last_order after.entry < spec.name_order name.now) }
-    ensures value { ways_spec.AreInTurn names.now → option_copied result ≡ find
-        (ways_spec.is_behind (option_map ways_spec.way_of after.entry)) names.now }
+// Those of some names in order that do not stand behind a way.
+fn names_until<'a>(names: &'a [ChildName], until: Option<SearchStep<'_>>) -> &'a [ChildName]
+    ensures { ways_spec.AreInTurn names.now → result.now
+        ≡ filter (ways_spec.is_earlier (option_map ways_spec.way_of until.entry)) names.now }
 {
-    let Some(after) = after else {
-        return names.first();
-    };
-    let count = names.partition_point(|name| !after.is_before(name));
-    let name = names.get(count)?;
-    if after.is_before(name) {
-        Some(name)
-    } else {
-        None
+    match until {
+        Some(until) => names_before(names, count_until(names, until)),
+        None => names,
     }
+}
+
+// How many of some names in order do not stand behind a way.
+fn count_until(names: &[ChildName], until: SearchStep<'_>) -> usize
+    ensures order { (name : ChildName)
+        → ways_spec.is_later until.entry.child until.entry.rank name ≡ true
+        → spec.step_order until.entry < spec.name_order name }
+    ensures place { ways_spec.AreInTurn names.now → IsPartitionPoint
+        (λ name. not (ways_spec.is_later until.entry.child until.entry.rank name) ≡ true)
+        (λ name. not (ways_spec.is_later until.entry.child until.entry.rank name) ≡ false)
+        names.now result }
+{
+    names.partition_point(|name| !until.is_before(name))
+}
+
+// Those of some names in order whose scope does not stand before this one.
+fn names_from(names: &[ChildName], scope: u32) -> &[ChildName]
+    ensures short { length result.now ≤ length names.now }
+    ensures value { ways_spec.AreInTurn names.now
+        → result.now ≡ filter (λ name. nat_le scope name.child) names.now }
+{
+    let count = names.partition_point(|name| name.child < scope);
+    names_behind(names, count)
+}
+
+// The first of some names in order by which something may be found for what is left of a key.
+fn first_holding<'a>(
+    table: &ScopeTable,
+    names: &'a [ChildName],
+    rest: &[u8],
+) -> Option<&'a ChildName>
+    ensures { ways_spec.AreInTurn names.now → option_copied result ≡ find (λ name.
+        ways_spec.may_hold (found_spec.own_of table.now) name.child rest.now) names.now }
+{
+    let first = names.first()?;
+    if rest.contains(&b'.') {
+        Some(first)
+    } else {
+        first_holder(&table.definitions, names, rest)
+    }
+}
+
+// The first of some names in order whose scope defines a key itself. It goes by halving from a name
+// to the first scope from there on that defines the key, and from that scope to its first name.
+fn first_holder<'a>(
+    definitions: &Definitions,
+    names: &'a [ChildName],
+    key: &[u8],
+) -> Option<&'a ChildName>
+    ensures { defined_spec.AreStrict (table_spec.firsts_of definitions.now.sorted.items)
+        → ways_spec.AreInTurn names.now → option_copied result ≡ find (λ name. is_some
+        (table_spec.own_in (table_spec.firsts_of definitions.now.sorted.items) name.child key.now))
+        names.now }
+{
+    let mut left = names;
+    while let Some((name, others)) = left.split_first() {
+        let scope = definitions.holder_from(name.child, key)?;
+        if scope == name.child {
+            return Some(name);
+        }
+        left = names_from(others, scope);
+    }
+    None
 }

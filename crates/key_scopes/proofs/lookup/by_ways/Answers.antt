@@ -74,7 +74,7 @@ loop-inner-preserved-in-Continue-branch-4 c =
     let none : c.own.result ≡ None = search rules in
     let own : c.own.result ≡ own_of table step.child step.rest.now = c.own.ensures c.table.invariant.strict
     ∙ ap (λ (t : Table). own_of t step.child step.rest.now) c.table.view_is in
-    let ends = step_rest table.scopes inner.scope c.args.key.now inner.rest.now (option_map way_of inner.last)
+    let ends = step_rest table.scopes (own_of table) inner.scope c.args.key.now inner.rest.now (option_map way_of inner.last)
     c.next_step.result step (entered_ends table c.args.key.now c.args.scope outer inner looks)
     c.next_step.ensures.value c.in-Some-next_step.is in
     record {
@@ -105,7 +105,7 @@ loop-inner-preserved c =
     let none : c.own.result ≡ None = search rules in
     let own : c.own.result ≡ own_of table step.child step.rest.now = c.own.ensures c.table.invariant.strict
     ∙ ap (λ (t : Table). own_of t step.child step.rest.now) c.table.view_is in
-    let ends = step_rest table.scopes inner.scope c.args.key.now inner.rest.now (option_map way_of inner.last)
+    let ends = step_rest table.scopes (own_of table) inner.scope c.args.key.now inner.rest.now (option_map way_of inner.last)
     c.next_step.result step (entered_ends table c.args.key.now c.args.scope outer inner looks)
     c.next_step.ensures.value c.in-Some-next_step.is in
     record {
