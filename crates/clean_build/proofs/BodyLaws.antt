@@ -4,9 +4,8 @@ use Rattle.std.proofs.Common.{refl, ap, subst, ◌∙◌}
 use Rattle.std.proofs.Math.Logic.{⊎_elim}
 use Rattle.std.proofs.lemmas.Bool.{or_cases, or_left}
 use Rattle.conref_pull.specs.Resolved.{IsResolved}
-use Rattle.conref_targets.specs.Rules.{AreRules, HasAll, all_kept, ditavals}
+use Rattle.conref_targets.specs.Rules.{all_kept, ditavals}
 use Rattle.conref_targets.specs.declared.rules.RuleLists.{RuleLists}
-use Rattle.conref_targets.proofs.RuleLaws.{rules_of_page}
 use Rattle.dita_doc.specs.Tree as tree
 use Rattle.dita_doc.specs.Tree.{Content, size_of, tree_of}
 use Rattle.dita_doc.specs.declared.content.Mark.{Mark}
@@ -18,7 +17,7 @@ use Rattle.dita_doc.specs.declared.fault.Fault.{Fault}
 use Rattle.dita_doc.specs.declared.plan.Context.{Context}
 use Rattle.doc_maker.specs.Made.{resolved_tree, written_from}
 use Rattle.flag_marks.specs.Marks.{attributes_at, marks_from}
-use Rattle.map_spec.specs.Written.{Element, Written, End, Chars, Node}
+use Rattle.map_spec.specs.Written.{Element, Written, Chars, Node}
 use Rattle.html_spec.specs.Anchors.{Here, anchor_faults, anchors, element_links}
 use Rattle.html_spec.specs.Blocks.{body_html}
 use Rattle.conref_spec.specs.Content.{Made}
@@ -81,15 +80,15 @@ module _ (made : Made) (resolved : Resolved) (is : IsResolved resolved made) whe
   nodes_are = same_written resolved ∙ is.nodes
 
   -- by the rules of the page, all of which were read
-  pub marks_are : (world : World) (context : Context) (lists : RuleLists) (marks : List Mark) → AreRules world lists
-      → HasAll lists (ditavals context.val context.page.filters)
+  pub marks_are : (world : World) (context : Context) (lists : RuleLists) (marks : List Mark)
+      → all_kept lists (ditavals context.val context.page.filters) ≡ rules_for world context
       → marks ≡ marks_from (all_kept lists (ditavals context.val context.page.filters)) 0 resolved.declared
       (map attributes_at resolved.doc.nodes)
       → marks ≡ marks_in (rules_for world context) made
-  marks_are world context lists marks are has found =
+  marks_are world context lists marks read found =
       marks_made (rules_for world context) made resolved marks is.nodes is.declared
       (found ∙ ap (λ (rules : List (List Rule)). marks_from rules 0 resolved.declared (map attributes_at resolved.doc.nodes))
-      (rules_of_page world lists (ditavals context.val context.page.filters) are has))
+      read)
 
   pub terms_are : (number : Option ℕ) (entries : List TermEntry) → entries ≡ terms_wanted number (written_of resolved)
       → entries ≡ terms_wanted number made.nodes

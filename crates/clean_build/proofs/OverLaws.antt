@@ -35,6 +35,10 @@ module _ (sources : State) (plan : Plan) (before after : Stand) (first last aske
   told_then =
       ap (λ (s : Setting). told_onto s [] last) setting_then ∙ ap (told_onto (made_for plan) []) (sym kept)
 
+  -- what is so where it stands is so of the sources and the plan
+  pub stands_for : (P : World → Setting → Type 0) → P before.world before.setting → P (world_of sources) (made_for plan)
+  stands_for P is = subst (λ (world : World). P world (made_for plan)) here (subst (P before.world) made is)
+
   told_first : told_onto before.setting [] first ≡ []
   told_first = ap (told_onto before.setting []) none
 

@@ -1,11 +1,11 @@
 -- The page of a plan, from the content that was resolved and the root of its document.
-use Rattle.std.specs.Prelude.{◌≡◌, ◌++◌, ℕ, Bool, true, false, List, [], ◌∷◌, Option, Some, None, option_map, slice_get}
+use Rattle.std.specs.Prelude.{◌≡◌, ◌++◌, ℕ, Bool, true, false, List, [], ◌∷◌, Option, Some, None, Result, Ok, Err, IfOk, option_map, slice_get}
 use Rattle.std.specs.List.{flat_map}
 use Rattle.std.specs.Option.{option_copied, option_map_or, option_to_list}
 use Rattle.std.proofs.Common.{refl, sym, ap, subst, ◌∙◌}
 use Rattle.conref_pull.specs.Resolved.{page_made, root_faults}
 use Rattle.conref_targets.specs.Rules as kept
-use Rattle.conref_targets.specs.Rules.{ditavals}
+use Rattle.conref_targets.specs.Rules.{AreRules, ditavals}
 use Rattle.conref_targets.specs.ResolveInput as pulled
 use Rattle.dita_doc.specs.declared.content.PageLink.{PageLink}
 use Rattle.dita_doc.specs.declared.content.Rule.{Rule}
@@ -15,20 +15,23 @@ use Rattle.dita_doc.specs.declared.fault.Fault.{Fault}
 use Rattle.dita_doc.specs.declared.plan.Context.{Context}
 use Rattle.dita_doc.specs.declared.plan.PagePlan.{PagePlan}
 use Rattle.dita_doc.specs.declared.plan.Plan.{Plan}
+use Rattle.dita_doc.specs.declared.stop.NoMemory.{NoMemory}
 use Rattle.ditaval_rules.specs.declared.rules.RulesRead.{RulesRead}
 use Rattle.map_spec.specs.Branches.{ditaval_in}
 use Rattle.map_spec.specs.Included.{root_in}
 use Rattle.map_spec.specs.Titles.{title_in}
 use Rattle.map_spec.specs.Written.{Whole, End}
-use Rattle.node_links.specs.NodeTable.{node_links}
+use Rattle.node_links.specs.NodeTable.{AreNodeLinks, node_links}
 use Rattle.html_spec.specs.Anchors.{element_links}
 use Rattle.conref_spec.specs.Content.{Made, count_limit, nothing_made, resolved_page}
 use Rattle.link_spec.specs.Links.{row_faults}
 use Rattle.html_spec.specs.PageHtml.{page_html}
 use Rattle.part_spec.specs.Parts.{content_of_root, here_of, hrefs_once, no_html, page_content, page_part, page_rules, rooms, rules_of, too_many}
 use Rattle.reader_spec.specs.World.{World}
+use Rattle.readers.specs.Setting.{Setting}
 use Rattle.clean_build.specs.Bodies.{AreKnown, IsBodyMade, body_of, content_of, rules_for, terms_wanted}
-use Rattle.clean_build.specs.Made.{IsMadeAt, IsPageMade, IsRootAt, nothing, number_wanted, page_at, page_behind, page_content_of, page_of_root}
+use Rattle.clean_build.specs.BuildInput.{IsReady}
+use Rattle.clean_build.specs.Made.{IsMadeAt, IsPageMade, IsRootAt, MakesPage, nothing, number_wanted, page_at, page_behind, page_content_of, page_of_root}
 use Rattle.clean_build.specs.Told.{made_for}
 use Rattle.clean_build.specs.declared.body.BodyMade.{BodyMade}
 use Rattle.clean_build.specs.declared.works.PageMade.{PageMade}
@@ -118,9 +121,9 @@ no_terms : (wanted : Bool) (index : ℕ) → ◌≡◌ {A = List TermEntry} [] (
 no_terms false index = refl
 no_terms true index = refl
 
-pub made_rooted : (world : World) (work : PageWork) (line : ℕ) (made : PageMade)
-    → IsRootAt world work.page.now.id.doc line → IsMadeAt world work line made → IsPageMade world work made
-made_rooted world work line made at is =
+pub made_rooted : (here world : World) (work : PageWork) (line : ℕ) (made : PageMade)
+    → IsRootAt world work.page.now.id.doc line → IsMadeAt here world work line made → IsPageMade here world work made
+made_rooted here world work line made at is =
     let plan = work.ground.plan.now in
     let val = option_copied work.ground.val in
     let page = work.page.now in record {
@@ -130,19 +133,30 @@ made_rooted world work line made at is =
       content = is.content;
     }
 
-pub made_rootless : (world : World) (work : PageWork) (made : PageMade) → root_in world work.page.now.id.doc ≡ None
-    → made ≡ nothing work.content → AreKnown world work.ground.plan.now work.content → IsPageMade world work made
-made_rootless world work made none is known =
+pub made_rootless : (here world : World) (work : PageWork) (made : PageMade)
+    → root_in world work.page.now.id.doc ≡ None → made ≡ nothing work.content
+    → AreKnown here world work.ground.plan.now work.content → IsPageMade here world work made
+made_rootless here world work made none is known =
     let plan = work.ground.plan.now in
     let val = option_copied work.ground.val in
     let page = work.page.now in
-    subst (IsPageMade world work) (sym is) (record {
+    subst (IsPageMade here world work) (sym is) (record {
       html = page_rootless world plan val work.index page work.behind none;
       terms = no_terms work.with_terms work.index
           ∙ ap (λ (m : Made). terms_wanted (number_wanted work.with_terms work.index) m.nodes)
           (content_rootless world plan val page none);
       content = known;
     })
+
+-- a page, if there is one, is what its work makes, and hands back the rules
+pub made_from : (result : Result PageMade NoMemory) (work : PageWork) (here world : World) (setting : Setting)
+    → (AreRules here work.content.rules → IfOk result (λ (made : PageMade). AreRules here made.content.rules))
+    → (IsReady world work.ground setting → slice_get work.ground.plan.now.pages work.index ≡ Some work.page.now
+    → AreNodeLinks world work.ground.plan.now work.links.now → AreKnown here world work.ground.plan.now work.content
+    → IfOk result (IsPageMade here world work))
+    → IfOk result (MakesPage work here world setting)
+made_from (Ok made) work here world setting rules page = record { rules = rules; page = page }
+made_from (Err stop) work here world setting rules page = tt
 
 -- The page at an index
 
@@ -154,14 +168,14 @@ page_there world plan val index page there = ap (λ (found : Option PagePlan). o
     (λ (p : PagePlan). page_behind rooms world plan val index p (row_faults plan)) found no_html) (sym there)
 
 -- The page, from its body, its links and its title
-pub page_shown : (world : World) (plan : Plan) (index : ℕ) (page : PagePlan) (behind : List Fault) (line : ℕ)
+pub page_shown : (here world : World) (plan : Plan) (index : ℕ) (page : PagePlan) (behind : List Fault) (line : ℕ)
     (number : Option ℕ) (context : Context) (made : BodyMade) (of_nodes hrefs : List PageLink) (html : Html)
-    → IsBodyMade world plan context page index behind number made → of_nodes ≡ node_links world plan index
+    → IsBodyMade here world plan context page index behind number made → of_nodes ≡ node_links world plan index
     → hrefs ≡ hrefs_once (of_nodes ++ made.links)
     → html ≡ page_html page.id.doc line (title_in world page.id.doc []) made.body hrefs
     → html ≡ page_at rooms world plan index page behind page.id.doc line (rules_for world context)
     (content_of world plan context)
-page_shown world plan index page behind line number context made of_nodes hrefs html is nodes once shown =
+page_shown here world plan index page behind line number context made of_nodes hrefs html is nodes once shown =
     let here = here_of world plan page index in
     let content = content_of world plan context in
     let name = page.id.doc in

@@ -1,5 +1,5 @@
 -- Which documents are read by calls one after another.
-use Rattle.std.specs.Prelude.{◌≡◌, ◌++◌, ◌||◌, ℕ, List, [], ◌∷◌, IsTrue, OnOk, Result, Ok, Err, bytes_eq}
+use Rattle.std.specs.Prelude.{◌≡◌, ◌++◌, ℕ, List, [], ◌∷◌, IsTrue, OnOk, Result, Ok, Err, bytes_eq}
 use Rattle.std.specs.List.{AllByRecursion}
 use Rattle.std.proofs.Common.{sym, subst, inl}
 use Rattle.std.proofs.Math.Logic.{∥∥₁_elim, ⊎_elim}

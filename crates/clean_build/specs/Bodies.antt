@@ -23,9 +23,10 @@ use Rattle.reader_spec.specs.World.{World}
 use Rattle.clean_build.specs.Told.{made_for}
 use Rattle.clean_build.specs.declared.body.BodyMade.{BodyMade}
 
--- the tables of content are right in the world, for the documents of the plan with their pushes
-pub record AreKnown (world : World) (plan : Plan) (tables : Tables) : Type 0 where
-  pub rules : AreRules world tables.rules
+-- the tables of content: their rules are those of the world on which a reader stands, and what else they have is right in
+-- the other world, for the documents of the plan with their pushes
+pub record AreKnown (here world : World) (plan : Plan) (tables : Tables) : Type 0 where
+  pub rules : AreRules here tables.rules
   pub places : kept.AreTables (pushed world plan.documents) tables.places
 
 -- the same HTML with other faults around its own
@@ -50,11 +51,11 @@ abbrev pub terms_wanted : Option ℕ → Written → List TermEntry
 terms_wanted None nodes = []
 terms_wanted (Some number) nodes = terms_of number nodes
 
-pub record IsBodyMade (world : World) (plan : Plan) (context : Context) (page : PagePlan) (index : ℕ)
+pub record IsBodyMade (here world : World) (plan : Plan) (context : Context) (page : PagePlan) (index : ℕ)
     (behind : List Fault) (wanted : Option ℕ) (made : BodyMade) : Type 0 where
   pub body :
       made.body ≡
       body_of (here_of world plan page index) (rules_for world context) behind (content_of world plan context)
   pub links : made.links ≡ element_links (here_of world plan page index) (content_of world plan context).nodes
   pub terms : made.terms ≡ terms_wanted wanted (content_of world plan context).nodes
-  pub content : AreKnown world plan made.content
+  pub content : AreKnown here world plan made.content

@@ -2,6 +2,7 @@
 use Rattle.std.specs.Prelude.{◌≡◌, ℕ, Bool, true, false, List, [], Option, Some, None, slice_get}
 use Rattle.std.specs.Option.{option_copied, option_map_or}
 use Rattle.conref_pull.specs.declared.tables.Tables.{Tables}
+use Rattle.conref_targets.specs.Rules.{AreRules}
 use Rattle.dita_doc.specs.declared.content.Rule.{Rule}
 use Rattle.dita_doc.specs.declared.fact.Html.{Html}
 use Rattle.dita_doc.specs.declared.fault.Fault.{Fault}
@@ -32,8 +33,8 @@ use Rattle.clean_build.specs.declared.works.PageWork.{PageWork}
 
 -- The links of a plan
 
-abbrev pub MakesLinks : LinksWork → World → Setting → NodeLinks → Type 0
-MakesLinks work world setting made = IsReady world work.ground setting → AreNodeLinks world work.ground.plan.now made
+abbrev pub MakesLinks : LinksWork → World → World → Setting → NodeLinks → Type 0
+MakesLinks work here world setting made = IsReady world work.ground setting → AreNodeLinks world work.ground.plan.now made
 
 -- the documents in which nodes stand, and pages of those that they lead to
 abbrev pub TellsLinks : LinksWork → World → Setting → List Told → List Told → Type 0
@@ -41,8 +42,8 @@ TellsLinks work world setting old new = TellsOnly (is_of_links work.ground.plan.
 
 -- The contents page
 
-abbrev pub MakesContents : ContentsWork → World → Setting → Html → Type 0
-MakesContents work world setting made =
+abbrev pub MakesContents : ContentsWork → World → World → Setting → Html → Type 0
+MakesContents work here world setting made =
     IsReady world work.ground setting → made ≡ contents_part world work.ground.plan.now
 
 abbrev pub TellsContents : ContentsWork → World → Setting → List Told → List Told → Type 0
@@ -94,7 +95,7 @@ number_wanted false number = None
 number_wanted true number = Some number
 
 -- the page of a document whose root stands at this line
-pub record IsMadeAt (world : World) (work : PageWork) (line : ℕ) (made : PageMade) : Type 0 where
+pub record IsMadeAt (here world : World) (work : PageWork) (line : ℕ) (made : PageMade) : Type 0 where
   pub html :
       made.html ≡
       page_at rooms world work.ground.plan.now work.index work.page.now work.behind work.page.now.id.doc line
@@ -104,9 +105,9 @@ pub record IsMadeAt (world : World) (work : PageWork) (line : ℕ) (made : PageM
       made.terms ≡
       terms_wanted (number_wanted work.with_terms work.index)
       (content_of world work.ground.plan.now (context_for work.ground work.page.now)).nodes
-  pub content : AreKnown world work.ground.plan.now made.content
+  pub content : AreKnown here world work.ground.plan.now made.content
 
-pub record IsPageMade (world : World) (work : PageWork) (made : PageMade) : Type 0 where
+pub record IsPageMade (here world : World) (work : PageWork) (made : PageMade) : Type 0 where
   pub html :
       made.html ≡
       page_behind rooms world work.ground.plan.now (option_copied work.ground.val) work.index work.page.now work.behind
@@ -114,13 +115,15 @@ pub record IsPageMade (world : World) (work : PageWork) (made : PageMade) : Type
       made.terms ≡
       terms_wanted (number_wanted work.with_terms work.index)
       (page_content_of world work.ground.plan.now (option_copied work.ground.val) work.page.now).nodes
-  pub content : AreKnown world work.ground.plan.now made.content
+  pub content : AreKnown here world work.ground.plan.now made.content
 
-abbrev pub MakesPage : PageWork → World → Setting → PageMade → Type 0
-MakesPage work world setting made = IsReady world work.ground setting
-    → slice_get work.ground.plan.now.pages work.index ≡ Some work.page.now
-    → AreNodeLinks world work.ground.plan.now work.links.now → AreKnown world work.ground.plan.now work.content
-    → IsPageMade world work made
+-- the rules that it handed back are right whatever it was made for
+pub record MakesPage (work : PageWork) (here world : World) (setting : Setting) (made : PageMade) : Type 0 where
+  pub rules : AreRules here work.content.rules → AreRules here made.content.rules
+  pub page : IsReady world work.ground setting
+      → slice_get work.ground.plan.now.pages work.index ≡ Some work.page.now
+      → AreNodeLinks world work.ground.plan.now work.links.now → AreKnown here world work.ground.plan.now work.content
+      → IsPageMade here world work made
 
 -- it asks for documents of the page and for its DITAVALs alone as a whole
 abbrev pub TellsPage : PageWork → World → Setting → List Told → List Told → Type 0

@@ -1,6 +1,6 @@
 -- The page of a build's terms (own): the terms of its pages as they are gathered, and the titles under which it lists
 -- them.
-use Rattle.std.specs.Prelude.{◌≡◌, ℕ, Bool, true, false, List, Option, None, [], map, take}
+use Rattle.std.specs.Prelude.{◌≡◌, ℕ, Bool, true, false, List, Option, None, map, take}
 use Rattle.std.specs.List.{flat_map}
 use Rattle.dita_doc.specs.declared.content.TermEntry.{TermEntry}
 use Rattle.dita_doc.specs.declared.fact.Html.{Html}
@@ -53,8 +53,8 @@ page_of_build true world map val = clean_terms world map val
 abbrev pub documents_of : List PagePlan → List (List ℕ)
 documents_of pages = map (λ (page : PagePlan). page.id.doc) pages
 
-abbrev pub MakesTerms : TermsWork → World → Setting → Option Html → Type 0
-MakesTerms work world setting made =
+abbrev pub MakesTerms : TermsWork → World → World → Setting → Option Html → Type 0
+MakesTerms work here world setting made =
     made ≡ terms_html work.terms.now work.ground.plan.now (page_titles world work.ground.plan.now)
 
 abbrev pub about_terms : TermsWork → List (List ℕ)

@@ -7,7 +7,7 @@ ghost use Rattle.clean_build.specs.Bodies.{AreKnown, IsBodyMade};
 ghost use Rattle.clean_build.specs.Reads.{MayReadFor, ReadsOnly};
 ghost use Rattle.clean_build.specs.Told.{made_for};
 ghost use Rattle.conref_targets.specs.Asking as asking_spec;
-ghost use Rattle.conref_targets.specs.Rules.{all_kept, ditavals};
+ghost use Rattle.conref_targets.specs.Rules.{AreRules, all_kept, ditavals};
 ghost use Rattle.dita_doc.specs.declared.plan.PagePlan.{PagePlan};
 ghost use Rattle.flag_marks.specs.Marks as marks_spec;
 ghost use Rattle.html_spec.specs.Blocks as blocks_spec;
@@ -58,9 +58,12 @@ pub(crate) fn page_body<A: Asker>(
 ) -> Result<BodyMade, NoMemory>
     ensures known { (world : World) (page : PagePlan) (index : ℕ) → Agrees world (A.told asker.new)
         → (A.stand asker.old).setting ≡ made_for plan.now
-        → IsPageOf plan.now (arc_value context.now) page index → AreKnown world plan.now content
-        → IfOk result
-        (IsBodyMade world plan.now (arc_value context.now) page index behind number) }
+        → IsPageOf plan.now (arc_value context.now) page index
+        → AreKnown (A.stand asker.old).world world plan.now content
+        → IfOk result (IsBodyMade (A.stand asker.old).world world plan.now (arc_value context.now)
+        page index behind number) }
+    ensures kept { AreRules (A.stand asker.old).world content.rules
+        → IfOk result (λ made. AreRules (A.stand asker.old).world made.content.rules) }
     ensures founded { StaysFounded (founded_spec.homes (A.stand asker.old).setting.nodes
         ++ (arc_value context.now).page.doc
         ∷ ditavals (arc_value context.now).val (arc_value context.now).page.filters)

@@ -8,7 +8,7 @@ ghost use Rattle.clean_build.specs.Told.{made_for};
 ghost use Rattle.conref_targets.specs.Asking as asking_spec;
 ghost use Rattle.conref_pull.specs.Resolved.{IsResolved};
 ghost use Rattle.conref_targets.specs.PageAsking.{AsksPage, page_at};
-ghost use Rattle.conref_targets.specs.Rules.{AreRules, HasAll, ditavals};
+ghost use Rattle.conref_targets.specs.Rules.{AreRules, all_kept, ditavals};
 ghost use Rattle.conref_targets.specs.ResolveInput.{documents_in};
 ghost use Rattle.conref_targets.specs.Tables.{AreTables};
 ghost use Rattle.dita_doc.specs.declared.plan.Plan.{Plan};
@@ -35,15 +35,21 @@ pub fn resolved_for<A: Asker>(
     context: &Arc<Context>,
 ) -> Result<Resolved, NoMemory>
     ensures known { (world : World) (plan : Plan) → Agrees world (A.told asker.new)
-        → (A.stand asker.old).setting ≡ made_for plan → AreKnown world plan tables.old
+        → (A.stand asker.old).setting ≡ made_for plan
+        → AreKnown (A.stand asker.old).world world plan tables.old
         → IfOk result (λ resolved.
         IsResolved resolved (bodies_spec.content_of world plan (arc_value context.now))) }
-    ensures kept { (world : World) (plan : Plan) → Agrees world (A.told asker.new)
-        → (A.stand asker.old).setting ≡ made_for plan → AreKnown world plan tables.old
-        → OnOk result (AreRules world tables.new.rules
-        × AreTables (documents_in world (made_for plan)) tables.new.places) }
-    ensures has { OnOk result (HasAll tables.new.rules
-        (ditavals (arc_value context.now).val (arc_value context.now).page.filters)) }
+    ensures kept { AreRules (A.stand asker.old).world tables.old.rules
+        → OnOk result (AreRules (A.stand asker.old).world tables.new.rules) }
+    ensures places { (world : World) (plan : Plan) → Agrees world (A.told asker.new)
+        → (A.stand asker.old).setting ≡ made_for plan
+        → AreKnown (A.stand asker.old).world world plan tables.old
+        → OnOk result (AreTables (documents_in world (made_for plan)) tables.new.places) }
+    ensures rules { AreRules (A.stand asker.old).world tables.old.rules
+        → (world : World) → Agrees world (A.told asker.new)
+        → OnOk result (all_kept tables.new.rules
+        (ditavals (arc_value context.now).val (arc_value context.now).page.filters)
+        ≡ bodies_spec.rules_for world (arc_value context.now)) }
     ensures stand { A.stand asker.new ≡ A.stand asker.old }
     ensures founded { StaysFounded (founded_spec.homes (A.stand asker.old).setting.nodes
         ++ (arc_value context.now).page.doc

@@ -16,8 +16,8 @@ use std::alloc::Global;
 pub trait PlanTask {
     type Made;
 
-    /// What is made in a world by a reader that was made for this.
-    ghost makes: { Self → World → Setting → Self.Made → Type 0 };
+    /// What is made in the second world by a reader that stands on the first and was made for this.
+    ghost makes: { Self → World → World → Setting → Self.Made → Type 0 };
 
     /// The documents that it asks about, beside those in which the reader's nodes stand.
     ghost about: { Self → List (List ℕ) };
@@ -34,7 +34,7 @@ pub trait PlanTask {
 
     fn run<A: Asker>(self, alloc: Global, asker: &mut A) -> Result<Self::Made, NoMemory>
         ensures known { (world : World) → Agrees world (A.told asker.new)
-            → IfOk result (makes self world (A.stand asker.old).setting) }
+            → IfOk result (makes self (A.stand asker.old).world world (A.stand asker.old).setting) }
         ensures founded { StaysFounded
             (founded_spec.homes (A.stand asker.old).setting.nodes ++ about self)
             (A.told asker.old) (A.told asker.new) }

@@ -39,7 +39,7 @@ pub fn over_tables<W: PlanTask>(
         (λ done. GoesOn (world_of sources.now) plan.now.documents done.cache) }
     ensures known { (world : World) → IfOk result
         (λ done. Agrees world (told_spec.told_by_plan plan.now done.asked)
-        → W.makes work world (told_spec.made_for plan.now) done.made) }
+        → W.makes work (world_of sources.now) world (told_spec.made_for plan.now) done.made) }
     ensures agrees { IfOk result
         (λ done. Agrees (world_of sources.now) (told_spec.told_by_plan plan.now done.asked)) }
     ensures founded { IfOk result (λ done. StaysFounded
@@ -79,7 +79,8 @@ pub(crate) fn made_over<W: PlanTask>(
     requires tables { AreTables (world_of sources.now) plan.now.nodes plan.now.documents
         plan.now.pages tables.now }
     ensures made { IfOk result
-        (λ done. W.makes work (world_of sources.now) (told_spec.made_for plan.now) done.0) }
+        (λ done. W.makes work (world_of sources.now) (world_of sources.now)
+        (told_spec.made_for plan.now) done.0) }
     ensures goes_on { IfOk result
         (λ done. GoesOn (world_of sources.now) plan.now.documents done.1) }
 {

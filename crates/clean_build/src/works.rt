@@ -8,7 +8,7 @@ ghost use Rattle.clean_build.specs.Bodies.{AreKnown, IsBodyMade};
 ghost use Rattle.clean_build.specs.BuildInput.{IsReady, context_for};
 ghost use Rattle.clean_build.specs.Reads.{MayReadFor, ReadsOnly};
 ghost use Rattle.conref_targets.specs.Asking as asking_spec;
-ghost use Rattle.conref_targets.specs.Rules.{ditavals};
+ghost use Rattle.conref_targets.specs.Rules.{AreRules, ditavals};
 ghost use Rattle.map_spec.specs.Titles.{title_in};
 ghost use Rattle.node_links.specs.NodeTable.{AreNodeLinks};
 ghost use Rattle.html_spec.specs.PageHtml as page_html_spec;
@@ -157,8 +157,10 @@ fn rooted<A: Asker>(
         → IsReady world work.entry.ground (A.stand asker.old).setting
         → slice_get work.entry.ground.plan.now.pages work.entry.index ≡ Some work.entry.page.now
         → AreNodeLinks world work.entry.ground.plan.now work.entry.links.now
-        → AreKnown world work.entry.ground.plan.now work.entry.content
-        → IfOk result (made_spec.IsMadeAt world work.entry line) }
+        → AreKnown (A.stand asker.old).world world work.entry.ground.plan.now work.entry.content
+        → IfOk result (made_spec.IsMadeAt (A.stand asker.old).world world work.entry line) }
+    ensures kept { AreRules (A.stand asker.old).world work.entry.content.rules
+        → IfOk result (λ made. AreRules (A.stand asker.old).world made.content.rules) }
     ensures founded { StaysFounded (founded_spec.homes (A.stand asker.old).setting.nodes
         ++ names_spec.about_page work.entry) (A.told asker.old) (A.told asker.new) }
     ensures asks { AsksOnly asking_spec.of_content (names_spec.documents_of_page work.entry)
@@ -215,9 +217,11 @@ fn body_on_ground<A: Asker>(
     ensures known { (world : World) (index : ℕ) → Agrees world (A.told asker.new)
         → IsReady world ground.entry (A.stand asker.old).setting
         → slice_get ground.entry.plan.now.pages index ≡ Some page.now
-        → AreKnown world ground.entry.plan.now content
-        → IfOk result (IsBodyMade world ground.entry.plan.now
+        → AreKnown (A.stand asker.old).world world ground.entry.plan.now content
+        → IfOk result (IsBodyMade (A.stand asker.old).world world ground.entry.plan.now
         (context_for ground.entry page.now) page.now index behind number) }
+    ensures kept { AreRules (A.stand asker.old).world content.rules
+        → IfOk result (λ made. AreRules (A.stand asker.old).world made.content.rules) }
     ensures founded { StaysFounded (founded_spec.homes (A.stand asker.old).setting.nodes
         ++ page.now.id.doc ∷ ditavals (option_copied ground.entry.val) page.now.id.filters)
         (A.told asker.old) (A.told asker.new) }

@@ -14,7 +14,7 @@ ghost use Rattle.readers.specs.Told.{Agrees, Told};
 ghost use Rattle.conref_targets.specs.Asking.{Asks};
 ghost use Rattle.conref_targets.specs.Hrefs.{HaveNamed};
 ghost use Rattle.conref_targets.specs.PageAsking.{AsksPage, IsAt, PageAt, page_at};
-ghost use Rattle.conref_targets.specs.Rules.{AreRules, HasAll, ditavals};
+ghost use Rattle.conref_targets.specs.Rules.{AreRules, all_kept, ditavals, page_rules};
 ghost use Rattle.conref_targets.specs.ResolveInput.{documents_in};
 ghost use Rattle.conref_targets.specs.Tables.{AreTables};
 ghost use Rattle.conref_targets.specs.Asking as asking_spec;
@@ -107,15 +107,17 @@ pub fn resolve_with<A: Asker>(
     place: u32,
 ) -> Result<Resolved, NoMemory>
     ensures known { (world : World) → Agrees world (A.told asker.new)
-        → AreRules world tables.old.rules
+        → AreRules (A.stand asker.old).world tables.old.rules
         → AreTables (documents_in world (A.stand asker.old).setting) tables.old.places
         → IfOk result (λ resolved. IsResolved resolved (resolved_spec.node_resolved world
         (A.stand asker.old).setting context.now.val context.now.page place)) }
-    ensures kept { (world : World) → Agrees world (A.told asker.new)
-        → AreRules world tables.old.rules
+    ensures kept { AreRules (A.stand asker.old).world tables.old.rules
+        → OnOk result (AreRules (A.stand asker.old).world tables.new.rules) }
+    ensures places { (world : World) → Agrees world (A.told asker.new)
+        → AreRules (A.stand asker.old).world tables.old.rules
         → AreTables (documents_in world (A.stand asker.old).setting) tables.old.places
-        → OnOk result (AreRules world tables.new.rules
-        × AreTables (documents_in world (A.stand asker.old).setting) tables.new.places) }
+        → OnOk result
+        (AreTables (documents_in world (A.stand asker.old).setting) tables.new.places) }
     ensures stand { A.stand asker.new ≡ A.stand asker.old }
     ensures founded { StaysFounded (founded_spec.homes (A.stand asker.old).setting.nodes
         ++ context.now.page.doc ∷ ditavals context.now.val context.now.page.filters)
@@ -157,17 +159,21 @@ pub fn resolve_page_with<A: Asker>(
     context: &Context,
 ) -> Result<Resolved, NoMemory>
     ensures known { (world : World) → Agrees world (A.told asker.new)
-        → AreRules world tables.old.rules
+        → AreRules (A.stand asker.old).world tables.old.rules
         → AreTables (documents_in world (A.stand asker.old).setting) tables.old.places
         → IfOk result (λ resolved. IsResolved resolved (resolved_spec.page_made world
         (A.stand asker.old).setting context.now.val context.now.page)) }
-    ensures kept { (world : World) → Agrees world (A.told asker.new)
-        → AreRules world tables.old.rules
+    ensures kept { AreRules (A.stand asker.old).world tables.old.rules
+        → OnOk result (AreRules (A.stand asker.old).world tables.new.rules) }
+    ensures places { (world : World) → Agrees world (A.told asker.new)
+        → AreRules (A.stand asker.old).world tables.old.rules
         → AreTables (documents_in world (A.stand asker.old).setting) tables.old.places
-        → OnOk result (AreRules world tables.new.rules
-        × AreTables (documents_in world (A.stand asker.old).setting) tables.new.places) }
-    ensures has { OnOk result (HasAll tables.new.rules
-        (ditavals context.now.val context.now.page.filters)) }
+        → OnOk result
+        (AreTables (documents_in world (A.stand asker.old).setting) tables.new.places) }
+    ensures rules { AreRules (A.stand asker.old).world tables.old.rules
+        → (world : World) → Agrees world (A.told asker.new) → OnOk result (all_kept tables.new.rules
+        (ditavals context.now.val context.now.page.filters)
+        ≡ page_rules world (ditavals context.now.val context.now.page.filters)) }
     ensures stand { A.stand asker.new ≡ A.stand asker.old }
     ensures founded { StaysFounded (founded_spec.homes (A.stand asker.old).setting.nodes
         ++ context.now.page.doc ∷ ditavals context.now.val context.now.page.filters)

@@ -7,7 +7,8 @@ use std::alloc::Global;
 
 /// What was read of the documents of a plan, each when a page first needs it: where their elements
 /// stand, the conditional attributes that they declare, and the rules of each DITAVAL. It holds for
-/// one plan over one world, and each answer by it is the same as with new tables.
+/// one plan over one world, and each answer by it is the same as with new tables. The rules alone may
+/// go on to a page that is made for other worlds, too.
 #[derive(Drop)]
 pub struct Tables {
     pub(crate) rules: RuleLists,
@@ -26,10 +27,25 @@ impl Tables {
         ensures rules { (world : World) → rules_spec.AreRules world result.rules }
         ensures places { (documents : Documents) → tables_spec.AreTables documents result.places }
     {
+        Tables::with_rules(alloc, RuleLists::new(alloc))
+    }
+
+    /// Tables of these rules, for which nothing else is read yet.
+    pub fn with_rules(alloc: Global, rules: RuleLists) -> Self
+        ensures rules { result.rules ≡ rules }
+        ensures places { (documents : Documents) → tables_spec.AreTables documents result.places }
+    {
         Tables {
-            rules: RuleLists::new(alloc),
+            rules,
             places: PlaceTables::new(alloc),
         }
+    }
+
+    /// The rules that were read.
+    pub fn into_rules(self) -> RuleLists
+        ensures { result ≡ self.rules }
+    {
+        self.rules
     }
 
     /// The rules by which a page is judged: those of the build's DITAVAL and of each of its

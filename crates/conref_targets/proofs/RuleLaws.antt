@@ -4,11 +4,12 @@ use Rattle.std.specs.BTreeMap.{is_at}
 use Rattle.std.specs.Option.{option_and_then, option_to_list}
 use Rattle.std.proofs.Common.{refl, sym, ap, subst, ◌∙◌}
 use Rattle.std.proofs.lemmas.List.{take_more}
+use Rattle.std.proofs.lemmas.List.Concat.{flat_map-append}
 use Rattle.dita_doc.specs.TextOrder.{text_cmp}
 use Rattle.dita_doc.specs.declared.content.Rule.{Rule}
 use Rattle.dita_doc.specs.declared.stop.NoMemory.{NoMemory}
 use Rattle.reader_spec.specs.World.{World}
-use Rattle.conref_targets.specs.Rules.{AreRules, HasAll, HasRead, Keeps, all_kept, kept_under, page_rules, rules_under}
+use Rattle.conref_targets.specs.Rules.{AreRules, HasAll, HasRead, HaveSame, Keeps, all_kept, kept_under, page_rules, rules_under}
 use Rattle.conref_targets.specs.declared.rules.RuleLists.{RuleLists}
 use Rattle.conref_targets.proofs.KnownLaws.{put_found}
 
@@ -56,6 +57,25 @@ pub both_have : (lists : RuleLists) (names more : List (List ℕ)) → HasAll li
 both_have lists [] more first second = second
 both_have lists (name ∷ names) more first second = (first.0, both_have lists names more first.1 second)
 
+module _ (here world : World) where
+  -- what stands under a name is all that its rules are read from
+  pub one_same : (name : List ℕ) → world name ≡ here name → HaveSame here world (name ∷ [])
+  one_same name same = rw same refl
+
+  pub both_same : (names more : List (List ℕ)) → HaveSame here world names → HaveSame here world more
+      → HaveSame here world (names ++ more)
+  both_same names more first second =
+      flat_map-append (λ name. option_to_list (rules_under world name)) names more
+      ∙ ap (λ (rules : List (List Rule)). rules ++ page_rules world more) first
+      ∙ ap (λ (rules : List (List Rule)). page_rules here names ++ rules) second
+      ∙ sym (flat_map-append (λ name. option_to_list (rules_under here name)) names more)
+
+  pub next_same : (names : List (List ℕ)) (at : ℕ) (name : List ℕ) → at < length names → name ≡ get_or names at name
+      → HaveSame here world (take at names) → HaveSame here world (name ∷ []) → HaveSame here world (take (at + 1) names)
+  next_same names at name within is before one =
+      subst (HaveSame here world) (sym (take_more names at name within))
+      (subst (λ n. HaveSame here world (take at names ++ n ∷ [])) is (both_same (take at names) (name ∷ []) before one))
+
 -- the next of some names was read
 pub read_next : (old new : RuleLists) (names : List (List ℕ)) (at : ℕ) (name : List ℕ) → at < length names
     → name ≡ get_or names at name → HasAll old (take at names) → HasRead new old name
@@ -85,9 +105,12 @@ module _ (old new : RuleLists) (key name : List ℕ) (rules : Option (List Rule)
     has = subst (λ n. is_some (kept_under new n) ≡ true) same (rw put refl);
   }
 
-pub on_ok_have : (old new : RuleLists) (names more : List (List ℕ)) (result : Result (Unit {0}) NoMemory)
-    → HasAll old names → OnOk result (Keeps old new) → OnOk result (HasAll new more)
-    → OnOk result (HasAll new (names ++ more))
-on_ok_have old new names more (Ok done) has keeps later =
-    both_have new names more (all_keep old new names keeps has) later
-on_ok_have old new names more (Err stop) has keeps later = tt
+-- what is kept for some names and then for more is what both have in the other world, too
+pub all_read : (here world : World) (old new : RuleLists) (names more : List (List ℕ)) (result : Result (Unit {0}) NoMemory)
+    → HasAll old names → OnOk result (Keeps old new) → OnOk result (HasAll new more) → OnOk result (AreRules here new)
+    → HaveSame here world names → OnOk result (HaveSame here world more)
+    → OnOk result (all_kept new (names ++ more) ≡ page_rules world (names ++ more))
+all_read here world old new names more (Ok done) has keeps later are first second =
+    rules_of_page here new (names ++ more) are (both_have new names more (all_keep old new names keeps has) later)
+    ∙ sym (both_same here world names more first second)
+all_read here world old new names more (Err stop) has keeps later are first second = tt

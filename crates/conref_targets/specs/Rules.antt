@@ -17,6 +17,10 @@ use Rattle.conref_targets.specs.declared.rules.RuleLists.{RuleLists}
 abbrev pub rules_under : World → List ℕ → Option (List Rule)
 rules_under world name = option_map (λ (read : RulesRead). read.rules) (ditaval_in world name)
 
+-- the rules of a page: those of each of its DITAVALs
+abbrev pub page_rules : World → List (List ℕ) → List (List Rule)
+page_rules world names = flat_map (λ name. option_to_list (rules_under world name)) names
+
 -- what is kept under a name
 abbrev pub kept_under : RuleLists → List ℕ → Option (Option (List Rule))
 kept_under lists name = tree.get text_cmp lists.lists name
@@ -25,6 +29,10 @@ kept_under lists name = tree.get text_cmp lists.lists name
 pub record AreRules (world : World) (lists : RuleLists) : Type 0 where
   pub each : (name : List ℕ) (rules : Option (List Rule)) → Some rules ≡ kept_under lists name
       → rules ≡ rules_under world name
+
+-- the DITAVALs of these names have the same rules in both worlds
+abbrev pub HaveSame : World → World → List (List ℕ) → Type 0
+HaveSame here world names = page_rules world names ≡ page_rules here names
 
 -- something is kept under each of these names
 abbrev pub HasAll : RuleLists → List (List ℕ) → Type 0
@@ -49,10 +57,6 @@ ditavals val filters = option_to_list val ++ filters
 
 abbrev pub all_kept : RuleLists → List (List ℕ) → List (List Rule)
 all_kept lists names = flat_map (rules_kept lists) names
-
--- the rules of a page: those of each of its DITAVALs
-abbrev pub page_rules : World → List (List ℕ) → List (List Rule)
-page_rules world names = flat_map (λ name. option_to_list (rules_under world name)) names
 
 -- some of these rules exclude an element of these attributes, for which these names are declared
 abbrev pub some_exclude : List (List Rule) → List (List ℕ) → List Attribute → Bool

@@ -22,7 +22,7 @@ use std::marker::Model;
 use std::sync::Arc;
 
 /// A table of the rules of each DITAVAL, by its name; a document that is none has no rules. They hold
-/// in one world, and may serve all pages of a plan.
+/// in one world, and may serve all pages of a plan, whichever reader over it makes them.
 #[derive(Drop)]
 pub struct RuleLists {
     lists: BTreeMap<Name, Option<RuleTable>>,
@@ -39,7 +39,8 @@ impl RuleLists {
     }
 
     /// Reads what the rules of a page need that is not read yet. Each page asks for its documents,
-    /// so that its questions do not depend on what was made before.
+    /// so that its questions do not depend on what was made before, and so its rules are those of
+    /// each world that agrees with what it was told, in whichever world they were read.
     #[tactic(auto, using(crate::proofs::Telling::telling))]
     pub fn read<R: Reader>(
         &mut self,
@@ -47,10 +48,14 @@ impl RuleLists {
         reader: &mut R,
         context: &Context,
     ) -> Result<(), NoMemory>
-        ensures known { (world : World) → Agrees world (R.told reader.new)
-            → rules_spec.AreRules world self.old → OnOk result (rules_spec.AreRules world self.new) }
-        ensures has { OnOk result (rules_spec.HasAll self.new
+        ensures known { rules_spec.AreRules (R.stand reader.old).world self.old
+            → (world : World) → Agrees world (R.told reader.new)
+            → OnOk result (rules_spec.all_kept self.new
+            (rules_spec.ditavals context.now.val context.now.page.filters)
+            ≡ rules_spec.page_rules world
             (rules_spec.ditavals context.now.val context.now.page.filters)) }
+        ensures kept { rules_spec.AreRules (R.stand reader.old).world self.old
+            → OnOk result (rules_spec.AreRules (R.stand reader.old).world self.new) }
         ensures stand { R.stand reader.new ≡ R.stand reader.old }
         ensures founded { StaysFounded (rules_spec.ditavals context.now.val context.now.page.filters)
             (R.told reader.old) (R.told reader.new) }
@@ -73,8 +78,10 @@ impl RuleLists {
         reader: &mut R,
         context: &Context,
     ) -> Result<(), NoMemory>
-        ensures known { (world : World) → Agrees world (R.told reader.new)
-            → rules_spec.AreRules world self.old → OnOk result (rules_spec.AreRules world self.new) }
+        ensures kept { rules_spec.AreRules (R.stand reader.old).world self.old
+            → OnOk result (rules_spec.AreRules (R.stand reader.old).world self.new) }
+        ensures same { (world : World) → Agrees world (R.told reader.new)
+            → OnOk result (rules_spec.HaveSame (R.stand reader.old).world world (option_to_list context.now.val)) }
         ensures has { OnOk result (rules_spec.HasAll self.new (option_to_list context.now.val)) }
         ensures stand { R.stand reader.new ≡ R.stand reader.old }
         ensures founded { StaysFounded (option_to_list context.now.val) (R.told reader.old)
@@ -99,8 +106,10 @@ impl RuleLists {
         reader: &mut R,
         filters: &[Name],
     ) -> Result<(), NoMemory>
-        ensures known { (world : World) → Agrees world (R.told reader.new)
-            → rules_spec.AreRules world self.old → OnOk result (rules_spec.AreRules world self.new) }
+        ensures kept { rules_spec.AreRules (R.stand reader.old).world self.old
+            → OnOk result (rules_spec.AreRules (R.stand reader.old).world self.new) }
+        ensures same { (world : World) → Agrees world (R.told reader.new)
+            → OnOk result (rules_spec.HaveSame (R.stand reader.old).world world filters.now) }
         ensures keeps { OnOk result (rules_spec.Keeps self.old self.new) }
         ensures has { OnOk result (rules_spec.HasAll self.new filters.now) }
         ensures stand { R.stand reader.new ≡ R.stand reader.old }
@@ -124,8 +133,10 @@ impl RuleLists {
         reader: &mut R,
         name: &Name,
     ) -> Result<(), NoMemory>
-        ensures known { (world : World) → Agrees world (R.told reader.new)
-            → rules_spec.AreRules world self.old → OnOk result (rules_spec.AreRules world self.new) }
+        ensures kept { rules_spec.AreRules (R.stand reader.old).world self.old
+            → OnOk result (rules_spec.AreRules (R.stand reader.old).world self.new) }
+        ensures same { (world : World) → Agrees world (R.told reader.new)
+            → OnOk result (rules_spec.HaveSame (R.stand reader.old).world world (name.now ∷ [])) }
         ensures has { OnOk result (rules_spec.HasRead self.new self.old name.now) }
         ensures stand { R.stand reader.new ≡ R.stand reader.old }
         ensures founded { StaysFounded (name.now ∷ []) (R.told reader.old) (R.told reader.new) }

@@ -17,16 +17,17 @@ use Rattle.fact_judge.specs.Judging.{AreTablesOf}
 use Rattle.facts.specs.declared.fact.Fact.{Fact}
 use Rattle.node_links.specs.NodeTable.{AreNodeLinks}
 use Rattle.node_links.specs.declared.table.NodeLinks.{NodeLinks}
-use Rattle.plan_reader.specs.Tables.{AreTables, AreTables-prop, GoesOn}
-use Rattle.plan_reader.specs.declared.cache.PlanCache.{PlanCache}
+use Rattle.plan_reader.specs.Tables.{AreTables, AreTables-prop}
 use Rattle.plan_reader.specs.declared.tables.PlanTables.{PlanTables}
 use Rattle.reader_spec.specs.World.{world_of}
 use Rattle.fact_maker.proofs.MakeLaws.{planned_of}
 use Rattle.fact_maker.proofs.PropLaws.{planned_prop, right_prop}
+use Rattle.fact_maker.specs.Findings.{GoOn}
 use Rattle.fact_maker.specs.Made.{IsRightOf}
 use Rattle.fact_maker.specs.Parts.{has_html, has_part}
 use Rattle.fact_maker.specs.Planned.{IsPlanned}
-use Rattle.fact_maker.specs.Ready.{CacheGoesOn, HasAgreed, IsGround, IsReady}
+use Rattle.fact_maker.specs.Ready.{FindingsGoOn, HasAgreed, IsGround, IsReady}
+use Rattle.fact_maker.specs.declared.findings.Findings.{Findings}
 use Rattle.fact_maker.specs.declared.html_made.HtmlMade.{HtmlMade}
 
 one_plan : (value : Result Plan PlanStop) (one other : Plan) → value ≡ Ok one → value ≡ Ok other → one ≡ other
@@ -55,17 +56,17 @@ module _ {sources : State} {fact : Fact} {tables : PlanTables} {links : NodeLink
 
 -- What goes on
 
-pub goes_from : (sources : State) (fact : Fact) (plan : Plan) (cache : PlanCache)
-    → (arc_value fact.plan).value ≡ Ok plan → CacheGoesOn sources fact cache
-    → GoesOn (world_of sources) plan.documents cache
-goes_from sources fact plan cache is goes =
-    subst (λ (value : Result Plan PlanStop). GoesOn (world_of sources) (plan_documents value) cache) is goes
+pub goes_from : (sources : State) (fact : Fact) (plan : Plan) (findings : Findings)
+    → (arc_value fact.plan).value ≡ Ok plan → FindingsGoOn sources fact findings
+    → GoOn (world_of sources) plan.documents findings
+goes_from sources fact plan findings is goes =
+    subst (λ (value : Result Plan PlanStop). GoOn (world_of sources) (plan_documents value) findings) is goes
 
-pub goes_back : (sources : State) (fact : Fact) (plan : Plan) (cache : PlanCache)
-    → (arc_value fact.plan).value ≡ Ok plan → GoesOn (world_of sources) plan.documents cache
-    → CacheGoesOn sources fact cache
-goes_back sources fact plan cache is goes =
-    subst (λ (value : Result Plan PlanStop). GoesOn (world_of sources) (plan_documents value) cache) (sym is) goes
+pub goes_back : (sources : State) (fact : Fact) (plan : Plan) (findings : Findings)
+    → (arc_value fact.plan).value ≡ Ok plan → GoOn (world_of sources) plan.documents findings
+    → FindingsGoOn sources fact findings
+goes_back sources fact plan findings is goes =
+    subst (λ (value : Result Plan PlanStop). GoOn (world_of sources) (plan_documents value) findings) (sym is) goes
 
 -- Which parts have HTML
 

@@ -1,4 +1,5 @@
 pub mod Alone
+pub mod Findings
 pub mod Made
 pub mod Own
 pub mod Parts

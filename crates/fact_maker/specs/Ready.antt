@@ -5,7 +5,6 @@ use Rattle.std.specs.Arc.{arc_value}
 use Rattle.std.specs.declared.alloc.Global.{Global}
 use Rattle.std.specs.declared.sync.Arc.{Arc}
 use Rattle.std.specs.Option.{option_copied}
-use Rattle.std.proofs.Props.{props}
 use Rattle.clean_build.specs.declared.build_input.BuildInput.{BuildInput}
 use Rattle.dita_doc.specs.Desk.{State}
 use Rattle.dita_doc.specs.declared.fact.Html.{Html}
@@ -21,12 +20,11 @@ use Rattle.facts.specs.declared.fact.Fact.{Fact}
 use Rattle.facts.specs.declared.fact.PlanFact.{PlanFact}
 use Rattle.node_links.specs.NodeTable.{AreNodeLinks}
 use Rattle.node_links.specs.declared.table.NodeLinks.{NodeLinks}
-use Rattle.plan_reader.specs.Tables.{AreTables, GoesOn}
-use Rattle.plan_reader.specs.declared.cache.PlanCache.{PlanCache}
+use Rattle.plan_reader.specs.Tables.{AreTables}
 use Rattle.plan_reader.specs.declared.tables.PlanTables.{PlanTables}
-use Rattle.pushed_docs.specs.Made.{AreKept-prop}
 use Rattle.reader_spec.specs.World.{world_of}
-use Rattle.readers.specs.Titled.{AreTitles-prop}
+use Rattle.fact_maker.specs.Findings.{GoOn, GoOn-prop}
+use Rattle.fact_maker.specs.declared.findings.Findings.{Findings}
 
 -- the tables and the links are those of the plan
 pub record AreReady (sources : State) (plan : Plan) (tables : PlanTables) (links : NodeLinks) : Type 0 where
@@ -74,8 +72,8 @@ pub record IsPartOfRow (row : RowData) (part : Part) (html : Html) (asked : List
 
 -- What goes on from part to part
 
-abbrev pub CacheGoesOn : State → Fact → PlanCache → Type 0
-CacheGoesOn sources fact cache = GoesOn (world_of sources) (plan_documents (arc_value fact.plan).value) cache
+abbrev pub FindingsGoOn : State → Fact → Findings → Type 0
+FindingsGoOn sources fact findings = GoOn (world_of sources) (plan_documents (arc_value fact.plan).value) findings
 
-pub CacheGoesOn-prop : (sources : State) (fact : Fact) (cache : PlanCache) → IsProp (CacheGoesOn sources fact cache)
-CacheGoesOn-prop sources fact cache = hlevel (props, AreTitles-prop, AreKept-prop)
+pub FindingsGoOn-prop : (sources : State) (fact : Fact) (findings : Findings) → IsProp (FindingsGoOn sources fact findings)
+FindingsGoOn-prop sources fact findings = GoOn-prop _ _ findings

@@ -5,6 +5,7 @@
 //! they were made.
 #![tactic(auto)]
 
+mod findings;
 mod html_made;
 mod maker;
 mod own_asked;

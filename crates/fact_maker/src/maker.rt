@@ -9,11 +9,11 @@ ghost use Rattle.fact_maker.specs.Parts as parts_spec;
 ghost use Rattle.fact_maker.specs.Ready as ready_spec;
 ghost use Rattle.facts.specs.Rows as rows_spec;
 
+use crate::findings::Findings;
 use crate::html_made::{HtmlMade, contents_made, page_made};
 use crate::ready::ReadyPlan;
 use dita_doc::{NoMemory, Part, Sources};
 use facts::{Fact, Row};
-use plan_reader::PlanCache;
 use std::alloc::Global;
 use std::mem::replace;
 use std::sync::Arc;
@@ -23,10 +23,10 @@ use std::sync::Arc;
 #[derive(Drop)]
 pub struct Maker {
     pub ready: Arc<ReadyPlan>,
-    pub cache: PlanCache,
-    pub ghost goes_on: { ready_spec.CacheGoesOn (arc_value (arc_value ready).sources)
-        (arc_value (arc_value ready).row.fact) cache } by { ready_spec.CacheGoesOn-prop
-            (arc_value (arc_value ready).sources) (arc_value (arc_value ready).row.fact) cache },
+    pub findings: Findings,
+    pub ghost go_on: { ready_spec.FindingsGoOn (arc_value (arc_value ready).sources)
+        (arc_value (arc_value ready).row.fact) findings } by { ready_spec.FindingsGoOn-prop
+            (arc_value (arc_value ready).sources) (arc_value (arc_value ready).row.fact) findings },
 }
 
 impl Maker {
@@ -52,7 +52,7 @@ impl Maker {
     {
         Maker {
             ready,
-            cache: PlanCache::new(alloc),
+            findings: Findings::new(alloc),
         }
     }
 
@@ -91,10 +91,14 @@ impl Maker {
             (rows_spec.row_data (arc_value self.old.ready).row) part) }
         ensures ready { self.new.ready ≡ self.old.ready }
     {
-        let cache = replace(&mut self.cache, PlanCache::new(alloc));
-        let made = html_of(alloc, &self.ready, cache, part)?;
-        let HtmlMade { html, asked, cache } = made;
-        self.cache = cache;
+        let found = replace(&mut self.findings, Findings::new(alloc));
+        let made = html_of(alloc, &self.ready, found, part)?;
+        let HtmlMade {
+            html,
+            asked,
+            findings,
+        } = made;
+        self.findings = findings;
         self.ready.fact_of_html(alloc, part, asked, html)
     }
 }
@@ -103,17 +107,17 @@ impl Maker {
 fn html_of(
     alloc: Global,
     ready: &ReadyPlan,
-    cache: PlanCache,
+    findings: Findings,
     part: Part,
 ) -> Result<HtmlMade, NoMemory>
     requires part { IsTrue (parts_spec.has_html
         (arc_value (arc_value ready.now.row.fact).plan).value part) }
-    requires goes_on { ready_spec.CacheGoesOn (arc_value ready.now.sources)
-        (arc_value ready.now.row.fact) cache }
+    requires go_on { ready_spec.FindingsGoOn (arc_value ready.now.sources)
+        (arc_value ready.now.row.fact) findings }
     ensures right { IfOk result (λ made. made_spec.IsRightOf (arc_value ready.now.sources)
         (arc_value ready.now.row.fact) part made.html made.asked) }
-    ensures goes_on { IfOk result (λ made. ready_spec.CacheGoesOn (arc_value ready.now.sources)
-        (arc_value ready.now.row.fact) made.cache) }
+    ensures go_on { IfOk result (λ made. ready_spec.FindingsGoOn (arc_value ready.now.sources)
+        (arc_value ready.now.row.fact) made.findings) }
 {
     let ground = ready.input();
     let sources: &Sources = &ready.sources;
@@ -122,14 +126,14 @@ fn html_of(
             page_made(
                 alloc,
                 sources,
-                cache,
+                findings,
                 ground,
                 &ready.tables,
                 &ready.links,
                 index,
             )
         }
-        Part::Contents => contents_made(alloc, sources, cache, ground, &ready.tables),
+        Part::Contents => contents_made(alloc, sources, findings, ground, &ready.tables),
         Part::Plan => unreachable!(),
     }
 }

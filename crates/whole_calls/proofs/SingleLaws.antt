@@ -74,10 +74,10 @@ pub part_made : {E : Type 0} (own world : World) (work : PartWork) (result : Res
     → HaveSamePlan own world work.ground.map.now (option_copied work.ground.val)
     → ((plan : Plan) → plan_of limits world work.ground.map.now (option_copied work.ground.val) ≡ Ok plan
     → work.ground.plan.now ≡ plan)
-    → IfOk result (MakesPart work world (made_for work.ground.plan.now))
+    → IfOk result (MakesPart work own world (made_for work.ground.plan.now))
     → IfOk result (λ html. IsOfPlan own world work.ground.map.now (option_copied work.ground.val)
     (λ plan. html ≡ part_html work.part world plan (option_copied work.ground.val)))
-part_made own world work result same found = IfOk-weaker result (MakesPart work world (made_for work.ground.plan.now)) _
+part_made own world work result same found = IfOk-weaker result (MakesPart work own world (made_for work.ground.plan.now)) _
     (λ html holds. record {
       same = same;
       made = λ plan is. holds (ready_for world work.ground plan is (found plan is))
@@ -88,11 +88,11 @@ pub content_made : {E : Type 0} (own world : World) (work : ContentWork) (result
     → HaveSamePlan own world work.ground.map.now (option_copied work.ground.val)
     → ((plan : Plan) → plan_of limits world work.ground.map.now (option_copied work.ground.val) ≡ Ok plan
     → work.ground.plan.now ≡ plan)
-    → IfOk result (MakesContent work world (made_for work.ground.plan.now))
+    → IfOk result (MakesContent work own world (made_for work.ground.plan.now))
     → IfOk result (λ (made : Resolved). IsOfPlan own world work.ground.map.now (option_copied work.ground.val)
     (λ plan. IsResolved made (page_content rooms world plan (option_copied work.ground.val) work.index)))
 content_made own world work result same found = IfOk-weaker result
-    (MakesContent work world (made_for work.ground.plan.now)) _ (λ made holds. record {
+    (MakesContent work own world (made_for work.ground.plan.now)) _ (λ made holds. record {
       same = same;
       made = λ plan is. subst
           (λ (p : Plan). IsResolved made (page_content rooms world p (option_copied work.ground.val) work.index))

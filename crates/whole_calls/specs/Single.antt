@@ -58,8 +58,8 @@ abbrev pub part_html : Part → World → Plan → Option (List ℕ) → Html
 part_html (parts.Page index) world plan val = page_part rooms world plan val index
 part_html parts.Contents world plan val = contents_part world plan
 
-abbrev pub MakesPart : PartWork → World → Setting → Html → Type 0
-MakesPart work world setting made = IsReady world work.ground setting
+abbrev pub MakesPart : PartWork → World → World → Setting → Html → Type 0
+MakesPart work here world setting made = IsReady world work.ground setting
     → made ≡ part_html work.part world work.ground.plan.now (option_copied work.ground.val)
 
 abbrev pub MakesPartOf : PartCall → World → World → Html → Type 0
@@ -90,8 +90,8 @@ documents_of_part work = documents_for work.ground work.part
 
 -- The content of a page
 
-abbrev pub MakesContent : ContentWork → World → Setting → Resolved → Type 0
-MakesContent work world setting made = IsReady world work.ground setting
+abbrev pub MakesContent : ContentWork → World → World → Setting → Resolved → Type 0
+MakesContent work here world setting made = IsReady world work.ground setting
     → IsResolved made (page_content rooms world work.ground.plan.now (option_copied work.ground.val) work.index)
 
 abbrev pub MakesContentOf : ContentCall → World → World → Resolved → Type 0

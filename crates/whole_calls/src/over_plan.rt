@@ -31,7 +31,7 @@ pub(crate) fn over_plan<K: Keys, W: PlanTask>(
     requires tables { AreTables (K.told keys.old) plan.now tables.now }
     requires kept { AreKept (K.stand keys.old).world plan.now.documents docs.old }
     ensures known { (world : World) → Agrees world (K.told keys.new)
-        → IfOk result (W.makes work world (carried_spec.made_for plan.now.documents plan.now.pages
+        → IfOk result (W.makes work (K.stand keys.old).world world (carried_spec.made_for plan.now.documents plan.now.pages
         (K.stand keys.old).setting)) }
     ensures founded { StaysFounded
         (founded_spec.homes (K.stand keys.old).setting.nodes ++ W.about work)
@@ -57,7 +57,7 @@ fn plan_since<K: Keys, S: LogStart, W: PlanTask>(
     requires tables { AreTables S.told plan.now tables.now }
     requires kept { AreKept S.stand.world plan.now.documents docs.old }
     ensures known { (world : World) → Agrees world (K.told keys.new)
-        → IfOk result (W.makes work world (carried_spec.made_for plan.now.documents plan.now.pages
+        → IfOk result (W.makes work S.stand.world world (carried_spec.made_for plan.now.documents plan.now.pages
         S.stand.setting)) }
     ensures founded { StaysFounded
         (founded_spec.homes S.stand.setting.nodes ++ W.about work) S.told (K.told keys.new) }
@@ -89,7 +89,7 @@ fn plan_under<'r, 'q, 'm, 'd, 'n, K: Keys, S: LogStart, W: PlanTask>(
 ) -> Result<W::Made, NoMemory>
     requires asked { layer.old.asked.now ≡ [] }
     ensures known { (world : World) → Agrees world (K.told layer.new.lower.now)
-        → IfOk result (W.makes work world (carried_spec.made_for layer.old.documents.now
+        → IfOk result (W.makes work S.stand.world world (carried_spec.made_for layer.old.documents.now
         layer.old.pages.now S.stand.setting)) }
     ensures founded { StaysFounded
         (founded_spec.homes S.stand.setting.nodes ++ W.about work) S.told

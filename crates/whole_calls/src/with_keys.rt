@@ -32,7 +32,7 @@ pub(crate) fn over_titles<T: Titles, W: PlanTask>(
     requires tables { AreTables (T.told titles.old) plan.now tables.now }
     requires kept { AreKept (T.stand titles.old).world plan.now.documents docs.old }
     ensures known { (world : World) → Agrees world (T.told titles.new)
-        → IfOk result (W.makes work world (made_for plan.now)) }
+        → IfOk result (W.makes work (T.stand titles.old).world world (made_for plan.now)) }
     ensures founded { StaysFounded (founded_spec.homes plan.now.nodes ++ W.about work)
         (T.told titles.old) (T.told titles.new) }
     ensures kept { AreKept (T.stand titles.old).world plan.now.documents docs.new }
@@ -56,7 +56,7 @@ fn keys_since<T: Titles, S: LogStart, W: PlanTask>(
     requires tables { AreTables S.told plan.now tables.now }
     requires kept { AreKept S.stand.world plan.now.documents docs.old }
     ensures known { (world : World) → Agrees world (T.told titles.new)
-        → IfOk result (W.makes work world (made_for plan.now)) }
+        → IfOk result (W.makes work S.stand.world world (made_for plan.now)) }
     ensures founded { StaysFounded (founded_spec.homes plan.now.nodes ++ W.about work)
         S.told (T.told titles.new) }
     ensures kept { AreKept S.stand.world plan.now.documents docs.new }
@@ -91,7 +91,7 @@ fn keys_under<'r, 'q, 'm, 'n, T: Titles, S: LogStart, W: PlanTask>(
     requires tables { AreTables S.told plan.now tables.now }
     requires kept { AreKept S.stand.world plan.now.documents docs.old }
     ensures known { (world : World) → Agrees world (T.told layer.new.lower.now)
-        → IfOk result (W.makes work world (made_for plan.now)) }
+        → IfOk result (W.makes work S.stand.world world (made_for plan.now)) }
     ensures founded { StaysFounded (founded_spec.homes plan.now.nodes ++ W.about work)
         S.told (T.told layer.new.lower.now) }
     ensures kept { AreKept S.stand.world plan.now.documents docs.new }

@@ -21,7 +21,6 @@ returns-clause-known g c = λ world page index agrees made is_page known.
     let resolved = c.in_ok-resolved.resolved in
     let before = agrees_before world _ _ c.in_ok-anchors.ensures.grows agrees in
     let is = c.in_ok-resolved.ensures.known world plan before made known in
-    let kept = c.in_ok-resolved.ensures.kept world plan before made known in
     let stands = ap (λ (s : Stand). s.setting) c.in_ok-resolved.ensures.stand ∙ made in
     let added = c.in_ok-anchors.ensures.known world page index agrees (record {
       nodes = ap (λ (s : Setting). s.nodes) stands;
@@ -30,8 +29,8 @@ returns-clause-known g c = λ world page index agrees made is_page known.
     let here = here_of world plan page index in
     let content = content_of world plan context in
     let lists = c.resolved_for.new.tables.rules in
-    let marked = marks_are content resolved is world context lists c.in_ok-marks.marks kept.0
-    c.in_ok-resolved.ensures.has (c.in_ok-marks.ensures ∙ ap (λ (of : Context).
+    let marked = marks_are content resolved is world context lists c.in_ok-marks.marks
+    (c.in_ok-resolved.ensures.rules known.rules world before) (c.in_ok-marks.ensures ∙ ap (λ (of : Context).
     marks_from (all_kept lists (ditavals of.val of.page.filters)) 0 resolved.declared
     (map attributes_at resolved.doc.nodes)) c.deref.ensures) in
     record {
@@ -39,8 +38,14 @@ returns-clause-known g c = λ world page index agrees made is_page known.
           c.in_ok-marks.marks c.in_ok-body.body c.args.behind marked c.in_ok-body.ensures;
       links = body_links content resolved is here c.in_ok-anchors.field-0 added;
       terms = terms_are content resolved is c.args.number c.in_ok-terms.terms c.in_ok-terms.ensures;
-      content = record { rules = kept.0; places = kept.1 };
+      content = record {
+        rules = c.in_ok-resolved.ensures.kept known.rules;
+        places = c.in_ok-resolved.ensures.places world plan before made known;
+      };
     }
+
+pub returns-clause-kept : goal.returns-clause-kept
+returns-clause-kept g c = c.in_ok-resolved.ensures.kept
 
 pub returns-in_err-anchors-clause-founded : goal.returns-in_err-anchors-clause-founded
 returns-in_err-anchors-clause-founded g c =

@@ -1,8 +1,8 @@
-use Rattle.std.specs.Prelude.{◌++◌, ◌∷◌, IfOk, OnOk}
+use Rattle.std.specs.Prelude.{◌≡◌, ◌++◌, ◌∷◌, IfOk, OnOk}
 use Rattle.std.proofs.Common.{sym, subst}
 use Rattle.conref_targets.specs.Asking.{of_content}
 use Rattle.conref_pull.specs.Resolved.{IsResolved, page_made}
-use Rattle.conref_targets.specs.Rules.{AreRules, HasAll, ditavals}
+use Rattle.conref_targets.specs.Rules.{all_kept, ditavals}
 use Rattle.conref_targets.specs.ResolveInput.{documents_in}
 use Rattle.conref_targets.specs.Tables.{AreTables}
 use Rattle.dita_doc.specs.declared.content.Resolved.{Resolved}
@@ -10,7 +10,7 @@ use Rattle.dita_doc.specs.declared.plan.Context.{Context}
 use Rattle.readers.specs.Documents.{AsksOnly}
 use Rattle.readers.specs.Founded.{StaysFounded, homes}
 use Rattle.readers.specs.Setting.{Setting}
-use Rattle.clean_build.specs.Bodies.{content_of}
+use Rattle.clean_build.specs.Bodies.{content_of, rules_for}
 use Rattle.conref_targets.specs.PageAsking.{AsksPage, page_at}
 use Rattle.clean_build.proofs.content.resolved_for.Goals as goal
 
@@ -24,17 +24,19 @@ returns-clause-known g c = λ world plan agrees made known.
     (c.resolve_page_with.ensures.known world agrees known.rules places))
 
 pub returns-clause-kept : goal.returns-clause-kept
-returns-clause-kept g c = λ world plan agrees made known.
+returns-clause-kept g c = c.resolve_page_with.ensures.kept
+
+pub returns-clause-places : goal.returns-clause-places
+returns-clause-places g c = λ world plan agrees made known.
     let tables = c.resolve_page_with.new.tables in
     let places = subst (λ (s : Setting). AreTables (documents_in world s) c.args.tables.now.places) (sym made) known.places in
-    subst (λ (s : Setting). OnOk c.resolve_page_with.result
-    (AreRules world tables.rules × AreTables (documents_in world s) tables.places)) made
-    (c.resolve_page_with.ensures.kept world agrees known.rules places)
+    subst (λ (s : Setting). OnOk c.resolve_page_with.result (AreTables (documents_in world s) tables.places)) made
+    (c.resolve_page_with.ensures.places world agrees known.rules places)
 
-pub returns-clause-has : goal.returns-clause-has
-returns-clause-has g c = subst (λ (of : Context). OnOk c.resolve_page_with.result
-    (HasAll c.resolve_page_with.new.tables.rules (ditavals of.val of.page.filters))) c.deref.ensures
-    c.resolve_page_with.ensures.has
+pub returns-clause-rules : goal.returns-clause-rules
+returns-clause-rules g c = λ are world agrees. subst (λ (of : Context). OnOk c.resolve_page_with.result
+    (all_kept c.resolve_page_with.new.tables.rules (ditavals of.val of.page.filters) ≡ rules_for world of))
+    c.deref.ensures (c.resolve_page_with.ensures.rules are world agrees)
 
 pub returns-clause-founded : goal.returns-clause-founded
 returns-clause-founded g c = subst (λ (of : Context).

@@ -42,7 +42,7 @@ loop-index-preserved c =
     let there = page_at plan.pages c.as_slice-page-items.result.now index page c.as_slice-page-items.ensures
     c.loop-index-test.true c.page-item.is in
     let place = c.in_ok-place_of.ensures.place in
-    let made = c.in_ok-made.ensures.made (record { is = c.requires.plan; made = refl })
+    let made = c.in_ok-made.ensures.made.page (record { is = c.requires.plan; made = refl })
     (ap (slice_get plan.pages) place ∙ there) c.requires.links c.loop-index.invariant.content in
     let html = made.html ∙ ap (λ n. page_behind rooms world plan val n page c.new.result) place
     ∙ ap (λ (behind : List Fault). page_behind rooms world plan val index page behind) c.new.ensures in

@@ -11,7 +11,7 @@ abbrev pub invariant-loop-index : goal.invariant-loop-index
 invariant-loop-index l =
     let world = world_of l.fn.sources in record {
       goes_on : GoesOn world l.fn.ground.plan.now.documents l.cache;
-      content : AreKnown world l.fn.ground.plan.now l.content;
+      content : AreKnown world world l.fn.ground.plan.now l.content;
       put : HasPagesOf world l.fn.ground.plan.now (option_copied l.fn.ground.val) l.index l.gathered;
       terms : l.terms
           ≡ terms_before l.fn.with_terms world l.fn.ground.plan.now (option_copied l.fn.ground.val) l.index;

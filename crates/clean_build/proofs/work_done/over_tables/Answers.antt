@@ -1,11 +1,11 @@
 use Rattle.std.specs.Prelude.{◌++◌, []}
 use Rattle.std.proofs.Common.{ap, subst}
-use Rattle.reader_spec.specs.World.{world_of}
+use Rattle.reader_spec.specs.World.{World, world_of}
 use Rattle.readers.specs.Documents.{AsksOnly}
 use Rattle.readers.specs.Founded.{StaysFounded, homes}
 use Rattle.readers.specs.Setting.{Setting}
 use Rattle.clean_build.specs.Told.{told_by_plan}
-use Rattle.clean_build.proofs.OverLaws.{agrees_here, agrees_then, goes_on_then, setting_is, told_moved}
+use Rattle.clean_build.proofs.OverLaws.{agrees_here, agrees_then, goes_on_then, setting_is, stands_for, told_moved}
 use Rattle.clean_build.proofs.work_done.over_tables.Goals as goal
 
 pub returns-clause-goes_on : goal.returns-clause-goes_on
@@ -21,7 +21,9 @@ returns-clause-known g c = λ world agrees.
     let plan = c.args.plan.now in
     let new = c.new-reader.ensures in
     let made = setting_is plan _ _ _ new.nodes new.documents new.pages in
-    subst (λ (setting : Setting). g.W.PlanTask.makes c.args.work world setting c.in_ok-made.made) made
+    stands_for c.args.sources.now plan _ _ _ _ _ c.in_ok-made.ensures.stand (ap world_of new.sources) made new.asked
+    c.into_asked-asked.ensures.asked
+    (λ (here : World) (setting : Setting). g.W.PlanTask.makes c.args.work here world setting c.in_ok-made.made)
     (c.in_ok-made.ensures.known world (agrees_then c.args.sources.now plan _ _ _ _ _ c.in_ok-made.ensures.stand
     (ap world_of new.sources) made new.asked c.into_asked-asked.ensures.asked world agrees))
 

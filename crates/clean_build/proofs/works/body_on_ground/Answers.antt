@@ -18,12 +18,15 @@ returns-clause-known g c = λ world index agrees ready there known.
     let ground = c.args.ground in
     let plan = ground.plan.now in
     let page = c.args.page.now in
-    subst (λ (context : Context). IfOk c.page_body.result (IsBodyMade world plan context page index c.args.behind
-    c.args.number))
+    subst (λ (context : Context). IfOk c.page_body.result (IsBodyMade (g.A.Reader.stand c.args.asker.now).world
+    world plan context page index c.args.behind c.args.number))
     c.in_ok-context.ensures
     (c.page_body.ensures.known world page index agrees ready.made
     (subst (λ (context : Context). IsPageOf plan context page index) (sym c.in_ok-context.ensures)
     (is_page world ground _ ready page index there)) known)
+
+pub returns-clause-kept : goal.returns-clause-kept
+returns-clause-kept g c = c.page_body.ensures.kept
 
 pub returns-in_err-context-clause-founded : goal.returns-in_err-context-clause-founded
 returns-in_err-context-clause-founded g c = stays_same _ _ _ refl

@@ -18,7 +18,7 @@ returns-clause-known g c = λ world agrees ready there links known.
     let at_links = agrees_before world _ _ c.in_ok-html.ensures.grows agrees in
     let at_body = agrees_before world _ _ c.in_ok-of_nodes.ensures.grows at_links in
     let made = c.in_ok-body.ensures.known world work.index at_body ready there known in record {
-      html = page_shown world plan work.index page work.behind c.args.line c.number_wanted-number.result context
+      html = page_shown (g.A.Reader.stand c.args.asker.now).world world plan work.index page work.behind c.args.line c.number_wanted-number.result context
           c.in_ok-body.field-0 c.in_ok-of_nodes.of_nodes c.in_ok-hrefs.hrefs c.in_ok-html.html made
           (c.in_ok-of_nodes.ensures.known world at_links links) c.in_ok-hrefs.ensures
           (c.in_ok-html.ensures.known world agrees);
@@ -26,6 +26,9 @@ returns-clause-known g c = λ world agrees ready there links known.
           c.number_wanted-number.ensures;
       content = made.content;
     }
+
+pub returns-clause-kept : goal.returns-clause-kept
+returns-clause-kept g c = c.in_ok-body.ensures.kept
 
 pub returns-in_err-body-clause-founded : goal.returns-in_err-body-clause-founded
 returns-in_err-body-clause-founded g c = stays_content _ _ _ c.args.work.ground c.args.work.page.now c.body_on_ground.ensures.founded

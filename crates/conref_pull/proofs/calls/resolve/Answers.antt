@@ -6,7 +6,7 @@ use Rattle.conref_pull.proofs.calls.resolve.Goals as goal
 
 pub returns-clause-known : goal.returns-clause-known
 returns-clause-known g c = λ world agrees.
-    c.resolve_with.ensures.known world agrees (c.new-tables.ensures.rules world)
+    c.resolve_with.ensures.known world agrees (c.new-tables.ensures.rules (g.A.Reader.stand c.args.asker.now).world)
     (c.new-tables.ensures.places (documents_in world (g.A.Reader.stand c.args.asker.now).setting))
 
 pub returns-clause-value : goal.returns-clause-value

@@ -22,7 +22,6 @@ use Rattle.conref_targets.specs.ResolveInput.{documents_in, setting_of}
 use Rattle.conref_targets.proofs.AskingLaws.{about_ditavals, about_next, about_rules_first, about_then, given_reused, none_among}
 use Rattle.conref_targets.proofs.OriginLaws.{content_named}
 use Rattle.conref_targets.proofs.HrefGivenLaws.{found_named}
-use Rattle.conref_targets.proofs.RuleLaws.{rules_of_page}
 use Rattle.conref_pull.specs.PutHrefs.{HaveNamedIn}
 use Rattle.conref_pull.specs.Putting.{built}
 use Rattle.conref_pull.specs.Resolved.{IsResolved, too_many_faults}
@@ -120,9 +119,24 @@ returns-in_default-clause-known g c = λ world agrees rules tables.
     (ap (λ (s : Stand). documents_in world s.setting page.doc) (sym c.in_ok-read.ensures.stand)
     ∙ sym (c.in_ok-doc.ensures.known world agrees) ∙ ap named_found c.in_default.is)) c.nothing.ensures)
 
+pub returns-in_default-clause-rules : goal.returns-in_default-clause-rules
+returns-in_default-clause-rules g c = λ rules world agrees.
+    c.in_ok-read.ensures.known rules world (agrees_before world _ _ c.in_ok-doc.ensures.grows agrees)
+
+pub returns-clause-rules : goal.returns-clause-rules
+returns-clause-rules g c = λ rules world agrees.
+    let later = agrees_before world _ _ c.finish.ensures.grows agrees in
+    let asked = agrees_before world _ _ c.siblings-done.ensures.grows later in
+    on_ok_weaker c.finish.result
+    (λ memory. c.in_ok-read.ensures.known rules world (agrees_before world _ _ c.in_ok-doc.ensures.grows asked))
+    c.finish.ensures.memory
+
 pub returns-in_default-clause-kept : goal.returns-in_default-clause-kept
-returns-in_default-clause-kept g c = λ world agrees rules tables.
-    (c.in_ok-read.ensures.known world (agrees_before world _ _ c.in_ok-doc.ensures.grows agrees) rules, tables)
+returns-in_default-clause-kept g c = c.in_ok-read.ensures.kept
+
+pub returns-clause-kept : goal.returns-clause-kept
+returns-clause-kept g c = λ rules.
+    on_ok_weaker c.finish.result (λ memory. c.in_ok-read.ensures.kept rules) c.finish.ensures.memory
 
 pub returns-clause-known : goal.returns-clause-known
 returns-clause-known g c = λ world agrees rules tables.
@@ -132,7 +146,6 @@ returns-clause-known g c = λ world agrees rules tables.
     let setting = setting_of world stand.setting page (page_rules world names) in
     let later = agrees_before world _ _ c.finish.ensures.grows agrees in
     let asked = agrees_before world _ _ c.siblings-done.ensures.grows later in
-    let are = c.in_ok-read.ensures.known world (agrees_before world _ _ c.in_ok-doc.ensures.grows asked) rules in
     let stands = c.in_ok-doc.ensures.stand ∙ c.in_ok-read.ensures.stand in
     let begins : Begins c.new-resolver.result = record {
       nodes = c.new-resolver.ensures.nodes;
@@ -143,8 +156,8 @@ returns-clause-known g c = λ world agrees rules tables.
     } in
     let is = setting_begins world stand (g.A.Reader.stand c.pushed.new.self) c.args.context.now c.new-resolver.result
     (page_rules world names) (sym stands) c.new-resolver.ensures.context
-    (c.new-resolver.ensures.rules ∙ c.in_ok-rules.ensures ∙ rules_of_page world c.read.new.self names are
-    c.in_ok-read.ensures.has) in
+    (c.new-resolver.ensures.rules ∙ c.in_ok-rules.ensures ∙ c.in_ok-read.ensures.known rules world
+    (agrees_before world _ _ c.in_ok-doc.ensures.grows asked)) in
     let ready = ready_begins world (g.A.Reader.stand c.pushed.new.self) setting 0 c.new-resolver.result
     c.args.tables.now.places begins is c.new-resolver.ensures.deepest tables in
     let root = content_named c.of-2.result c.deref.result.now c.of-2.ensures.content c.of-2.ensures.document
@@ -164,14 +177,13 @@ returns-clause-known g c = λ world agrees rules tables.
     c.new-declared.ensures ∙ ap (resolved_in setting nothing_around 1) root)
     (c.siblings-done.ensures.known world (here_begins setting 1) later ready))))
 
-pub returns-clause-kept : goal.returns-clause-kept
-returns-clause-kept g c = λ world agrees rules tables.
+pub returns-clause-places : goal.returns-clause-places
+returns-clause-places g c = λ world agrees rules tables.
     (let stand = g.A.Reader.stand c.args.asker.now in
     let names = ditavals c.args.context.now.val c.args.context.now.page.filters in
     let setting = setting_of world stand.setting c.args.context.now.page (page_rules world names) in
     let later = agrees_before world _ _ c.finish.ensures.grows agrees in
     let asked = agrees_before world _ _ c.siblings-done.ensures.grows later in
-    let are = c.in_ok-read.ensures.known world (agrees_before world _ _ c.in_ok-doc.ensures.grows asked) rules in
     let begins : Begins c.new-resolver.result = record {
       nodes = c.new-resolver.ensures.nodes;
       declared = c.new-resolver.ensures.declared;
@@ -182,19 +194,17 @@ returns-clause-kept g c = λ world agrees rules tables.
     let is = setting_begins world stand (g.A.Reader.stand c.pushed.new.self) c.args.context.now c.new-resolver.result
     (page_rules world names) (sym (c.in_ok-doc.ensures.stand ∙ c.in_ok-read.ensures.stand))
     c.new-resolver.ensures.context
-    (c.new-resolver.ensures.rules ∙ c.in_ok-rules.ensures ∙ rules_of_page world c.read.new.self names are
-    c.in_ok-read.ensures.has) in
+    (c.new-resolver.ensures.rules ∙ c.in_ok-rules.ensures ∙ c.in_ok-read.ensures.known rules world
+    (agrees_before world _ _ c.in_ok-doc.ensures.grows asked)) in
     let ready = ready_begins world (g.A.Reader.stand c.pushed.new.self) setting 0 c.new-resolver.result
     c.args.tables.now.places begins is c.new-resolver.ensures.deepest tables in
     on_ok_weaker c.finish.result
-    (λ memory. (
-      are,
-      tables_kept c.siblings-done.result setting.pushed 0
-          (among_made (here_begins setting 1) false (seen_by [] c.new-declared.result) (named_content c.of-2.result))
-          c.new-resolver.result
-          c.siblings-done.new.self c.siblings-done.new.places memory
-          (c.siblings-done.ensures.known world (here_begins setting 1) later ready),
-    )) c.finish.ensures.memory)
+    (λ memory.
+    tables_kept c.siblings-done.result setting.pushed 0
+    (among_made (here_begins setting 1) false (seen_by [] c.new-declared.result) (named_content c.of-2.result))
+    c.new-resolver.result
+    c.siblings-done.new.self c.siblings-done.new.places memory
+    (c.siblings-done.ensures.known world (here_begins setting 1) later ready)) c.finish.ensures.memory)
 
 pub returns-in_default-clause-given : goal.returns-in_default-clause-given
 returns-in_default-clause-given g c = λ roots.

@@ -17,11 +17,10 @@ use Rattle.std.proofs.lemmas.Result.{IfOk-weaker, on_ok_weaker}
 use Rattle.conref_spec.specs.Content.{Made, page_root, resolved_in}
 use Rattle.conref_targets.specs.Hrefs.{HaveNamed}
 use Rattle.conref_targets.specs.PageAsking.{page_at}
-use Rattle.conref_targets.specs.Rules.{ditavals, page_rules}
+use Rattle.conref_targets.specs.Rules.{AreRules, ditavals, page_rules}
 use Rattle.conref_targets.specs.ResolveInput.{setting_of}
 use Rattle.conref_targets.specs.Around.{StandsAround, alone_at, around_at, nothing_around, standing_shown}
 use Rattle.conref_targets.proofs.HrefGivenLaws.{found_named}
-use Rattle.conref_targets.proofs.RuleLaws.{rules_of_page}
 use Rattle.conref_pull.specs.PutHrefs.{HaveNamedIn}
 use Rattle.conref_pull.specs.Putting.{built}
 use Rattle.conref_pull.specs.Resolved.{IsResolved, too_many_faults}
@@ -135,7 +134,6 @@ returns-clause-known g c = λ world agrees rules tables.
     let setting = setting_of world stand.setting page (page_rules world names) in
     let later = agrees_before world _ _ c.finish.ensures.grows agrees in
     let read = agrees_before world _ _ c.node_at-done.ensures.grows later in
-    let are = c.in_ok-read.ensures.known world read rules in
     let stands = c.in_ok-read.ensures.stand ∙ c.in_ok-doc.ensures.stand in
     let begins : Begins c.new-resolver.result = record {
       nodes = c.new-resolver.ensures.nodes;
@@ -146,8 +144,8 @@ returns-clause-known g c = λ world agrees rules tables.
     } in
     let is = setting_begins world stand (g.A.Reader.stand c.read.new.reader) c.args.context.now c.new-resolver.result
     (page_rules world names) (sym stands) c.new-resolver.ensures.context
-    (c.new-resolver.ensures.rules ∙ c.in_ok-rules.ensures ∙ rules_of_page world c.read.new.self names are
-    c.in_ok-read.ensures.has) in
+    (c.new-resolver.ensures.rules ∙ c.in_ok-rules.ensures ∙ c.in_ok-read.ensures.known
+    (subst (λ (s : Stand). AreRules s.world c.args.tables.now.rules) (sym c.in_ok-doc.ensures.stand) rules) world read) in
     let ready = ready_begins world (g.A.Reader.stand c.read.new.reader) setting c.in_ok-standing.standing.depth
     c.new-resolver.result c.args.tables.now.places begins is
     (c.new-resolver.ensures.deepest ∙ c.saturating_sub-deepest.ensures) tables in
@@ -175,12 +173,21 @@ returns-clause-known g c = λ world agrees rules tables.
     (λ none. c.node_at-done.ensures.missing world here later ready none)))))
 
 pub returns-clause-kept : goal.returns-clause-kept
-returns-clause-kept g c = λ world agrees rules tables.
+returns-clause-kept g c = λ rules.
+    let before = subst (λ (s : Stand). AreRules s.world c.args.tables.now.rules) (sym c.in_ok-doc.ensures.stand) rules in
+    on_ok_weaker c.finish.result
+    (λ memory.
+    subst (λ (s : Stand). AreRules s.world c.read.new.self) c.in_ok-doc.ensures.stand (c.in_ok-read.ensures.kept before))
+    c.finish.ensures.memory
+
+pub returns-clause-places : goal.returns-clause-places
+returns-clause-places g c = λ world agrees rules tables.
     (let stand = g.A.Reader.stand c.args.asker.now in
     let names = ditavals c.args.context.now.val c.args.context.now.page.filters in
     let setting = setting_of world stand.setting c.args.context.now.page (page_rules world names) in
     let later = agrees_before world _ _ c.finish.ensures.grows agrees in
-    let are = c.in_ok-read.ensures.known world (agrees_before world _ _ c.node_at-done.ensures.grows later) rules in
+    let read = agrees_before world _ _ c.node_at-done.ensures.grows later in
+    let before = subst (λ (s : Stand). AreRules s.world c.args.tables.now.rules) (sym c.in_ok-doc.ensures.stand) rules in
     let begins : Begins c.new-resolver.result = record {
       nodes = c.new-resolver.ensures.nodes;
       declared = c.new-resolver.ensures.declared;
@@ -191,24 +198,21 @@ returns-clause-kept g c = λ world agrees rules tables.
     let is = setting_begins world stand (g.A.Reader.stand c.read.new.reader) c.args.context.now c.new-resolver.result
     (page_rules world names) (sym (c.in_ok-read.ensures.stand ∙ c.in_ok-doc.ensures.stand))
     c.new-resolver.ensures.context
-    (c.new-resolver.ensures.rules ∙ c.in_ok-rules.ensures ∙ rules_of_page world c.read.new.self names are
-    c.in_ok-read.ensures.has) in
+    (c.new-resolver.ensures.rules ∙ c.in_ok-rules.ensures ∙ c.in_ok-read.ensures.known before world read) in
     let ready = ready_begins world (g.A.Reader.stand c.read.new.reader) setting c.in_ok-standing.standing.depth
     c.new-resolver.result c.args.tables.now.places begins is
     (c.new-resolver.ensures.deepest ∙ c.saturating_sub-deepest.ensures) tables in
     let here = here_begins setting (c.in_ok-standing.standing.depth + 1) in
     let around = (standing_shown c.in_ok-standing.standing).around in
     on_ok_weaker c.finish.result
-    (λ memory. (
-      are,
-      tables_kept c.node_at-done.result setting.pushed 0
-          (among_made here false around (alone_at (named_tree c.deref-2.result.now) c.args.place)) c.new-resolver.result
-          c.node_at-done.new.self c.node_at-done.new.places memory
-          (node_walks c.deref-2.result.now c.args.place c.node_at-done.result here false around setting.pushed 0
-          c.new-resolver.result c.node_at-done.new.self c.node_at-done.new.places
-          (λ part there some. c.node_at-done.ensures.known world here part later ready there some)
-          (λ none. c.node_at-done.ensures.missing world here later ready none)),
-    )) c.finish.ensures.memory)
+    (λ memory.
+    tables_kept c.node_at-done.result setting.pushed 0
+    (among_made here false around (alone_at (named_tree c.deref-2.result.now) c.args.place)) c.new-resolver.result
+    c.node_at-done.new.self c.node_at-done.new.places memory
+    (node_walks c.deref-2.result.now c.args.place c.node_at-done.result here false around setting.pushed 0
+    c.new-resolver.result c.node_at-done.new.self c.node_at-done.new.places
+    (λ part there some. c.node_at-done.ensures.known world here part later ready there some)
+    (λ none. c.node_at-done.ensures.missing world here later ready none))) c.finish.ensures.memory)
 
 pub returns-in_default-clause-given : goal.returns-in_default-clause-given
 returns-in_default-clause-given g c = λ roots.

@@ -2,6 +2,8 @@ use Rattle.std.specs.Prelude.{List}
 use Rattle.std.specs.Option.{option_copied}
 use Rattle.std.proofs.Common.{sym, ap, subst, ◌∙◌}
 use Rattle.clean_build.proofs.PageLaws.{page_there}
+use Rattle.conref_targets.specs.Rules.{AreRules}
+use Rattle.reader_spec.specs.World.{world_of}
 use Rattle.clean_build.specs.Made.{page_behind}
 use Rattle.dita_doc.specs.declared.fact.Part.TheVariants as parts
 use Rattle.dita_doc.specs.declared.fault.Fault.{Fault}
@@ -25,10 +27,18 @@ returns-clause-right c = λ fact is.
     (sym c.in_ok-asked.ensures)
     (page_right is c.args.tables.now c.requires.tables done.asked c.in_ok-done.ensures.agrees html index page
     c.args.links.now there c.requires.within c.requires.links
-    (λ world agrees ready links. (c.in_ok-done.ensures.known world agrees ready there links (record {
-      rules = c.new.ensures.rules world;
-      places = c.new.ensures.places (pushed world plan.documents);
+    (λ world agrees ready links. ((c.in_ok-done.ensures.known world agrees).page ready there links (record {
+      rules = subst (AreRules (world_of c.args.sources.now)) (sym c.with_rules.ensures.rules) c.requires.go_on.rules;
+      places = c.with_rules.ensures.places (pushed world plan.documents);
     })).html
     ∙ ap (λ (behind : List Fault). page_behind rooms world plan val index page behind)
     (c.in_ok-faults_by_row.ensures world links) ∙ page_there world plan val index page there)
     c.in_ok-done.ensures.founded c.in_ok-done.ensures.only)
+
+pub returns-clause-go_on : goal.returns-clause-go_on
+returns-clause-go_on c = record {
+  cache = c.in_ok-done.ensures.goes_on;
+  rules = subst (AreRules (world_of c.args.sources.now)) (sym c.into_rules-rules.ensures)
+      ((c.in_ok-done.ensures.known (world_of c.args.sources.now) c.in_ok-done.ensures.agrees).rules
+      (subst (AreRules (world_of c.args.sources.now)) (sym c.with_rules.ensures.rules) c.requires.go_on.rules));
+}

@@ -1,13 +1,18 @@
-use Rattle.std.specs.Prelude.{◌++◌}
+use Rattle.std.specs.Prelude.{◌++◌, IfOk}
 use Rattle.std.proofs.Common.{subst}
 use Rattle.plan_layer.specs.Carried.{made_for}
 use Rattle.readers.specs.Founded.{StaysFounded, homes}
 use Rattle.readers.specs.Noted.{told_onto}
+use Rattle.readers.specs.Setting.{Stand}
 use Rattle.whole_calls.proofs.over_plan.plan_under.Goals as goal
 use Rattle.readers.proofs.FoundedLaws.{stays_by, stays_when}
 
 pub returns-clause-known : goal.returns-clause-known
-returns-clause-known g c = λ world agrees. c.run.ensures.known world (c.run.new.asker.carried.agrees world agrees)
+returns-clause-known g c = λ world agrees.
+    let layer = c.args.layer.now in
+    subst (λ (s : Stand). IfOk c.run.result (g.W.PlanTask.makes c.args.work s.world world
+    (made_for layer.documents.now layer.pages.now g.S.LogStart.stand.setting))) layer.stand
+    (c.run.ensures.known world (c.run.new.asker.carried.agrees world agrees))
 
 pub returns-clause-grows : goal.returns-clause-grows
 returns-clause-grows g c = c.run.new.asker.grown

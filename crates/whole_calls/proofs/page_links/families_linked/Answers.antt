@@ -8,11 +8,9 @@ use Rattle.family_links.specs.Collected.{IsReady, links_by_collections}
 use Rattle.std.specs.Prelude.{◌≡◌, List}
 use Rattle.dita_doc.specs.declared.plan.PagePlan.{PagePlan}
 use Rattle.dita_doc.specs.declared.plan.Plan.{Plan}
-use Rattle.dita_doc.specs.declared.plan.PlanNode.{PlanNode}
 use Rattle.plan_nodes.proofs.WorldLaws.{values_over}
 use Rattle.reader_spec.specs.World.{World}
 use Rattle.readers.specs.Documents.{nothing}
-use Rattle.readers.specs.Founded.{homes}
 use Rattle.readers.proofs.DocumentLaws.{asks_after, asks_none, homes_asked}
 use Rattle.readers.proofs.GrowthLaws.{grows_trans}
 use Rattle.whole_calls.proofs.page_links.families_linked.Goals as goal

@@ -18,7 +18,7 @@ returns-clause-known g c = λ world agrees ready.
     let plan = c.args.ground.plan.now in
     subst (λ (of : Context). IfOk c.resolved_for.result (λ (made : Resolved). IsResolved made (content_of world plan of)))
     c.in_ok-context.ensures (c.resolved_for.ensures.known world plan agrees ready.made (record {
-      rules = c.new-tables.ensures.rules world;
+      rules = c.new-tables.ensures.rules (g.A.Reader.stand c.args.asker.now).world;
       places = c.new-tables.ensures.places (pushed world plan.documents);
     }))
 

@@ -36,9 +36,9 @@ returns-clause-known g c = λ world agrees ready.
     let links = c.in_ok-links.ensures.known world at_links (can_link world ground _ ready) in
     let there = page_at plan.pages c.as_slice.result.now c.args.index page c.as_slice.ensures
     c.in-Some.ensures.lookup.3.0 c.in-Some.ensures.lookup.1 in
-    let made = c.in_ok-html.ensures.known world agrees
+    let made = (c.in_ok-html.ensures.known world agrees).page
     (subst (IsReady world ground) (sym (ap (λ (s : Stand). s.setting) c.in_ok-links.ensures.stand)) ready) there links
-    (record { rules = c.new.ensures.rules world; places = c.new.ensures.places (pushed world plan.documents) }) in
+    (record { rules = c.new.ensures.rules _; places = c.new.ensures.places (pushed world plan.documents) }) in
     made.html
     ∙ ap (λ (behind : List Fault). page_behind rooms world plan val c.args.index page behind)
     (c.in_ok-faults_by_row.ensures world links)

@@ -5,6 +5,7 @@ use Rattle.dita_doc.specs.declared.plan.PlanNode.{PlanNode}
 use Rattle.key_layer.specs.Ready.{made_for}
 use Rattle.readers.specs.Founded.{StaysFounded, homes}
 use Rattle.readers.specs.Noted.{told_onto}
+use Rattle.readers.specs.Setting.{Stand}
 use Rattle.whole_calls.proofs.with_keys.keys_under.Goals as goal
 use Rattle.readers.proofs.FoundedLaws.{stays_by, stays_when}
 
@@ -14,9 +15,11 @@ over_plan-requires-clause-tables g c = tables_noted _ _ _ _ _ c.requires.asked c
 pub returns-clause-known : goal.returns-clause-known
 returns-clause-known g c = λ world agrees.
     let plan = c.args.plan.now in
-    subst (λ (nodes : List PlanNode). IfOk c.over_plan.result (g.W.PlanTask.makes c.args.work world
-    (record { nodes = nodes; documents = plan.documents; pages = plan.pages })))
-    c.requires.nodes (c.over_plan.ensures.known world (c.over_plan.new.keys.carried.agrees world agrees))
+    subst (λ (nodes : List PlanNode). IfOk c.over_plan.result (g.W.PlanTask.makes c.args.work g.S.LogStart.stand.world world
+    (record { nodes = nodes; documents = plan.documents; pages = plan.pages }))) c.requires.nodes
+    (subst (λ (s : Stand). IfOk c.over_plan.result (g.W.PlanTask.makes c.args.work s.world world
+    (record { nodes = c.args.layer.now.nodes.now; documents = plan.documents; pages = plan.pages }))) c.args.layer.now.stand
+    (c.over_plan.ensures.known world (c.over_plan.new.keys.carried.agrees world agrees)))
 
 pub returns-clause-grows : goal.returns-clause-grows
 returns-clause-grows g c = c.over_plan.new.keys.grown

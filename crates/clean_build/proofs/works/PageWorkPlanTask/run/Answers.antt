@@ -1,17 +1,19 @@
-use Rattle.std.specs.Prelude.{OnOk}
+use Rattle.std.specs.Prelude.{IfOk, OnOk}
 use Rattle.std.proofs.Common.{sym, ap, subst}
 use Rattle.std.proofs.lemmas.Result.{IfOk-weaker}
 use Rattle.readers.proofs.FoundedLaws.{stays_after}
 use Rattle.readers.proofs.GrowthLaws.{agrees_before, grows_trans}
 use Rattle.conref_targets.specs.PageAsking.{page_at}
+use Rattle.conref_targets.specs.Rules.{AreRules}
 use Rattle.readers.specs.Setting.{Stand}
+use Rattle.clean_build.specs.Bodies.{AreKnown}
 use Rattle.clean_build.specs.BuildInput.{IsReady, context_for}
 use Rattle.clean_build.specs.Made.{IsMadeAt, IsPageMade, IsRootLine}
 use Rattle.clean_build.specs.Names.{about_page}
+use Rattle.clean_build.specs.declared.works.PageMade.{PageMade}
 use Rattle.clean_build.specs.Reads.{MayReadFor, ReadsOnly}
 use Rattle.clean_build.proofs.NameLaws.{stays_doc, stays_with}
-use Rattle.clean_build.proofs.PageLaws.{made_rooted, made_rootless}
-use Rattle.clean_build.proofs.ReadyLaws.{ok_under}
+use Rattle.clean_build.proofs.PageLaws.{made_from, made_rooted, made_rootless}
 use Rattle.clean_build.proofs.AskLaws.{asks_first, asks_page}
 use Rattle.clean_build.proofs.ReadLaws.{reads_own, reads_then}
 use Rattle.clean_build.proofs.works.PageWorkPlanTask.run.Goals as goal
@@ -20,19 +22,31 @@ pub returns-clause-known : goal.returns-clause-known
 returns-clause-known g c = λ world agrees.
     let work = c.args.self in
     let line = c.in-Some.line in
+    let here = (g.A.Reader.stand c.args.asker.now).world in
+    let stands = c.in_ok-line.ensures.stand in
     let before = agrees_before world _ _ c.rooted.ensures.grows agrees in
     let at = subst (IsRootLine world work.page.now.id.doc) c.in-Some.is (c.in_ok-line.ensures.known world before) in
-    ok_under c.rooted.result _ (λ ready. ok_under c.rooted.result _ (λ there. ok_under c.rooted.result _
-    (λ links. ok_under c.rooted.result _ (λ known. IfOk-weaker c.rooted.result (IsMadeAt world work line)
-    (IsPageMade world work) (λ made is. made_rooted world work line made at is) (c.rooted.ensures.known world agrees
-    (subst (IsReady world work.ground) (sym (ap (λ (s : Stand). s.setting) c.in_ok-line.ensures.stand)) ready)
-    there links known)))))
+    made_from c.rooted.result work here world _
+    (subst (λ (s : Stand). AreRules s.world work.content.rules
+    → IfOk c.rooted.result (λ made. AreRules s.world made.content.rules)) stands c.rooted.ensures.kept)
+    (λ ready there links known. IfOk-weaker c.rooted.result (IsMadeAt here world work line)
+    (IsPageMade here world work) (λ made is. made_rooted here world work line made at is)
+    (subst (λ (s : Stand). IfOk c.rooted.result (IsMadeAt s.world world work line)) stands
+    (c.rooted.ensures.known world agrees
+    (subst (IsReady world work.ground) (sym (ap (λ (s : Stand). s.setting) stands)) ready) there links
+    (subst (λ (s : Stand). AreKnown s.world world work.ground.plan.now work.content) (sym stands) known))))
 
 pub returns-in_default-clause-known : goal.returns-in_default-clause-known
-returns-in_default-clause-known g c = λ world agrees ready there links known.
+returns-in_default-clause-known g c = λ world agrees.
     let work = c.args.self in
-    made_rootless world work _ (subst (IsRootLine world work.page.now.id.doc) c.in_default.is
-    (c.in_ok-line.ensures.known world agrees)) c.nothing.ensures known
+    record {
+      rules = λ are. subst (λ (made : PageMade). AreRules (g.A.Reader.stand c.args.asker.now).world made.content.rules)
+          (sym c.nothing.ensures) are;
+      page = λ ready there links known.
+          made_rootless (g.A.Reader.stand c.args.asker.now).world world work _
+          (subst (IsRootLine world work.page.now.id.doc) c.in_default.is (c.in_ok-line.ensures.known world agrees))
+          c.nothing.ensures known;
+    }
 
 pub returns-in_err-line-clause-founded : goal.returns-in_err-line-clause-founded
 returns-in_err-line-clause-founded g c =

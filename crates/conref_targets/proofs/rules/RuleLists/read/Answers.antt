@@ -1,29 +1,41 @@
-use Rattle.std.proofs.Common.{◌++◌, List, ℕ, OnOk, option_to_list, subst}
+use Rattle.std.proofs.Common.{◌≡◌, ◌++◌, List, ℕ, OnOk, option_to_list, sym, subst}
 use Rattle.std.proofs.lemmas.Result.{on_ok_weaker}
 use Rattle.readers.specs.Documents.{AsksOnly, nothing}
 use Rattle.readers.specs.Founded.{StaysFounded}
+use Rattle.readers.specs.Setting.{Stand}
 use Rattle.readers.specs.Only.{TellsOnly, is_document_of}
 use Rattle.readers.proofs.DocumentLaws.{asks_after, asks_among, covers_same}
 use Rattle.readers.proofs.FoundedLaws.{stays_after, stays_among}
 use Rattle.readers.proofs.GrowthLaws.{agrees_before}
-use Rattle.conref_targets.specs.Rules.{HasAll}
+use Rattle.conref_targets.specs.Rules.{AreRules, HaveSame, all_kept, page_rules}
 use Rattle.readers.proofs.AmongLaws.{among_back, among_front}
-use Rattle.conref_targets.proofs.RuleLaws.{on_ok_have}
+use Rattle.conref_targets.proofs.RuleLaws.{all_read}
 use Rattle.readers.proofs.OnlyLaws.{documents_among, only_after, only_weaker}
 use Rattle.conref_targets.proofs.rules.RuleLists.read.Goals as goal
 
-pub returns-clause-known : goal.returns-clause-known
-returns-clause-known g c = λ world agrees are.
-    c.read_filters.ensures.known world agrees
-    (c.in_ok-read_val.ensures.known world (agrees_before world _ _ c.read_filters.ensures.grows agrees) are)
+pub returns-clause-kept : goal.returns-clause-kept
+returns-clause-kept g c = λ are.
+    subst (λ (stand : Stand). OnOk c.read_filters.result (AreRules stand.world c.read_filters.new.self))
+    c.in_ok-read_val.ensures.stand
+    (c.read_filters.ensures.kept (subst (λ (stand : Stand). AreRules stand.world c.read_val.new.self)
+    (sym c.in_ok-read_val.ensures.stand) (c.in_ok-read_val.ensures.kept are)))
 
-pub returns-clause-has : goal.returns-clause-has
-returns-clause-has g c =
+pub returns-clause-known : goal.returns-clause-known
+returns-clause-known g c = λ are world agrees.
     let val = option_to_list c.args.context.now.val in
-    subst (λ (names : List (List ℕ)). OnOk c.read_filters.result (HasAll c.read_filters.new.self (val ++ names)))
+    let filters = c.as_slice.result.now in
+    let new = c.read_filters.new.self in
+    let here = (g.R.Reader.stand c.args.reader.now).world in
+    subst (λ (names : List (List ℕ)). OnOk c.read_filters.result (all_kept new (val ++ names) ≡ page_rules world (val ++ names)))
     c.as_slice.ensures
-    (on_ok_have c.read_val.new.self c.read_filters.new.self val c.as_slice.result.now c.read_filters.result
-    c.in_ok-read_val.ensures.has c.read_filters.ensures.keeps c.read_filters.ensures.has)
+    (all_read here world c.read_val.new.self new val filters c.read_filters.result
+    c.in_ok-read_val.ensures.has c.read_filters.ensures.keeps c.read_filters.ensures.has
+    (subst (λ (stand : Stand). OnOk c.read_filters.result (AreRules stand.world new)) c.in_ok-read_val.ensures.stand
+    (c.read_filters.ensures.kept (subst (λ (stand : Stand). AreRules stand.world c.read_val.new.self)
+    (sym c.in_ok-read_val.ensures.stand) (c.in_ok-read_val.ensures.kept are))))
+    (c.in_ok-read_val.ensures.same world (agrees_before world _ _ c.read_filters.ensures.grows agrees))
+    (subst (λ (stand : Stand). OnOk c.read_filters.result (HaveSame stand.world world filters))
+    c.in_ok-read_val.ensures.stand (c.read_filters.ensures.same world agrees)))
 
 pub returns-clause-founded : goal.returns-clause-founded
 returns-clause-founded g c =

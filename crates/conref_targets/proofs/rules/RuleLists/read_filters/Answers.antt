@@ -1,18 +1,27 @@
-use Rattle.std.proofs.Common.{◌∙◌, subst, arith}
+use Rattle.std.proofs.Common.{◌∙◌, ◌∷◌, [], sym, subst, arith}
 use Rattle.std.proofs.lemmas.List.{take_all}
+use Rattle.readers.specs.Setting.{Stand}
 use Rattle.readers.proofs.DocumentLaws.{asks_after, asks_one}
 use Rattle.readers.proofs.FoundedLaws.{document_among, stays_after, stays_one}
 use Rattle.readers.proofs.GrowthLaws.{agrees_before, grows_trans}
-use Rattle.conref_targets.specs.Rules.{HasAll}
-use Rattle.conref_targets.proofs.RuleLaws.{keeps_trans, read_next}
+use Rattle.conref_targets.specs.Rules.{AreRules, HasAll, HaveSame}
+use Rattle.conref_targets.proofs.RuleLaws.{keeps_trans, next_same, read_next}
 use Rattle.readers.proofs.OnlyLaws.{only_after, only_one}
 use Rattle.conref_targets.proofs.rules.RuleLists.read_filters.Goals as goal
 
 pub loop-filter-preserved : goal.loop-filter-preserved
 loop-filter-preserved g c = record {
-  known = λ world agrees are.
-      c.in_ok-read_one.ensures.known world agrees
-      (c.loop-filter.invariant.known world (agrees_before world _ _ c.in_ok-read_one.ensures.grows agrees) are);
+  kept = λ are.
+      let here = λ (stand : Stand). AreRules stand.world c.read_one.new.self in
+      subst here c.loop-filter.invariant.stand (c.in_ok-read_one.ensures.kept
+      (subst (λ (stand : Stand). AreRules stand.world c.loop-filter.self) (sym c.loop-filter.invariant.stand)
+      (c.loop-filter.invariant.kept are)));
+  same = λ world agrees.
+      next_same (g.R.Reader.stand c.args.reader.now).world world c.args.filters.now c.loop-filter.filter-index c.filter-item.result c.loop-filter-test.true
+      c.filter-item.is
+      (c.loop-filter.invariant.same world (agrees_before world _ _ c.in_ok-read_one.ensures.grows agrees))
+      (subst (λ (stand : Stand). HaveSame stand.world world (c.filter-item.result ∷ [])) c.loop-filter.invariant.stand
+      (c.in_ok-read_one.ensures.same world agrees));
   keeps = keeps_trans _ _ _ c.loop-filter.invariant.keeps c.in_ok-read_one.ensures.has.keeps;
   has = read_next c.loop-filter.self c.read_one.new.self c.args.filters.now c.loop-filter.filter-index
       c.filter-item.result c.loop-filter-test.true c.filter-item.is c.loop-filter.invariant.has
@@ -57,8 +66,13 @@ returns-in_err-read_one-clause-grows g c = grows_trans _ _ _ c.loop-filter.invar
 pub returns-in_err-read_one-clause-stand : goal.returns-in_err-read_one-clause-stand
 returns-in_err-read_one-clause-stand g c = c.read_one.ensures.stand ∙ c.loop-filter.invariant.stand
 
-pub returns-clause-known : goal.returns-clause-known
-returns-clause-known g c = c.loop-filter.invariant.known
+pub returns-clause-kept : goal.returns-clause-kept
+returns-clause-kept g c = c.loop-filter.invariant.kept
+
+pub returns-clause-same : goal.returns-clause-same
+returns-clause-same g c = λ world agrees.
+    subst (HaveSame (g.R.Reader.stand c.args.reader.now).world world)
+    (take_all c.loop-filter.filter-index c.args.filters.now (omega arith)) (c.loop-filter.invariant.same world agrees)
 
 pub returns-clause-founded : goal.returns-clause-founded
 returns-clause-founded g c = c.loop-filter.invariant.founded

@@ -1,6 +1,7 @@
-use Rattle.std.proofs.Common.{sym, subst}
+use Rattle.std.proofs.Common.{◌∙◌, sym, subst}
+use Rattle.readers.specs.Setting.{Stand}
 use Rattle.readers.specs.Told.{Agrees, tree_found}
-use Rattle.conref_targets.proofs.RuleLaws.{keeps_same, rules_put, rules_there}
+use Rattle.conref_targets.proofs.RuleLaws.{keeps_same, one_same, rules_put, rules_there}
 use Rattle.readers.proofs.OnlyLaws.{document_is_of, only_told}
 use Rattle.conref_targets.proofs.rules.RuleLists.read_one.Goals as goal
 
@@ -8,11 +9,30 @@ pub returns-then-contains_key-clause-has : goal.returns-then-contains_key-clause
 returns-then-contains_key-clause-has g c =
     record { keeps = keeps_same c.args.self.now; has = sym c.if-contains_key.ensures }
 
-pub returns-clause-known : goal.returns-clause-known
-returns-clause-known g c = λ world agrees are.
+pub returns-clause-kept : goal.returns-clause-kept
+returns-clause-kept g c = λ are.
+    let here = (g.R.Reader.stand c.args.reader.now).world in
     rules_put c.args.self.now (record { lists = c.insert.new.self }) c.in_ok-clone.field-0 c.args.name.now
-    c.in_ok-rules.rules c.in_ok-clone.ensures.cases c.in_ok-insert.ensures.updates.0 world
-    (c.in_ok-rules.ensures world (subst (Agrees world) c.in_ok-doc.ensures.told agrees).0) are
+    c.in_ok-rules.rules c.in_ok-clone.ensures.cases c.in_ok-insert.ensures.updates.0 here
+    (c.in_ok-rules.ensures here (subst (Agrees here) c.in_ok-doc.ensures.told
+    (subst (λ (stand : Stand). Agrees stand.world (g.R.Reader.told c.doc.new.self)) c.in_ok-doc.ensures.stand
+    (g.met.R.Reader.agrees c.doc.new.self))).0) are
+
+pub returns-then-contains_key-clause-same : goal.returns-then-contains_key-clause-same
+returns-then-contains_key-clause-same g c = λ world agrees.
+    let here = (g.R.Reader.stand c.args.reader.now).world in
+    one_same here world c.args.name.now ((subst (Agrees world) c.in_ok-doc.ensures.told agrees).0
+    ∙ sym (subst (Agrees here) c.in_ok-doc.ensures.told
+    (subst (λ (stand : Stand). Agrees stand.world (g.R.Reader.told c.doc.new.self)) c.in_ok-doc.ensures.stand
+    (g.met.R.Reader.agrees c.doc.new.self))).0)
+
+pub returns-clause-same : goal.returns-clause-same
+returns-clause-same g c = λ world agrees.
+    let here = (g.R.Reader.stand c.args.reader.now).world in
+    one_same here world c.args.name.now ((subst (Agrees world) c.in_ok-doc.ensures.told agrees).0
+    ∙ sym (subst (Agrees here) c.in_ok-doc.ensures.told
+    (subst (λ (stand : Stand). Agrees stand.world (g.R.Reader.told c.doc.new.self)) c.in_ok-doc.ensures.stand
+    (g.met.R.Reader.agrees c.doc.new.self))).0)
 
 pub returns-clause-has : goal.returns-clause-has
 returns-clause-has g c =

@@ -4,7 +4,7 @@ use Rattle.std.proofs.Common.{sym, subst}
 use Rattle.std.proofs.lemmas.Result.{IfOk-weaker}
 use Rattle.facts.specs.Rows.{row_data}
 use Rattle.fact_maker.specs.Made.{IsMade, IsRightOf}
-use Rattle.fact_maker.specs.Ready.{CacheGoesOn, IsPartOfRow}
+use Rattle.fact_maker.specs.Ready.{FindingsGoOn, IsPartOfRow}
 use Rattle.fact_maker.specs.declared.ready.ReadyPlan.{ReadyPlan}
 use Rattle.fact_maker.proofs.MakeLaws.{html_made}
 use Rattle.fact_maker.proofs.PartReadyLaws.{planned_ready}
@@ -26,6 +26,6 @@ returns-clause-made c =
 pub invariant_of-self : goal.invariant_of-self
 invariant_of-self c =
     let ready = arc_value c.args.self.now.ready in record {
-      goes_on = subst (CacheGoesOn (arc_value ready.sources) (arc_value ready.row.fact))
-          (sym c.replace-cache.ensures.after) (c.new.ensures _ _);
+      go_on = subst (FindingsGoOn (arc_value ready.sources) (arc_value ready.row.fact))
+          (sym c.replace-found.ensures.after) (c.new.ensures _ _);
     }
