@@ -9,13 +9,13 @@ ghost use Rattle.script_text.specs.Script as script_spec;
 ghost use Rattle.desk_top.specs.Outside as outside_spec;
 
 use crate::callers::answer_beside;
-use crate::modes::{READ_LIMIT, written};
+use crate::modes::{READ_LIMIT, script_in, written};
 use crate::outside::read_all;
 use crate::told::transcript_of;
 use dita_doc::{List, NoMemory, Stop};
 use dita_outside::{Gate, Sink, Source};
 use run_spec::Status;
-use script_text::{Script, read_script};
+use script_text::Script;
 use std::alloc::Global;
 use std::sync::Wait;
 use std::thread::Threads;
@@ -42,7 +42,7 @@ pub fn run_batch<R: Threads + Wait + Sync, S: Source, K: Sink, G: Gate + Sync>(
         Err(Stop::Fault(_)) => return Status::ReadFault,
         Err(Stop::NoMemory) => return Status::NoMemory,
     };
-    match batch(rt, alloc, input.as_slice(), workers, gate) {
+    match batch(rt, alloc, input, workers, gate) {
         Ok((status, output)) => written(sink, output.as_slice(), status),
         Err(NoMemory) => Status::NoMemory,
     }
@@ -52,16 +52,16 @@ pub fn run_batch<R: Threads + Wait + Sync, S: Source, K: Sink, G: Gate + Sync>(
 fn batch<R: Threads + Wait + Sync, G: Gate + Sync>(
     rt: &R,
     alloc: Global,
-    input: &[u8],
+    input: List<u8>,
     workers: u32,
     gate: &G,
 ) -> Result<(Status, List<u8>), NoMemory>
     requires few { 1 ≤ workers }
     requires many { workers ≤ 16 }
     ensures { IfOk result (λ answer.
-        batch_spec.IsBatchOf (script_spec.script_of input.now) answer.0 answer.1) }
+        batch_spec.IsBatchOf (script_spec.script_of input) answer.0 answer.1) }
 {
-    match read_script(alloc, input) {
+    match script_in(alloc, input) {
         Ok(script) => Ok((Status::Done, transcript(rt, alloc, script, workers, gate)?)),
         Err(Stop::Fault(fault)) => Ok((Status::Script, fault.to_line(alloc)?)),
         Err(Stop::NoMemory) => Err(NoMemory),
